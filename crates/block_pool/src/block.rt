@@ -1,0 +1,263 @@
+ghost use Rattle.std.specs.Prelude.{◌≡◌, ℕ, ◌+◌, ◌<◌, ◌≤◌, ◌↔◌, [], ◌∷◌, ◌++◌, length, Some, None, IsTrue, IsSomeAnd, IfOk, IfSome, slice_get};
+ghost use Rattle.layout.specs.Object.{raw_size};
+ghost use Rattle.layout.specs.Header.{size_of};
+ghost use Rattle.layout.specs.ObjectRef.{raw_of};
+ghost use Rattle.block_pool.specs.BlockValue.{BlockValue, used_of, offset_of, without_last, new_object, empty_block};
+
+use layout::ObjectRef;
+use std::alloc::{AllocError, Allocator, Global};
+use std::marker::Model;
+
+/// Ordinals are counted in a header word by this.
+const ORDINAL_UNIT: u64 = 1 << 48;
+
+use crate::words::{read_object, write_new, write_object};
+
+/// A block of words that holds objects one after the other, from its first word on.
+#[derive(Drop)]
+pub struct Block<A: Allocator = Global> {
+    words: Vec<u64, A>,
+    offsets: Vec<u16, A>,
+    len: usize,
+    used: usize,
+    front: usize,
+    number: u32,
+    generation: u8,
+    step: u8,
+    sent: Option<(u32, u64)>,
+}
+
+impl<A: Allocator> Model for Block<A> {
+    ghost use Rattle.std.specs.Prelude.{length, map, take};
+    ghost use Rattle.block_pool.specs.BlockValue.{BlockValue, block_code};
+
+    ghost Value = { BlockValue };
+
+    ghost coded = { block_code };
+
+    ghost use Rattle.block_pool.specs.Words.{raw_at, IsSound};
+
+    ghost view = { λ b. record {
+      number = b.number;
+      generation = b.generation;
+      step = b.step;
+      words = length b.words.items;
+      objects = map (raw_at b.words.items) (take b.len b.offsets.items);
+      front = b.front;
+      sent = b.sent;
+    } };
+
+    ghost invariant = { λ b. IsSound b.words.items b.offsets.items b.len b.used b.front b.number };
+}
+
+impl<A: Allocator + Clone> Block<A> {
+    /// An empty block of so many words, with room for all its objects.
+    /// An error says that memory ran out.
+    pub fn new(alloc: A, words: usize) -> Result<Self, AllocError>
+        requires words_from { 16 ≤ words }
+        requires words_to { words ≤ 512 }
+        ensures { IfOk result (λ block. block ≡ empty_block words) }
+    {
+        let offsets = vec![in alloc.clone()?; 0; words]?;
+        let words = vec![in alloc; 0; words]?;
+        Ok(Block {
+            words,
+            offsets,
+            len: 0,
+            used: 0,
+            front: 0,
+            number: 0,
+            generation: 0,
+            step: 0,
+            sent: None,
+        })
+    }
+}
+
+impl<A: Allocator> Block<A> {
+    /// Gives the block a number, and the generation and the step that it belongs to.
+    pub fn label(&mut self, number: u32, generation: u8, step: u8)
+        requires { number < 65535 }
+        ensures { self.new ≡ record self.old { number = number; generation = generation; step = step } }
+    {
+        self.number = number;
+        self.generation = generation;
+        self.step = step;
+    }
+
+    /// Takes out all objects.
+    pub fn clear(&mut self)
+        ensures { self.new ≡ record self.old { objects = []; front = 0; sent = None } }
+    {
+        self.len = 0;
+        self.used = 0;
+        self.front = 0;
+        self.sent = None;
+    }
+
+    /// Whether an object of `size` words fits at the end.
+    pub fn fits(&self, size: usize) -> bool
+        ensures { IsTrue result ↔ (used_of self.now + size ≤ self.now.words) }
+    {
+        size <= self.words.len() - self.used
+    }
+
+    /// Puts a copy of an object at the end, and returns its offset in words.
+    pub fn push_object(&mut self, object: ObjectRef<'_>) -> usize
+        requires { used_of self.old + raw_size (raw_of object) ≤ self.old.words }
+        ensures offset { result ≡ used_of self.old }
+        ensures in_block { result < 512 }
+        ensures pushed { self.new ≡ record self.old { objects = self.old.objects ++ raw_of object.entry ∷ [] } }
+    {
+        let offset = self.used;
+        let size = object.size() as usize;
+        write_object(&mut self.words, offset, self.len as u16, object);
+        self.offsets[self.len] = offset as u16;
+        self.len += 1;
+        self.used += size;
+        offset
+    }
+
+    /// Puts an object with `p` nil pointers and `q` zero words at the end, and returns its offset in words.
+    pub fn push_new(&mut self, p: u32, q: u32) -> usize
+        requires { used_of self.old + size_of p q ≤ self.old.words }
+        ensures offset { result ≡ used_of self.old }
+        ensures in_block { result < 512 }
+        ensures pushed { self.new ≡ record self.old { objects = self.old.objects ++ new_object p q ∷ [] } }
+    {
+        let offset = self.used;
+        write_new(&mut self.words, offset, self.len as u16, p, q);
+        self.offsets[self.len] = offset as u16;
+        self.len += 1;
+        self.used += 1 + p as usize + q as usize;
+        offset
+    }
+
+    /// Takes out the last object, which is not scanned.
+    pub fn take_back_last(&mut self)
+        requires { self.old.front < length self.old.objects }
+        ensures { self.new ≡ record self.old { objects = without_last self.old.objects } }
+    {
+        self.len -= 1;
+        self.used = self.offsets[self.len] as usize;
+    }
+
+    /// The object with the ordinal `k`.
+    pub fn object(&self, k: usize) -> ObjectRef<'_>
+        requires { k < length self.now.objects }
+        ensures object { slice_get self.now.objects k ≡ Some (raw_of result) }
+        ensures ordinal { result.header.ordinal ≡ k }
+    {
+        read_object(&self.words, self.offsets[k] as usize)
+    }
+
+    /// The object that begins at an offset in words. `None` says that none begins there.
+    pub fn object_at(&self, offset: usize) -> Option<ObjectRef<'_>>
+        ensures some { (k : ℕ) → k < length self.now.objects → offset_of self.now.objects k ≡ offset →
+            IsSomeAnd result (λ object.
+            (object.header.ordinal ≡ k) ×
+            (slice_get self.now.objects k ≡ Some (raw_of object))) }
+        ensures begins { IfSome result (λ object.
+            (object.header.ordinal < length self.now.objects) ×
+            (offset_of self.now.objects object.header.ordinal ≡ offset)) }
+    {
+        if offset >= self.words.len() {
+            return None;
+        }
+        let ordinal = (self.words[offset] / ORDINAL_UNIT) as usize;
+        if ordinal < self.len && self.offsets[ordinal] as usize == offset {
+            Some(self.object(ordinal))
+        } else {
+            None
+        }
+    }
+
+    /// The offset in words of the object with the ordinal `k`.
+    pub fn offset(&self, k: usize) -> usize
+        requires { k < length self.now.objects }
+        ensures value { result ≡ offset_of self.now.objects k }
+        ensures in_block { result < 512 }
+    {
+        self.offsets[k] as usize
+    }
+
+    pub fn number(&self) -> u32
+        ensures value { result ≡ self.now.number }
+        ensures in_range { result < 65535 }
+    {
+        self.number
+    }
+
+    pub fn generation(&self) -> u8
+        ensures { result ≡ self.now.generation }
+    {
+        self.generation
+    }
+
+    pub fn step(&self) -> u8
+        ensures { result ≡ self.now.step }
+    {
+        self.step
+    }
+
+    /// How many words the block has.
+    pub fn words(&self) -> usize
+        ensures value { result ≡ self.now.words }
+        ensures from { 16 ≤ result }
+        ensures to { result ≤ 512 }
+    {
+        self.words.len()
+    }
+
+    /// How many objects the block holds.
+    pub fn len(&self) -> usize
+        ensures value { result ≡ length self.now.objects }
+        ensures in_words { result ≤ self.now.words }
+    {
+        self.len
+    }
+
+    pub fn is_empty(&self) -> bool
+        ensures { IsTrue result ↔ (self.now.objects ≡ []) }
+    {
+        self.len == 0
+    }
+
+    /// How many words the objects take.
+    pub fn used(&self) -> usize
+        ensures value { result ≡ used_of self.now }
+        ensures in_words { result ≤ self.now.words }
+    {
+        self.used
+    }
+
+    /// How many objects, from the first on, are scanned.
+    pub fn front(&self) -> usize
+        ensures value { result ≡ self.now.front }
+        ensures in_objects { result ≤ length self.now.objects }
+    {
+        self.front
+    }
+
+    /// Who exported the block, and the position among its exports.
+    pub fn sent(&self) -> Option<(u32, u64)>
+        ensures { result ≡ self.now.sent }
+    {
+        self.sent
+    }
+
+    /// Counts the first object that is not scanned as scanned.
+    pub fn advance_front(&mut self)
+        requires { self.old.front < length self.old.objects }
+        ensures { self.new ≡ record self.old { front = self.old.front + 1 } }
+    {
+        self.front += 1;
+    }
+
+    /// Notes who exported the block, and the position among its exports.
+    pub fn mark_exported(&mut self, exporter: u32, position: u64)
+        ensures { self.new ≡ record self.old { sent = Some (exporter, position) } }
+    {
+        self.sent = Some((exporter, position));
+    }
+}

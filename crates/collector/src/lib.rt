@@ -1,0 +1,100 @@
+//! Collections.
+#![tactic(auto)]
+
+ghost use Rattle.std.specs.Prelude.{◌≡◌, ◌↔◌, ◌≤◌, [], IfOk, OnErr, Err};
+ghost use Rattle.collector.specs.Collects.{CollectsAlone};
+
+mod blocks;
+mod copier;
+
+use crate::blocks::CopyError;
+use crate::copier::copy_slots;
+use heap::{Heap, OpenError, Report, Settled, WorkerReport};
+use std::alloc::{AllocError, AllocFailed, Allocator};
+
+/// Why a collection was not carried out. The heap is as before.
+#[derive(Clone, Copy, Debug, PartialEq, Eq)]
+pub enum CollectError {
+    NoGeneration,
+    /// A live object needs a new block, and none is free.
+    HeapFull,
+    NoMemory,
+}
+
+impl From<OpenError> for CollectError {
+    ghost use Rattle.collector.specs.Errors.{error_of_open};
+    ghost use Rattle.std.specs.Prelude.{◌≡◌};
+
+    ghost from_gives = { λ e r. r ≡ error_of_open e };
+
+    fn from(error: OpenError) -> CollectError {
+        match error {
+            OpenError::NoGeneration => CollectError::NoGeneration,
+            OpenError::NoMemory => CollectError::NoMemory,
+        }
+    }
+}
+
+impl From<CopyError> for CollectError {
+    ghost use Rattle.collector.specs.Errors.{error_of_copy};
+    ghost use Rattle.std.specs.Prelude.{◌≡◌};
+
+    ghost from_gives = { λ e r. r ≡ error_of_copy e };
+
+    fn from(error: CopyError) -> CollectError {
+        match error {
+            CopyError::HeapFull => CollectError::HeapFull,
+            CopyError::NoMemory => CollectError::NoMemory,
+        }
+    }
+}
+
+impl From<AllocError> for CollectError {
+    ghost use Rattle.collector.specs.declared.CollectError.TheVariants.{NoMemory};
+    ghost use Rattle.std.specs.Prelude.{◌≡◌};
+
+    ghost from_gives = { λ _ r. r ≡ NoMemory };
+
+    fn from(_error: AllocError) -> CollectError {
+        CollectError::NoMemory
+    }
+}
+
+impl<T: Drop> From<AllocFailed<T>> for CollectError {
+    ghost use Rattle.collector.specs.declared.CollectError.TheVariants.{NoMemory};
+    ghost use Rattle.std.specs.Prelude.{◌≡◌};
+
+    ghost from_gives = { λ _ r. r ≡ NoMemory };
+
+    fn from(_error: AllocFailed<T>) -> CollectError {
+        CollectError::NoMemory
+    }
+}
+
+/// Collects the generations 0 to `g` with one worker, and starts no thread.
+pub fn collect_one<A: Allocator + Clone>(
+    alloc: A,
+    heap: &mut Heap<A>,
+    g: u64,
+) -> Result<Report<A>, CollectError>
+    ensures ok { IfOk result (λ report. CollectsAlone heap.old g report.kept report.freed report.workers.items heap.new) }
+    ensures deliveries { IfOk result (λ report. report.deliveries.items ≡ []) }
+    ensures no_generation { (result ≡ Err CollectError.NoGeneration) ↔ (heap.old.config.shape.generations ≤ g) }
+    ensures err { OnErr result (heap.new ≡ heap.old) }
+{
+    if g >= heap.config().generations() as u64 {
+        return Err(CollectError::NoGeneration);
+    }
+    let collection = heap.open_collection(alloc.clone()?, g)?;
+    let copier = copy_slots(alloc.clone()?, heap, &collection)?;
+    let mut workers = Vec::with_capacity(alloc.clone()?, 1)?;
+    workers.push(WorkerReport::new(copier.won, copier.scanned))?;
+    let settled = Settled {
+        collection,
+        places: copier.places,
+        blocks: copier.blocks,
+        workers,
+        deliveries: Vec::new(alloc.clone()?),
+    };
+    Ok(heap.commit(alloc, settled)?)
+}

@@ -1,0 +1,64 @@
+//! Carries out a trace of heap commands: the trace is standard input, what it prints standard output, and a fault one
+//! line on standard error.
+#![tactic(auto)]
+
+use heap_text::{Counted, write_all};
+use std::process::ExitCode;
+use std::{env, io};
+use trace_driver::{CountedReader, main_with};
+
+/// The status where memory is refused.
+const NO_MEMORY: u8 = 1;
+
+/// The status of a mistake in the words of the command line.
+const BAD_WORDS: u8 = 3;
+
+/// The words of the command line, or the status where they can't be had, after a line on standard error.
+fn words_of(rt: &HostRuntime) -> Result<Vec<String>, u8> {
+    let mut errors = Counted {
+        inner: rt.stderr(),
+        failed_writes: 0,
+    };
+    match env::args(rt) {
+        Ok(args) => {
+            if let Ok(words) = args.collect::<Vec<String>>(rt.alloc()) {
+                return Ok(words);
+            }
+        }
+        Err(error) => {
+            if error.kind() != io::ErrorKind::OutOfMemory {
+                let _ = write_all(&mut errors, b"gctrace: the words are no text\n");
+                return Err(BAD_WORDS);
+            }
+        }
+    }
+    let _ = write_all(&mut errors, b"gctrace: no memory\n");
+    Err(NO_MEMORY)
+}
+
+fn main(rt: HostRuntime) -> ExitCode {
+    let words = match words_of(&rt) {
+        Ok(words) => words,
+        Err(status) => return ExitCode::from(status),
+    };
+    let mut reader = CountedReader {
+        inner: rt.stdin(),
+        failed_reads: 0,
+    };
+    let mut writer = Counted {
+        inner: rt.stdout(),
+        failed_writes: 0,
+    };
+    let mut errors = Counted {
+        inner: rt.stderr(),
+        failed_writes: 0,
+    };
+    let status = main_with(
+        rt.alloc(),
+        words.as_slice(),
+        &mut reader,
+        &mut writer,
+        &mut errors,
+    );
+    ExitCode::from(status)
+}

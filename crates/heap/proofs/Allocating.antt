@@ -1,0 +1,23 @@
+-- An allocation in the blocks is one of the heap.
+use Rattle.std.proofs.Common.{◌≡◌, ℕ, List, Option, None, refl, ap, ◌∙◌}
+use Rattle.std.specs.Prelude.{slice_index_or}
+use Rattle.std.specs.Option.{option_map}
+use Rattle.std.specs.FinMap.{insert}
+use Rattle.layout.specs.declared.place.Place.{Place}
+use Rattle.layout.specs.Place.{place_word}
+use Rattle.heap.specs.HeapView.{heap_of}
+use Rattle.heap.specs.Roots.{roots_map}
+use Rattle.heap.specs.Space.{SpaceValue, SpaceAllocates}
+use Rattle.heap.specs.Commands.{Allocates}
+use Rattle.heap.proofs.RootMap.{get-roots}
+
+pub allocates_is : (old new : SpaceValue) (slots slots' : List (Option Place)) (mutator p q key name : ℕ) → mutator ≡ 0 → SpaceAllocates old p q name new → slice_index_or slots key None ≡ None → roots_map slots' ≡ insert (roots_map slots) key name → Allocates (heap_of old slots) mutator p q key (heap_of new slots')
+allocates_is old new slots slots' mutator p q key name first more vacant roots =
+    rw (first, more.change) record {
+      name = name;
+      room = more.room;
+      new_name = more.new_name;
+      new_root = get-roots slots key ∙ ap (option_map place_word) vacant;
+      has_room = more.has_room;
+      change = rw roots refl;
+    }

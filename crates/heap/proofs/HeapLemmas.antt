@@ -1,0 +1,147 @@
+-- A heap as its blocks and roots show it.
+use Rattle.std.proofs.Common.{◌≡◌, ◌≢◌, ℕ, zero, suc, ◌-◌, ◌*◌, Bool, true, false, cond, List, [], ◌∷◌, ◌++◌, length, map, filter, replicate, Option, Some, None, sum_by, refl, sym, ap, subst, ◌∙◌, arith, ⊎_elim}
+use Rattle.std.proofs.lemmas.Bool.{cases_eq}
+use Rattle.std.proofs.lemmas.List.{append-nil}
+use Rattle.std.specs.Prelude.{nat_le, IsSome, is_some, slice_get, slice_index_or, option_and_then}
+use Rattle.std.specs.List.{list_any}
+use Rattle.std.specs.Option.{option_map, option_map_or}
+use Rattle.std.specs.Ordering.{nat_cmp, eq_by_cmp}
+use Rattle.std.specs.Cmp.{unsigned_tied}
+use Rattle.std.specs.FinMap.{FinMap, get, insert, empty, entries, keys, contains_key-keys}
+use Rattle.model.specs.Config.{Config}
+use Rattle.model.specs.Graph.{Graph, Object, object_at, size_of, is_large, IsClosed}
+use Rattle.model.specs.Live.{IsYoung}
+use Rattle.model.specs.Reached.{has}
+use Rattle.model.specs.Census.{Census, StepCount, census_of, points_younger, step_count}
+use Rattle.model.specs.Destination.{all_steps, numbers_from}
+use Rattle.model.specs.Room.{full_room}
+use Rattle.model.specs.Slots.{slots_from}
+use Rattle.model.specs.OldSlots.{is_young_name, old_slots}
+use Rattle.model.proofs.Has.{has_head, has_tail}
+use Rattle.model.proofs.NatMap.{get-insert_same, get-insert_other}
+use Rattle.layout.specs.declared.place.Place.{Place}
+use Rattle.layout.specs.Place.{place_word}
+use Rattle.heap.specs.ConfigRange.{IsInRange}
+use Rattle.heap.specs.HeapValue.{HeapValue, empty_heap, nursery_count}
+use Rattle.heap.specs.HeapView.{heap_of, LeadsToObjects}
+use Rattle.heap.specs.Plain.{IsPlain, ArePlain}
+use Rattle.heap.specs.Roots.{roots_map}
+use Rattle.heap.specs.Space.{SpaceValue, empty_space}
+use Rattle.heap.specs.CollectionValue.{young_names, slots_of, root_slot, field_slot_of}
+use Rattle.heap.proofs.CensusLemmas.{all_small, none_large, none_remembered}
+use Rattle.heap.proofs.RootMap.{get-roots}
+
+empty_roots : roots_map [] ≡ empty
+unfolding slots_from
+empty_roots = refl
+
+-- an empty space with no root is an empty heap
+pub empty_view : (config : Config) → IsInRange config → heap_of (empty_space config) [] ≡ empty_heap config
+empty_view config in_range =
+    let count : nursery_count config ≡ config.nursery_blocks = ap (λ m. m * config.nursery_blocks) in_range.one_mutator ∙ omega arith in
+    let rooms : full_room config.nursery_blocks ∷ [] ≡ replicate config.mutators (full_room config.nursery_blocks) = ap (λ m. replicate m (full_room config.nursery_blocks)) (sym in_range.one_mutator) in
+    ap (λ r. let h : HeapValue = record { config = config; graph = record { objects = empty; roots = r }; rooms = full_room config.nursery_blocks ∷ []; free = numbers_from config.nursery_blocks (config.blocks - config.nursery_blocks); large_blocks = empty; remembered = replicate config.shape.generations [] } in h) empty_roots
+    ∙ ap (λ r. let h : HeapValue = record { config = config; graph = record { objects = empty; roots = empty }; rooms = r; free = numbers_from config.nursery_blocks (config.blocks - config.nursery_blocks); large_blocks = empty; remembered = replicate config.shape.generations [] } in h) rooms
+    ∙ ap (λ n. let h : HeapValue = record { config = config; graph = record { objects = empty; roots = empty }; rooms = replicate config.mutators (full_room config.nursery_blocks); free = numbers_from n (config.blocks - n); large_blocks = empty; remembered = replicate config.shape.generations [] } in h) (sym count)
+
+-- the census of plain objects has one step
+pub census_is : (config : Config) (object : ℕ → Option Object) (objects : List Object) (roots count words : ℕ) → config.shape.generations ≡ 1 → ArePlain config.block_words objects → count ≡ length objects → words ≡ sum_by size_of objects → census_of config object objects roots ≡ record { steps = record { generation = 0; step = 0; objects = count; words = words } ∷ []; large_objects = 0; large_words = 0; roots = roots; remembered = 0 }
+census_is config object objects roots count words one plain is_count is_words =
+    let steps : all_steps config.shape ≡ (0, 0) ∷ [] = rw one refl in
+    let small = all_small config.block_words objects plain in
+    let large = none_large config.block_words objects plain in
+    let young = none_remembered object config.block_words objects plain in
+    let step : step_count config.block_words objects (0, 0) ≡ record { generation = 0; step = 0; objects = count; words = words } =
+    ap (λ os. let s : StepCount = record { generation = 0; step = 0; objects = length os; words = sum_by size_of os } in s) small
+    ∙ ap (λ n. let s : StepCount = record { generation = 0; step = 0; objects = n; words = sum_by size_of objects } in s) (sym is_count)
+    ∙ ap (λ n. let s : StepCount = record { generation = 0; step = 0; objects = count; words = n } in s) (sym is_words) in
+    ap (λ ss. let c : Census = record { steps = map (step_count config.block_words objects) ss; large_objects = length (filter (is_large config.block_words) objects); large_words = sum_by size_of (filter (is_large config.block_words) objects); roots = roots; remembered = sum_by (λ x. cond (points_younger object x) 1 0) objects } in c) steps
+    ∙ ap (λ s. let c : Census = record { steps = s ∷ []; large_objects = length (filter (is_large config.block_words) objects); large_words = sum_by size_of (filter (is_large config.block_words) objects); roots = roots; remembered = sum_by (λ x. cond (points_younger object x) 1 0) objects } in c) step
+    ∙ ap (λ os. let c : Census = record { steps = record { generation = 0; step = 0; objects = count; words = words } ∷ []; large_objects = length os; large_words = sum_by size_of os; roots = roots; remembered = sum_by (λ x. cond (points_younger object x) 1 0) objects } in c) large
+    ∙ ap (λ n. let c : Census = record { steps = record { generation = 0; step = 0; objects = count; words = words } ∷ []; large_objects = 0; large_words = 0; roots = roots; remembered = n } in c) young
+
+-- a key of the map has a value
+any-tied : (q : ℕ) (xs : List ℕ) → list_any (eq_by_cmp nat_cmp q) xs ≡ has xs q
+any-tied q [] = refl
+any-tied q (x ∷ xs) = rw (unsigned_tied q x, any-tied q xs) refl
+
+pub has_key : {X : Type 0} (m : FinMap nat_cmp X) (q : ℕ) → has (keys m) q ≡ true → IsSome (get m q)
+has_key m q h = contains_key-keys m q ∙ any-tied q (keys m) ∙ h
+
+pub key_has : {X : Type 0} (m : FinMap nat_cmp X) (q : ℕ) → IsSome (get m q) → has (keys m) q ≡ true
+key_has m q h = sym (any-tied q (keys m)) ∙ sym (contains_key-keys m q) ∙ h
+
+filter_has : (p : ℕ → Bool) (xs : List ℕ) → ((q : ℕ) → has xs q ≡ true → p q ≡ true) → filter p xs ≡ xs
+filter_has p [] each = refl
+filter_has p (x ∷ xs) each = rw (each x (has_head x xs)) (ap (λ ys. x ∷ ys) (filter_has p xs (λ q h. each q (has_tail x xs q h))))
+
+-- where every object is of generation 0, all are collected
+pub young_all : (graph : Graph) → ((name : ℕ) (o : Object) → object_at graph name ≡ Some o → o.generation ≡ 0) → young_names graph 0 ≡ keys graph.objects
+young_all graph first = filter_has (is_young_name graph 0) (keys graph.objects) (λ q h. go q (object_at graph q) refl (has_key graph.objects q h))
+  where
+    go : (q : ℕ) (o : Option Object) → object_at graph q ≡ o → IsSome (object_at graph q) → option_map_or (λ x. nat_le x.generation 0) (object_at graph q) false ≡ true
+    go q None is some = let some' : IsSome {T = Object} None = subst (λ x. IsSome x) is some in absurd (cc)
+    go q (Some x) is some = ap (λ y. option_map_or (λ x. nat_le x.generation 0) y false) is ∙ ap (λ n. nat_le n 0) (first q x is)
+
+-- a young name is there
+pub young_there : (graph : Graph) (g name : ℕ) → IsYoung graph g name → IsSome (object_at graph name)
+young_there graph g name young = ap is_some young.there
+
+-- with one generation there is no older object
+pub slots_are : (heap : HeapValue) → heap.config.shape.generations ≡ 1 → slots_of heap 0 ≡ map (λ e. root_slot e.0 e.1) (entries heap.graph.roots)
+slots_are heap one =
+    let none : old_slots heap.graph heap.config.shape.generations 0 ≡ [] = rw one refl in
+    ap (λ os. map (λ e. root_slot e.0 e.1) (entries heap.graph.roots) ++ map field_slot_of os) none ∙ append-nil (map (λ e. root_slot e.0 e.1) (entries heap.graph.roots))
+
+nil_field : (n i : ℕ) (target : ℕ) → slice_get (replicate n (let none : Option ℕ = None in none)) i ≡ Some (Some target) → ⊥
+nil_field zero i target e = cc
+nil_field (suc n) zero target e = cc
+nil_field (suc n) (suc i) target e = nil_field n i target e
+
+pub closed_is : (space : SpaceValue) (slots : List (Option Place)) → LeadsToObjects space slots → ((name : ℕ) (o : Object) → get space.objects name ≡ Some o → IsPlain space.config.block_words o) → IsClosed (heap_of space slots).graph
+closed_is space slots leads plain = record {
+  fields = λ name i target e. absurd (no_field name i target (get space.objects name) refl e);
+  roots = λ root target e. rooted root target (slice_index_or slots root None) refl (sym (get-roots slots root) ∙ e);
+}
+  where
+    no_field : (name i target : ℕ) (o : Option Object) → get space.objects name ≡ o → option_and_then (λ x. slice_get x.pointers i) (get space.objects name) ≡ Some (Some target) → ⊥
+    no_field name i target None is e = let e' : ◌≡◌ {A = Option (Option ℕ)} None (Some (Some target)) = rw is at e in cc
+    no_field name i target (Some x) is e =
+        let e' : slice_get x.pointers i ≡ Some (Some target) = rw is at e in
+        nil_field (length x.pointers) i target (ap (λ ps. slice_get ps i) (sym (plain name x is).nil) ∙ e')
+
+    object_of_some : (o : Option Object) → IsSome o → (x : Object) × (o ≡ Some x)
+    object_of_some None h = absurd (cc)
+    object_of_some (Some x) h = (x, refl)
+
+    rooted : (root target : ℕ) (p : Option Place) → slice_index_or slots root None ≡ p → option_map place_word (slice_index_or slots root None) ≡ Some target → (o : Object) × (get space.objects target ≡ Some o)
+    rooted root target None is e = let e' : ◌≡◌ {A = Option ℕ} None (Some target) = rw is at e in absurd (cc)
+    rooted root target (Some place) is e =
+        let e' : Some (place_word place) ≡ Some target = rw is at e in
+        let same : place_word place ≡ target = cc in
+        subst (λ t. (o : Object) × (get space.objects t ≡ Some o)) same (object_of_some (get space.objects (place_word place)) (leads root place is))
+
+-- a new object and a root to it
+pub leads_more : (space space' : SpaceValue) (slots slots' : List (Option Place)) (key name : ℕ) (object : Object) (place : Place) → LeadsToObjects space slots → space'.objects ≡ insert space.objects name object → place_word place ≡ name → slice_index_or slots' key None ≡ Some place → ((other : ℕ) → other ≢ key → slice_index_or slots' other None ≡ slice_index_or slots other None) → LeadsToObjects space' slots'
+leads_more space space' slots slots' key name object place leads objects word here others = λ root p is.
+    ⊎_elim
+    (λ e.
+    let same : Some place ≡ Some p = sym here ∙ ap (λ k. slice_index_or slots' k None) (sym e) ∙ is in
+    let same' : place ≡ p = cc in
+    rw (objects, ← same', word) (ap is_some (get-insert_same space.objects name object)))
+    (λ ne. rw objects (kept (place_word p) (leads root p (sym (others root ne) ∙ is))))
+    (cases_eq root key)
+  where
+    kept : (q : ℕ) → IsSome (get space.objects q) → IsSome (get (insert space.objects name object) q)
+    kept q some = ⊎_elim
+        (λ e. ap (λ n. is_some (get (insert space.objects name object) n)) e ∙ ap is_some (get-insert_same space.objects name object))
+        (λ ne. ap is_some (get-insert_other space.objects name object q ne) ∙ some)
+        (cases_eq q name)
+
+-- where every object is of generation 0, each one is young
+pub first_young : (objects : FinMap nat_cmp Object) (roots : FinMap nat_cmp ℕ) (name : ℕ) (g : ℕ) (block_words : ℕ) → ((q : ℕ) (o : Object) → get objects q ≡ Some o → IsPlain block_words o) → IsSome (get objects name) → IsYoung (record { objects = objects; roots = roots }) g name
+first_young objects roots name g block_words plain some = go (get objects name) refl some
+  where
+    go : (o : Option Object) → get objects name ≡ o → IsSome o → IsYoung (record { objects = objects; roots = roots }) g name
+    go None is h = absurd (cc)
+    go (Some o) is h = record { object = o; there = is; young = omega (arith, (plain name o is).generation) }

@@ -1,0 +1,36 @@
+-- A collection that is opened on today's heap.
+use Rattle.std.proofs.Common.{◌≡◌, ℕ, ◌<◌, List, map, length, Option, Some, sym, ap, ◌∙◌, arith}
+use Rattle.std.specs.Prelude.{IsSome, slice_index}
+use Rattle.std.specs.FinMap.{get, keys, entries}
+use Rattle.model.specs.Graph.{Object}
+use Rattle.layout.specs.declared.place.Place.{Place}
+use Rattle.layout.specs.Place.{small_word}
+use Rattle.heap.specs.ConfigRange.{IsInRange}
+use Rattle.heap.specs.HeapView.{heap_of}
+use Rattle.heap.specs.Plain.{IsPlain, IsPlainHeap}
+use Rattle.heap.specs.Roots.{roots_map}
+use Rattle.heap.specs.Space.{SpaceValue}
+use Rattle.heap.specs.CollectionValue.{CollectionValue, IsOpened, young_names, rank_below, root_slot, SlotValue}
+use Rattle.heap.proofs.HeapLemmas.{young_all, young_there, slots_are}
+
+pub opened_is : (space : SpaceValue) (slots : List (Option Place)) (collection : CollectionValue) (made : List SlotValue) → IsInRange space.config
+    → ((name : ℕ) (o : Object) → get space.objects name ≡ Some o → IsPlain space.config.block_words o)
+    → collection.generation ≡ 0 → collection.slots ≡ made → made ≡ map (λ e. root_slot e.0 e.1) (entries (roots_map slots)) → collection.free ≡ space.free
+    → ((block : ℕ) → block < length collection.bases → slice_index collection.bases block ≡ rank_below (small_word block 0) (keys space.objects))
+    → ((block offset : ℕ) → offset < 65536 → IsSome (get space.objects (small_word block offset)) → block < length collection.bases)
+    → collection.cells ≡ length (keys space.objects)
+    → IsOpened (heap_of space slots) 0 collection
+opened_is space slots collection made in_range plain generation slots_is made_is free bases covers cells =
+    let names : young_names (heap_of space slots).graph 0 ≡ keys space.objects = young_all (heap_of space slots).graph (λ name o is. (plain name o is).generation) in
+    record {
+      generation = generation;
+      in_range = omega (arith, in_range.one_generation);
+      slots = slots_is ∙ made_is ∙ sym (slots_are (heap_of space slots) in_range.one_generation);
+      free = free;
+      bases = λ block lt. bases block lt ∙ sym (ap (rank_below (small_word block 0)) names);
+      covers = λ block offset lt young. covers block offset lt (young_there _ _ _ young);
+      cells = cells ∙ sym (ap length names);
+    }
+
+pub plain_heap : (space : SpaceValue) (slots : List (Option Place)) → IsInRange space.config → ((name : ℕ) (o : Object) → get space.objects name ≡ Some o → IsPlain space.config.block_words o) → IsPlainHeap (heap_of space slots)
+plain_heap space slots in_range plain = record { one_generation = in_range.one_generation; objects = plain }

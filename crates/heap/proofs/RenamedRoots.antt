@@ -1,0 +1,57 @@
+-- Each root with its new place.
+use Rattle.std.proofs.Common.{◌≡◌, ℕ, zero, suc, ◌<◌, length, get_or, arith, List, [], ◌∷◌, ◌++◌, map, Option, Some, None, refl, sym, ap, subst, ◌∙◌}
+use Rattle.std.proofs.lemmas.List.{append_assoc, map-append}
+use Rattle.std.specs.Prelude.{slice_index, slice_index_or, IsSome, nat_eq}
+use Rattle.std.specs.List.{IsDistinct}
+use Rattle.heap.proofs.Names.{distinct_from_rise, keys-rise, entries-rise}
+use Rattle.std.specs.FinMap.{entries}
+use Rattle.slab.specs.Slab.{entries_from}
+use Rattle.layout.specs.declared.place.Place.{Place}
+use Rattle.layout.specs.Place.{place_word}
+use Rattle.heap.specs.Roots.{roots_map}
+use Rattle.heap.specs.RootView.{root_pair}
+use Rattle.heap.specs.declared.commit.RenamedRoot.{RenamedRoot}
+use Rattle.heap.proofs.RootMap.{entries-roots, pair_words}
+
+-- f takes the name with a number to the word of the new place of that number
+abbrev pub IsNewWord : List ℕ → List (Option Place) → (ℕ → ℕ) → Type 0
+IsNewWord names places f = (number : ℕ) (place : Place) → slice_index_or places number None ≡ Some place → f (slice_index names number) ≡ place_word place
+
+-- the pairs with new words
+abbrev pub pairs_by : (ℕ → ℕ) → List (ℕ × Place) → List (ℕ × ℕ)
+pairs_by f pairs = map (λ e. (e.0, f (place_word e.1))) pairs
+
+words-pairs : (f : ℕ → ℕ) (pairs : List (ℕ × Place)) → map (λ e. (e.0, f e.1)) (pair_words pairs) ≡ pairs_by f pairs
+words-pairs f [] = refl
+words-pairs f (p ∷ pairs) = ap (λ ss. (p.0, f (place_word p.1)) ∷ ss) (words-pairs f pairs)
+
+pub pairs_are_all : (f : ℕ → ℕ) (slots : List (Option Place)) → pairs_by f (entries_from 0 slots) ≡ map (λ e. (e.0, f e.1)) (entries (roots_map slots))
+pairs_are_all f slots = sym (ap (map (λ e. (e.0, f e.1))) (entries-roots slots) ∙ words-pairs f (entries_from 0 slots))
+
+pub pairs_more : (f : ℕ → ℕ) (items : List RenamedRoot) (number : ℕ) (place : Place) (root : RenamedRoot) (rest : List (ℕ × Place)) → root_pair root ≡ (number, f (place_word place)) → map root_pair (items ++ root ∷ []) ++ pairs_by f rest ≡ map root_pair items ++ pairs_by f ((number, place) ∷ rest)
+pairs_more f items number place root rest same =
+    rw (map-append root_pair items (root ∷ []), append_assoc (map root_pair items) (root_pair root ∷ []) (pairs_by f rest), same) refl
+
+-- an entry in range is the same for each default
+pub same_entry : {X : Type 0} (xs : List X) (i : ℕ) (d e : X) → i < length xs → get_or xs i d ≡ get_or xs i e
+same_entry [] i d e lt = absurd (omega arith)
+same_entry (x ∷ xs) zero d e lt = refl
+same_entry (x ∷ xs) (suc i) d e lt = same_entry xs i d e (omega arith)
+
+pub none_there : {X : Type 0} (o : Option X) → ((x : X) → o ≡ Some x → ⊥) → IsSome o → ⊥
+none_there None not some = cc
+none_there (Some x) not some = not x refl
+
+numbers-pairs : (items : List RenamedRoot) → map (λ r. r.number) items ≡ map (λ e. e.0) (map root_pair items)
+numbers-pairs [] = refl
+numbers-pairs (r ∷ items) = ap (λ ns. r.number ∷ ns) (numbers-pairs items)
+
+numbers-renamed : (f : ℕ → ℕ) (es : List (ℕ × ℕ)) → map (λ e. e.0) (map {B = ℕ × ℕ} (λ e. (e.0, f e.1)) es) ≡ map (λ e. e.0) es
+numbers-renamed f [] = refl
+numbers-renamed f (e ∷ es) = ap (λ ns. e.0 ∷ ns) (numbers-renamed f es)
+
+-- each root is renamed once
+pub renamed_once : (f : ℕ → ℕ) (items : List RenamedRoot) (slots : List (Option Place)) → map root_pair items ≡ map (λ e. (e.0, f e.1)) (entries (roots_map slots)) → IsDistinct nat_eq (map (λ r. r.number) items)
+renamed_once f items slots are =
+    subst (IsDistinct nat_eq) (sym (numbers-pairs items ∙ ap (map (λ e. e.0)) are ∙ numbers-renamed f (entries (roots_map slots))))
+    (distinct_from_rise _ (keys-rise 0 (entries (roots_map slots)) (entries-rise (roots_map slots))))

@@ -1,0 +1,33 @@
+use Rattle.std.proofs.Common.{◌<◌, ap, sym, ◌∙◌, refl, None, map, ◌++◌, arith, length}
+use Rattle.slab.proofs.SlabLemmas.{Contains-cons, Contains-entries}
+use Rattle.heap.specs.RootView.{root_pair}
+use Rattle.heap.proofs.RenamedRoots.{pairs_by, pairs_are_all, pairs_more, same_entry, none_there}
+use Rattle.heap.proofs.commit.renamed_roots.Goals as goal
+
+pub loop-root-init : goal.loop-root-init
+loop-root-init g c =
+    let left = c.into_iter-root-iterator.ensures.into_iter_gives ∙ c.iter-root-items.ensures.rest in (
+      λ f new. rw (c.in_ok-renamed.ensures.items, left) (pairs_are_all f c.args.roots.now.slots),
+      λ key place there. (Contains-entries c.args.roots.now key place).0 (rw left at there),
+    )
+
+pub number_of-number-requires-clause-there : goal.number_of-number-requires-clause-there
+number_of-number-requires-clause-there g c =
+    c.requires.leads c.in-Some.root c.in-Some.place.now (c.loop-root.invariant.1 c.in-Some.root c.in-Some.place.now (rw c.in-Some.ensures.steps (0, omega arith, refl)))
+
+pub loop-root-preserved-in-Continue-branch-2 : goal.loop-root-preserved-in-Continue-branch-2
+loop-root-preserved-in-Continue-branch-2 g c =
+    let at = c.in-Some.ensures.steps in (
+      λ f new.
+          let number = c.number_of-number.ensures.number in
+          let same = ap (λ w. (c.in-Some.root, w)) (sym (new c.number_of-number.result c.in-Some-places.new_place (same_entry c.args.places.now c.number_of-number.result None _ (omega (arith, c.number_of-number.ensures.in_range, c.requires.count)) ∙ c.in-Some-places.is)) ∙ ap f number) in
+          rw c.in_ok-push.ensures.items (pairs_more f c.loop-root.renamed.items c.in-Some.root c.in-Some.place.now _ c.next.new.self same ∙ ap (λ es. map root_pair c.loop-root.renamed.items ++ pairs_by f es) (sym at) ∙ c.loop-root.invariant.0 f new),
+      λ key place there. c.loop-root.invariant.1 key place (rw at (Contains-cons _ _ _ there)),
+    )
+
+pub loop-root-preserved : goal.loop-root-preserved
+loop-root-preserved g c =
+    let at = c.in-Some.ensures.steps in
+    let lt : c.number_of-number.result < length c.args.places.now = omega (arith, c.number_of-number.ensures.in_range, c.requires.count) in
+    let named = c.requires.named c.in-Some.root c.number_of-number.result c.in-Some.place.now (c.loop-root.invariant.1 c.in-Some.root c.in-Some.place.now (rw at (0, omega arith, refl))) lt c.number_of-number.ensures.number in
+    absurd (none_there _ (λ x is. c.in_default.not-Some x (same_entry c.args.places.now c.number_of-number.result _ None lt ∙ is)) named)

@@ -1,0 +1,23 @@
+-- The heap that blocks and roots make.
+use Rattle.std.specs.Prelude.{◌≡◌, ℕ, List, [], ◌∷◌, Option, Some, None, replicate, slice_index_or, IsSome}
+use Rattle.std.specs.FinMap.{get, empty}
+use Rattle.layout.specs.declared.place.Place.{Place}
+use Rattle.layout.specs.Place.{place_word}
+use Rattle.heap.specs.HeapValue.{HeapValue}
+use Rattle.heap.specs.Roots.{roots_map}
+use Rattle.heap.specs.Space.{SpaceValue}
+
+abbrev pub heap_of : SpaceValue → List (Option Place) → HeapValue
+heap_of space slots =
+    record {
+      config = space.config;
+      graph = record { objects = space.objects; roots = roots_map slots };
+      rooms = space.room ∷ [];
+      free = space.free;
+      large_blocks = empty;
+      remembered = replicate space.config.shape.generations [];
+    }
+
+-- each root leads to an object
+abbrev pub LeadsToObjects : SpaceValue → List (Option Place) → Type 0
+LeadsToObjects space slots = (root : ℕ) (place : Place) → slice_index_or slots root None ≡ Some place → IsSome (get space.objects (place_word place))

@@ -1,0 +1,24 @@
+-- What contracts see of a heap, and what its calls do.
+pub mod HeapValue
+pub mod ConfigRange
+pub mod ConfigView
+pub mod CensusCode
+pub mod CensusView
+pub mod Words
+pub mod BlockObjects
+pub mod Commands
+pub mod CollectionValue
+pub mod SlotView
+pub mod CollectionCode
+pub mod Plain
+pub mod StepPairs
+pub mod ReportValue
+pub mod ReportView
+pub mod CollectedHeap
+pub mod SettledValue
+pub mod Table
+pub mod Roots
+pub mod RootView
+pub mod Installed
+pub mod Space
+pub mod HeapView

@@ -1,0 +1,269 @@
+//! The heap.
+ghost use Rattle.std.specs.Prelude.{◌≡◌, ℕ, ◌*◌, ◌+◌, ◌<◌, ◌≤◌, ◌↔◌, Some, None, false, IsTrue, IsSome, IsOk, IfOk, IfSome, IfNone, OnOk, OnErr, option_copied};
+ghost use Rattle.std.specs.Option.{option_map};
+ghost use Rattle.model.specs.Graph.{root_at, without_root};
+ghost use Rattle.layout.specs.Place.{place_word};
+ghost use Rattle.heap.specs.HeapValue.{empty_heap, nursery_count};
+ghost use Rattle.heap.specs.Commands.{Allocates, is_too_big, room_for, heap_census};
+ghost use Rattle.std.specs.Prelude.{MatchOption, IsSomeAnd, slice_index, length, Err};
+ghost use Rattle.model.specs.Graph.{IsClosed, object_at};
+ghost use Rattle.model.specs.Live.{IsYoung};
+ghost use Rattle.model.specs.LiveCount.{LiveCount};
+ghost use Rattle.layout.specs.ObjectRef.{raw_of};
+ghost use Rattle.heap.specs.Words.{IsShownAs};
+ghost use Rattle.heap.specs.Plain.{IsPlainHeap};
+ghost use Rattle.heap.specs.StepPairs.{step_pair, stands_at};
+ghost use Rattle.heap.specs.CollectionValue.{IsOpened, AreFreeBlocks, young_names};
+ghost use Rattle.heap.specs.ReportValue.{all_won, renaming_of};
+ghost use Rattle.heap.specs.SettledValue.{IsSettled};
+ghost use Rattle.heap.specs.CollectedHeap.{CollectedHeap};
+
+use crate::census::Census;
+use crate::collection::{Collection, Settled};
+use crate::commit::{all_fit, count_won, renamed_roots, write_roots};
+use crate::config::Config;
+use crate::opening::opened;
+use crate::report::Report;
+use crate::root::{RootId, StepId};
+use crate::space::Space;
+use layout::{ObjectRef, Place};
+use slab::Slab;
+use std::alloc::{AllocError, Allocator, Global};
+use std::marker::Model;
+
+/// The most pointers, and the most plain words, that an object may have.
+const MOST_FIELDS: u64 = 100_000;
+
+/// Why a heap was not made.
+#[derive(Clone, Copy, Debug, PartialEq, Eq)]
+pub enum MakeError {
+    /// The nurseries want more blocks than there are.
+    HeapFull,
+    NoMemory,
+}
+
+/// Why an object was not allocated. The heap is as before.
+#[derive(Clone, Copy, Debug, PartialEq, Eq)]
+pub enum AllocateError {
+    NoMutator,
+    /// More than 100,000 pointers or plain words, or today more words in all than a quarter of a block.
+    TooBig,
+    /// The mutator's nursery has no room. A collection makes room.
+    NurseryFull,
+    NoMemory,
+}
+
+/// Why a collection was not opened.
+#[derive(Clone, Copy, Debug, PartialEq, Eq)]
+pub enum OpenError {
+    NoGeneration,
+    NoMemory,
+}
+
+/// There is no such root.
+#[derive(Clone, Copy, Debug, PartialEq, Eq)]
+pub struct NoRoot;
+
+/// Objects in blocks, and roots that lead to them.
+#[derive(Drop)]
+pub struct Heap<A: Allocator = Global> {
+    space: Space<A>,
+    roots: Slab<Place, A>,
+}
+
+impl<A: Allocator> Model for Heap<A> {
+    ghost use Rattle.heap.specs.HeapValue.{HeapValue, heap_code};
+
+    ghost Value = { HeapValue };
+
+    ghost coded = { heap_code };
+
+    ghost use Rattle.heap.specs.HeapView.{heap_of, LeadsToObjects};
+
+    ghost view = { λ h. heap_of h.space h.roots.slots };
+
+    ghost invariant = { λ h. LeadsToObjects h.space h.roots.slots };
+}
+
+impl<A: Allocator + Clone> Heap<A> {
+    /// A heap with no object. Its first blocks are set aside for nurseries.
+    pub fn new(alloc: A, config: Config) -> Result<Heap<A>, MakeError>
+        ensures ok { IfOk result (λ heap. heap ≡ empty_heap config) }
+        ensures full { (result ≡ Err MakeError.HeapFull) ↔ (config.blocks < nursery_count config) }
+    {
+        if config.blocks() < config.nursery_blocks() {
+            return Err(MakeError::HeapFull);
+        }
+        let Ok(own) = alloc.clone() else {
+            return Err(MakeError::NoMemory);
+        };
+        match Space::new(own, config) {
+            Ok(space) => Ok(Heap {
+                space,
+                roots: Slab::new(alloc),
+            }),
+            Err(_) => Err(MakeError::NoMemory),
+        }
+    }
+
+    /// A new small object of a mutator, with `p` nil pointers and `q` zero words, and a new root to it.
+    /// It does not collect.
+    pub fn allocate(&mut self, mutator: u64, p: u64, q: u64) -> Result<RootId, AllocateError>
+        ensures ok { IfOk result (λ root. Allocates self.old mutator p q root.number self.new) }
+        ensures no_mutator { (result ≡ Err AllocateError.NoMutator) ↔ (self.old.config.mutators ≤ mutator) }
+        ensures too_big { (result ≡ Err AllocateError.TooBig)
+            ↔ ((mutator < self.old.config.mutators) × IsTrue (is_too_big self.old p q)) }
+        ensures full { (result ≡ Err AllocateError.NurseryFull)
+            ↔ ((mutator < self.old.config.mutators) × (is_too_big self.old p q ≡ false)
+            × (room_for self.old mutator (1 + p + q) ≡ None)) }
+        ensures err { OnErr result (self.new ≡ self.old) }
+    {
+        let config = self.space.config();
+        if mutator >= config.mutators() as u64 {
+            return Err(AllocateError::NoMutator);
+        }
+        if p > MOST_FIELDS || q > MOST_FIELDS || 1 + p + q > config.block_words() as u64 / 4 {
+            return Err(AllocateError::TooBig);
+        }
+        if !self.space.has_room(1 + p as usize + q as usize) {
+            return Err(AllocateError::NurseryFull);
+        }
+        if self.roots.reserve(1).is_err() {
+            return Err(AllocateError::NoMemory);
+        }
+        match self.space.allocate(p as u32, q as u32) {
+            Some(place) => Ok(RootId {
+                number: self.roots.insert_reserved(place),
+            }),
+            None => Err(AllocateError::NurseryFull),
+        }
+    }
+
+    /// Gives up a root. Its object may stay alive by others.
+    pub fn release(&mut self, root: RootId) -> Result<(), NoRoot>
+        ensures known { IsOk result ↔ IsSome (root_at self.old.graph root.number) }
+        ensures ok { OnOk result (self.new ≡ record self.old { graph = without_root self.old.graph root.number }) }
+        ensures err { OnErr result (self.new ≡ self.old) }
+    {
+        let _space = &self.space;
+        let Some(_place) = self.roots.try_remove(root.number) else {
+            return Err(NoRoot);
+        };
+        Ok(())
+    }
+
+    /// Where the object of a root stands.
+    pub fn target(&self, root: RootId) -> Option<Place>
+        ensures { option_map place_word result ≡ root_at self.now.graph root.number }
+    {
+        self.roots.get(root.number).copied()
+    }
+
+    /// How many objects there are of each kind.
+    pub fn census(&self) -> Census
+        ensures { result ≡ heap_census self.now }
+    {
+        let _config = self.space.config();
+        Census::of_one_step(self.space.count(), self.roots.len() as u64)
+    }
+
+    /// The sizes that the heap was made with.
+    pub fn config(&self) -> Config
+        ensures { result ≡ self.now.config }
+    {
+        self.space.config()
+    }
+
+    /// The object at a place, where there is one.
+    pub fn object(&self, place: Place) -> Option<ObjectRef<'_>>
+        ensures { MatchOption result (object_at self.now.graph (place_word place) ≡ None)
+            (λ object. IsSomeAnd (object_at self.now.graph (place_word place)) (λ o. IsShownAs o (raw_of object))) }
+    {
+        self.space.object(place)
+    }
+
+    /// The generation and step of the object at a place, where there is one.
+    pub fn step_of(&self, place: Place) -> Option<StepId>
+        ensures { option_map step_pair result ≡ option_map stands_at (object_at self.now.graph (place_word place)) }
+    {
+        match self.space.object(place) {
+            Some(_) => Some(StepId {
+                generation: 0,
+                step: 0,
+            }),
+            None => None,
+        }
+    }
+
+    /// Opens a collection of the generations 0 to `g`. The heap stays as it is.
+    pub fn open_collection(&self, alloc: A, g: u64) -> Result<Collection<A>, OpenError>
+        ensures ok { IfOk result (λ collection. IsOpened self.now g collection) }
+        ensures no_generation { (result ≡ Err OpenError.NoGeneration) ↔ (self.now.config.shape.generations ≤ g) }
+        // What holds of every heap.
+        ensures closed { IsClosed self.now.graph }
+        ensures plain { IsPlainHeap self.now }
+        ensures free { AreFreeBlocks self.now.config.blocks self.now.free }
+    {
+        let _free = self.space.free_count();
+        if g >= self.space.config().generations() as u64 {
+            return Err(OpenError::NoGeneration);
+        }
+        match opened(alloc, &self.space, &self.roots) {
+            Ok(collection) => Ok(collection),
+            Err(_) => Err(OpenError::NoMemory),
+        }
+    }
+
+    /// The number of an object in a collection that was opened on this heap as it is now.
+    pub fn number_of(&self, collection: &Collection<A>, place: Place) -> u32
+        requires opened { IsOpened self.now collection.now.generation collection.now }
+        requires young { IsYoung self.now.graph collection.now.generation (place_word place) }
+        ensures in_range { result < collection.now.cells }
+        ensures number { slice_index (young_names self.now.graph collection.now.generation) result ≡ place_word place }
+    {
+        let _config = self.space.config();
+        self.space.number_of(collection.bases(), place)
+    }
+
+    /// Ends a collection: the heap is what the workers brought back. Where memory runs out the heap is as before.
+    pub fn commit(&mut self, alloc: A, settled: Settled<A>) -> Result<Report<A>, AllocError>
+        requires { IsSettled self.old settled.collection settled.places.items settled.blocks.items (all_won settled.workers.items) }
+        ensures ok { IfOk result (λ _. CollectedHeap self.old settled.collection.generation
+            (renaming_of (young_names self.old.graph settled.collection.generation) (all_won settled.workers.items)) self.new) }
+        ensures kept { IfOk result (λ report. LiveCount self.old.graph settled.collection.generation report.kept) }
+        ensures freed { IfOk result (λ report. report.kept + report.freed
+            ≡ length (young_names self.old.graph settled.collection.generation)) }
+        ensures workers { IfOk result (λ report. report.workers ≡ settled.workers) }
+        ensures deliveries { IfOk result (λ report. report.deliveries ≡ settled.deliveries) }
+        ensures err { OnErr result (self.new ≡ self.old) }
+    {
+        let _before = self.space.config();
+        let cells = settled.collection.cells() as u64;
+        let bases = settled.collection.bases();
+        let renamed = renamed_roots(
+            alloc.clone()?,
+            &self.space,
+            &self.roots,
+            bases,
+            &settled.places,
+        )?;
+        let kept = count_won(&settled.workers);
+        let _fit = all_fit(&settled.blocks);
+        let Settled {
+            collection: _,
+            places: _,
+            blocks,
+            workers,
+            deliveries,
+        } = settled;
+        self.space.replace(alloc, blocks)?;
+        let _config = self.space.config();
+        write_roots(&mut self.roots, &renamed);
+        Ok(Report {
+            kept,
+            freed: cells - kept,
+            workers,
+            deliveries,
+        })
+    }
+}

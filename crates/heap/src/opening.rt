@@ -1,0 +1,43 @@
+//! What a collection takes from a heap.
+ghost use Rattle.std.specs.Prelude.{◌≡◌, map, IfOk};
+ghost use Rattle.std.specs.FinMap.{entries};
+ghost use Rattle.heap.specs.CollectionValue.{root_slot, IsOpened};
+ghost use Rattle.heap.specs.SlotView.{slot_value};
+ghost use Rattle.heap.specs.Roots.{roots_map};
+ghost use Rattle.heap.specs.HeapView.{heap_of};
+
+use crate::collection::{Collection, Slot};
+use crate::root::RootId;
+use crate::space::Space;
+use layout::Place;
+use slab::Slab;
+use std::alloc::{AllocError, Allocator};
+
+/// The roots by rising number.
+fn root_slots<A: Allocator>(alloc: A, roots: &Slab<Place, A>) -> Result<Vec<Slot, A>, AllocError>
+    ensures { IfOk result (λ slots. map slot_value slots.items ≡ map (λ e. root_slot e.0 e.1) (entries (roots_map roots.now.slots))) }
+{
+    let mut slots = Vec::with_capacity(alloc, roots.len())?;
+    for (number, place) in roots.iter() {
+        slots.push(Slot::Root {
+            root: RootId { number },
+            target: *place,
+        })?;
+    }
+    Ok(slots)
+}
+
+/// A collection of the one generation that there is today.
+pub(crate) fn opened<A: Allocator + Clone>(
+    alloc: A,
+    space: &Space<A>,
+    roots: &Slab<Place, A>,
+) -> Result<Collection<A>, AllocError>
+    ensures { IfOk result (λ collection. IsOpened (heap_of space.now roots.now.slots) 0 collection) }
+{
+    let slots = root_slots(alloc.clone()?, roots)?;
+    let free = space.free_numbers(alloc.clone()?)?;
+    let (bases, cells) = space.bases(alloc)?;
+    let _config = space.config();
+    Ok(Collection::new(0, slots, free, bases, cells))
+}

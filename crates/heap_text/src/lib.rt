@@ -1,0 +1,10 @@
+//! Texts of a heap, written to a sink.
+#![tactic(auto)]
+
+mod census;
+mod collection;
+mod sink;
+
+pub use census::write_census;
+pub use collection::write_collection;
+pub use sink::{Counted, Sink, WriteError, WriteFailed, write_all};

@@ -1,0 +1,12 @@
+//! How a heap is laid out in words: places, pointers, headers and objects. It takes no memory.
+#![tactic(auto)]
+
+mod header;
+mod object;
+mod place;
+#[cfg(test)]
+mod tests;
+
+pub use header::{Header, MOST_FIELDS, TooBig, is_large, size};
+pub use object::ObjectRef;
+pub use place::{LargeNumber, Place, SmallPlace};

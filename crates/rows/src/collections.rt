@@ -1,0 +1,196 @@
+//! Collections of a heap through its own calls, where memory and blocks run out too.
+use collector::{CollectError, collect_one};
+use heap::{AllocateError, Config, Heap, MakeError, NoRoot, OpenError, RootId, Sizes, StepId};
+use heap_text::{Counted, write_census, write_collection};
+use refusing::Refusing;
+use std::alloc::{Allocator, Global};
+use std::process::Abort;
+use std::test::Fail;
+use trace_driver::{CountedReader, RunConfig, run_one};
+
+fn config_of(block_words: u64, nursery_blocks: u64, blocks: u64) -> Result<Config, Fail> {
+    Ok(Config::new(Sizes {
+        block_words,
+        blocks,
+        mutators: 1,
+        nursery_blocks,
+        generations: 1,
+        steps: 1,
+    })?)
+}
+
+/// The lines of a heap's census.
+fn census_of<A: Allocator + Clone>(alloc: Global, heap: &Heap<A>) -> Result<Vec<u8>, Fail> {
+    let mut writer = Counted {
+        inner: Vec::new(alloc),
+        failed_writes: 0,
+    };
+    write_census(alloc, &heap.census(), &mut writer)?;
+    Ok(writer.inner)
+}
+
+const BEFORE: &[u8] =
+    b"gen 0 step 0: 6 objects 21 words\nlarge: 0 objects 0 words\nroots: 5\nremembered: 0\n";
+
+const AFTER: &[u8] =
+    b"gen 0 step 0: 5 objects 17 words\nlarge: 0 objects 0 words\nroots: 5\nremembered: 0\n";
+
+/// A heap of six objects, one of which is dead. The others take two blocks. The last has a pointer and two plain words.
+fn six_objects<A: Allocator + Clone>(alloc: A) -> Result<(Heap<A>, RootId), Fail> {
+    let mut heap = Heap::new(alloc, config_of(16, 2, 12)?)?;
+    let dead = heap.allocate(0, 0, 3)?;
+    let _root = heap.allocate(0, 3, 0)?;
+    let _root = heap.allocate(0, 0, 3)?;
+    let _root = heap.allocate(0, 0, 3)?;
+    let _root = heap.allocate(0, 0, 0)?;
+    let last = heap.allocate(0, 1, 2)?;
+    heap.release(dead)?;
+    Ok((heap, last))
+}
+
+/// More requests than a heap and its collection make.
+const MANY: u64 = 1000;
+
+/// How many requests the making of the heap takes.
+fn requests_of_six_objects(alloc: Global) -> Result<u64, Fail> {
+    let refusing = Refusing::new(alloc, MANY);
+    let _heap = six_objects(&refusing)?;
+    Ok(refusing.asked())
+}
+
+/// Collects, and where that is refused once more. Says whether it was refused.
+fn is_refused(rt: &impl Abort, alloc: Global, refusing: &Refusing<Global>) -> Result<bool, Fail> {
+    let (mut heap, last) = six_objects(refusing)?;
+    assert_eq!(rt; census_of(alloc, &heap)?.as_slice(), BEFORE);
+    let place = heap.target(last);
+    let refused = match collect_one(refusing, &mut heap, 0) {
+        Ok(report) => {
+            assert_eq!(rt; (report.kept, report.freed), (5, 1));
+            false
+        }
+        Err(error) => {
+            assert_eq!(rt; error, CollectError::NoMemory);
+            assert_eq!(rt; census_of(alloc, &heap)?.as_slice(), BEFORE);
+            assert!(rt; heap.target(last) == place);
+            let report = collect_one(refusing, &mut heap, 0)?;
+            assert_eq!(rt; (report.kept, report.freed), (5, 1));
+            true
+        }
+    };
+    assert_eq!(rt; census_of(alloc, &heap)?.as_slice(), AFTER);
+    Ok(refused)
+}
+
+#[test]
+fn each_request_of_a_collection_is_refused(rt: HostRuntime) -> Result<(), Fail> {
+    let first = requests_of_six_objects(rt.alloc())?;
+    for refused in first..MANY {
+        let refusing = Refusing::new(rt.alloc(), refused);
+        if !is_refused(&rt, rt.alloc(), &refusing)? {
+            assert_eq!(rt; (refusing.asked(), refusing.returned()), (refused, refused));
+            // At least one for each of the two blocks.
+            assert!(rt; refused > first + 2);
+            return Ok(());
+        }
+        let asked = refusing.asked();
+        assert!(rt; asked > refused);
+        assert_eq!(rt; refusing.returned(), asked - 1);
+    }
+    Err(Fail::from("each collection was refused"))
+}
+
+#[test]
+fn census_where_blocks_run_out(rt: HostRuntime) -> Result<(), Fail> {
+    let mut heap = Heap::new(rt.alloc(), config_of(64, 2, 3)?)?;
+    for _object in 0..5 {
+        let _root = heap.allocate(0, 0, 15)?;
+    }
+    let before =
+        b"gen 0 step 0: 5 objects 80 words\nlarge: 0 objects 0 words\nroots: 5\nremembered: 0\n".as_slice();
+    assert_eq!(rt; census_of(rt.alloc(), &heap)?.as_slice(), before);
+    let refusal = collect_one(rt.alloc(), &mut heap, 0).err();
+    assert_eq!(rt; refusal, Some(CollectError::HeapFull));
+    assert_eq!(rt; census_of(rt.alloc(), &heap)?.as_slice(), before);
+    Ok(())
+}
+
+#[test]
+fn objects_move(rt: HostRuntime) -> Result<(), Fail> {
+    let (mut heap, last) = six_objects(rt.alloc())?;
+    let collection = heap.open_collection(rt.alloc(), 0)?;
+    assert_eq!(rt; (collection.generation(), collection.cells()), (0, 6));
+    assert_eq!(rt;
+        (collection.slots().len(), collection.free().len()),
+        (5, 10)
+    );
+    let old_place = heap.target(last).ok_or("no target")?;
+    let report = collect_one(rt.alloc(), &mut heap, 0)?;
+    assert_eq!(rt; (report.kept, report.freed), (5, 1));
+    assert_eq!(rt; (report.workers.len(), report.deliveries.len()), (1, 0));
+    let worker = &report.workers[0];
+    assert_eq!(rt; (worker.won().len(), worker.scanned().len()), (5, 5));
+    let place = heap.target(last).ok_or("no target")?;
+    assert!(rt; place != old_place && worker.scanned().contains(&place));
+    let object = heap.object(place).ok_or("no object")?;
+    assert_eq!(rt;
+        (object.pointers, object.words),
+        ([0].as_slice(), [0, 0].as_slice())
+    );
+    let stands = StepId {
+        generation: 0,
+        step: 0,
+    };
+    assert_eq!(rt; heap.step_of(place), Some(stands));
+    assert!(rt; heap.object(old_place).is_none() && heap.step_of(old_place).is_none());
+    Ok(())
+}
+
+#[test]
+fn refusals_of_the_heap(rt: HostRuntime) -> Result<(), Fail> {
+    let refusal = Heap::new(rt.alloc(), config_of(64, 4, 3)?).err();
+    assert_eq!(rt; refusal, Some(MakeError::HeapFull));
+    let mut heap = Heap::new(rt.alloc(), config_of(16, 1, 2)?)?;
+    for (mutator, p, q, refusal) in [
+        (1, 100_001, 0, AllocateError::NoMutator),
+        (0, 100_001, 0, AllocateError::TooBig),
+        (0, 0, u64::MAX, AllocateError::TooBig),
+        (0, 2, 2, AllocateError::TooBig),
+    ] {
+        assert_eq!(rt; heap.allocate(mutator, p, q).err(), Some(refusal));
+    }
+    for _object in 0..4 {
+        let _root = heap.allocate(0, 1, 2)?;
+    }
+    assert_eq!(rt;
+        heap.allocate(0, 0, 0).err(),
+        Some(AllocateError::NurseryFull)
+    );
+    assert_eq!(rt; heap.release(RootId { number: 9 }), Err(NoRoot));
+    assert_eq!(rt; heap.target(RootId { number: 9 }), None);
+    let opened = heap.open_collection(rt.alloc(), 1);
+    assert_eq!(rt; opened.err(), Some(OpenError::NoGeneration));
+    let refusal = collect_one(rt.alloc(), &mut heap, 1).err();
+    assert_eq!(rt; refusal, Some(CollectError::NoGeneration));
+    Ok(())
+}
+
+#[test]
+fn texts_and_runs(rt: HostRuntime) -> Result<(), Fail> {
+    let mut writer = Counted {
+        inner: Vec::new(rt.alloc()),
+        failed_writes: 0,
+    };
+    write_collection(rt.alloc(), 3, u64::MAX, 10, &mut writer)?;
+    let mut reader = CountedReader {
+        inner: b"new a 0 0 0\ncollect 0\n".as_slice(),
+        failed_reads: 0,
+    };
+    let config = RunConfig::new(config_of(16, 1, 2)?, 1)?;
+    let result = run_one(rt.alloc(), &mut reader, &mut writer, config);
+    assert_eq!(rt; result, Ok(()));
+    assert_eq!(rt;
+        writer.inner.as_slice(),
+        b"collected 3: 18446744073709551615 kept, 10 freed\ncollected 0: 1 kept, 0 freed\n".as_slice()
+    );
+    Ok(())
+}

@@ -1,0 +1,19 @@
+//! Tests of the whole way of a trace, from its bytes to what is printed, where reads, writes and memory fail too.
+#![tactic(auto)]
+
+mod fronts;
+
+pub use fronts::is_front_in_lines;
+
+#[cfg(test)]
+mod collections;
+#[cfg(test)]
+mod faults;
+#[cfg(test)]
+mod memory;
+#[cfg(test)]
+mod program;
+#[cfg(test)]
+mod reads_and_writes;
+#[cfg(test)]
+mod worked;

@@ -1,0 +1,56 @@
+-- What the names of a store lead to, as a list.
+use Rattle.std.proofs.Common.{◌≡◌, ℕ, Bool, true, false, ◌&&◌, cond, List, [], ◌∷◌, map, Some, None, T, refl, sym, ap, subst, ◌∙◌, ⊎_elim, Ordering}
+use Rattle.std.specs.declared.cmp.Ordering.TheVariants.{Less, Equal, Greater}
+use Rattle.std.specs.Ordering.{nat_cmp, is_eq, is_lt}
+use Rattle.std.proofs.lemmas.Bool.{cases_Bool}
+use Rattle.std.specs.Cmp.Lexicographic.{slice_cmp}
+use Rattle.std.specs.FinMap.{is_sorted}
+use Rattle.model.specs.Reached.{has}
+use Rattle.model.proofs.Has.{has_none, has_head, has_tail, has-cons}
+use Rattle.trace_driver.specs.Stands.{named}
+use Rattle.trace_driver.proofs.NamedLemmas.{same, same_text, same_itself, none_is_some}
+
+both : (a b : Bool) → T (a && b) → T a × T b
+both true b h = (tt, h)
+both false b h = absurd h
+
+-- each name is after this one, as `is_sorted` tests it
+abbrev all_after : List ℕ → List (List ℕ × ℕ) → Bool
+all_after text [] = true
+all_after text (e ∷ names) = is_lt (slice_cmp nat_cmp text e.0) && all_after text names
+
+lt_not_eq : (r : Ordering) → T (is_lt r) → is_eq r ≡ false
+lt_not_eq Less t = refl
+lt_not_eq Equal t = absurd t
+lt_not_eq Greater t = absurd t
+
+not_later : (text : List ℕ) (names : List (List ℕ × ℕ)) → T (all_after text names) → named names text ≡ None
+not_later text [] t = refl
+not_later text (e ∷ names) t =
+    let parts = both (is_lt (slice_cmp nat_cmp text e.0)) (all_after text names) t in
+    ap (λ b. cond b (Some e.1) (named names text)) (lt_not_eq (slice_cmp nat_cmp text e.0) parts.0) ∙ not_later text names parts.1
+
+pub led_to : (names : List (List ℕ × ℕ)) (n : ℕ) → T (is_sorted (slice_cmp nat_cmp) names) → has (map (λ e. e.1) names) n ≡ true → (text : List ℕ) × (named names text ≡ Some n)
+led_to [] n t there = has_none n there
+led_to (e ∷ names) n t there =
+    let parts = both (all_after e.0 names) (is_sorted (slice_cmp nat_cmp) names) t in
+    ⊎_elim
+    (λ is. (e.0, ap (λ b. cond b (Some e.1) (named names e.0)) (same_itself e.0) ∙ ap (λ k. Some k) (sym is)))
+    (λ later.
+    let found = led_to names n parts.1 later in
+    ⊎_elim
+    (λ tie. none_is_some (named names e.0) n (not_later e.0 names parts.0) (subst (λ s. named names s ≡ Some n) (same_text found.0 e.0 tie) found.1))
+    (λ other. (found.0, ap (λ b. cond b (Some e.1) (named names found.0)) other ∙ found.1))
+    (cases_Bool (same found.0 e.0)))
+    (has-cons e.1 (map (λ e. e.1) names) n there)
+
+pub leads_to : (names : List (List ℕ × ℕ)) (text : List ℕ) (n : ℕ) → named names text ≡ Some n → has (map (λ e. e.1) names) n ≡ true
+leads_to [] text n found = let none : None ≡ Some n = found in absurd (cc)
+leads_to (e ∷ names) text n found =
+    ⊎_elim
+    (λ tie.
+    let here : Some e.1 ≡ Some n = sym (ap (λ b. cond b (Some e.1) (named names text)) tie) ∙ found in
+    let is : e.1 ≡ n = cc (here) in
+    subst (λ k. has (e.1 ∷ map (λ d. d.1) names) k ≡ true) is (has_head e.1 (map (λ d. d.1) names)))
+    (λ other. has_tail e.1 (map (λ d. d.1) names) n (leads_to names text n (sym (ap (λ b. cond b (Some e.1) (named names text)) other) ∙ found)))
+    (cases_Bool (same text e.0))

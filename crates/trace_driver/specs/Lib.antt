@@ -1,0 +1,13 @@
+pub mod Pieces
+pub mod Outcome
+pub mod Refusals
+pub mod Carried
+pub mod Stepped
+pub mod Faults
+pub mod FaultText
+pub mod Reading
+pub mod NamesView
+pub mod Stands
+pub mod RunValue
+pub mod Program
+pub mod Session

@@ -1,0 +1,128 @@
+//! The whole program over memory: the words of a command line, and what is read and written.
+ghost use Rattle.std.specs.Prelude.{◌≡◌, ◌+◌, ◌-◌, ◌^◌, ◌<◌, ◌≤◌, ◌⊎◌, ◌↔◌, IfOk, IsOk};
+ghost use Rattle.std.specs.Io.KnownBytes.{Appends};
+ghost use Rattle.trace_driver.specs.Faults.{MatchFault};
+ghost use Rattle.trace_driver.specs.FaultText.{fault_line};
+ghost use Rattle.trace_driver.specs.Program.{config_of, AreInRange, EndsAs};
+ghost use Rattle.trace_driver.specs.declared.command_line.Options.{Options as Asked};
+
+use crate::command_line::{Options, read_words};
+use crate::config::RunConfig;
+use crate::fault::{Fault, write_fault};
+use crate::running::run;
+use crate::source::Source;
+use clap::Error;
+use clap::error::ErrorKind;
+use heap::{BadConfig, Config, Sizes};
+use heap_text::{Sink, write_all};
+use std::alloc::Global;
+use std::convert::AsStr;
+
+fn run_config(options: &Options) -> Result<RunConfig, BadConfig>
+    ensures ok { IfOk result (λ run. run.config ≡ config_of options.now) }
+    ensures in_range { IsOk result ↔ AreInRange options.now }
+{
+    let config = Config::new(Sizes {
+        block_words: options.block_words,
+        blocks: options.blocks,
+        mutators: options.mutators,
+        nursery_blocks: options.nursery,
+        generations: options.generations,
+        steps: options.steps,
+    })?;
+    RunConfig::new(config, options.threads)
+}
+
+/// The status of a fault, whose line is written to `errors`. A failed write of the line changes nothing.
+fn tell<E: Sink>(fault: &Fault, errors: &mut E) -> u8
+    requires { E.failed_writes errors.old < 2 ^ 64 - 1 }
+    ensures status { MatchFault fault.now (λ _ _. result ≡ 2) (λ _. result ≡ 1) (λ _. result ≡ 1) (result ≡ 4) (result ≡ 4) }
+    ensures told { (E.failed_writes errors.new ≡ E.failed_writes errors.old + 1)
+        ⊎ ((E.failed_writes errors.new ≡ E.failed_writes errors.old) × Appends (E.contents errors.old) (E.contents errors.new) (fault_line fault.now)) }
+    ensures rises { E.failed_writes errors.new ≤ E.failed_writes errors.old + 1 }
+{
+    let _ = write_fault(fault, errors);
+    fault.status()
+}
+
+/// The status of a command line that isn't carried out, with what `clap` says of it: 0 for help, which goes to
+/// `writer`, and 3 for a mistake in the words.
+fn refuse<W: Sink, E: Sink>(alloc: Global, error: &Error, writer: &mut W, errors: &mut E) -> u8
+    requires writable { W.failed_writes writer.old < 2 ^ 64 - 1 }
+    requires tellable { E.failed_writes errors.old < 2 ^ 64 - 1 }
+    ensures status { result ≤ 4 }
+    ensures writes { W.failed_writes writer.new ≤ W.failed_writes writer.old + 1 }
+    ensures error_writes { E.failed_writes errors.new ≤ E.failed_writes errors.old + 1 }
+{
+    if error.kind() == ErrorKind::OutOfMemory {
+        return tell(&Fault::NoMemory(None), errors);
+    }
+    let Ok(text) = format!(in alloc; "{error}") else {
+        return tell(&Fault::NoMemory(None), errors);
+    };
+    if error.use_stderr() {
+        let _ = write_all(errors, text.as_bytes());
+        return 3;
+    }
+    match write_all(writer, text.as_bytes()) {
+        Ok(()) => 0,
+        Err(_) => tell(&Fault::WriteFailed, errors),
+    }
+}
+
+/// Carries out a trace with these numbers, and says the status.
+fn run_with<S: Source, W: Sink, E: Sink>(
+    alloc: Global,
+    options: &Options,
+    reader: &mut S,
+    writer: &mut W,
+    errors: &mut E,
+) -> u8
+    requires readable { S.failed_reads reader.old < 2 ^ 64 - 1 }
+    requires writable { W.failed_writes writer.old < 2 ^ 64 - 1 }
+    requires tellable { E.failed_writes errors.old < 2 ^ 64 - 1 }
+    ensures status { result ≤ 4 }
+    ensures ends { EndsAs options.now result (S.remaining reader.old) (W.contents writer.old) (W.contents writer.new) }
+    ensures reads { S.failed_reads reader.new ≤ S.failed_reads reader.old + 1 }
+    ensures writes { W.failed_writes writer.new ≤ W.failed_writes writer.old + 1 }
+    ensures error_writes { E.failed_writes errors.new ≤ E.failed_writes errors.old + 1 }
+{
+    let config = match run_config(options) {
+        Ok(config) => config,
+        Err(BadConfig) => {
+            let _ = write_all(errors, b"gctrace: bad configuration\n");
+            return 3;
+        }
+    };
+    match run(alloc, reader, writer, config) {
+        Ok(()) => 0,
+        Err(fault) => tell(&fault, errors),
+    }
+}
+
+/// Reads a command line, carries out the trace that `reader` gives, and says the exit status: 0 for a trace without a
+/// fault and for help, 1 where blocks or memory are wanting, 2 for a faulty trace, 3 for a mistake in the words or a
+/// number out of its range, 4 for a failed read or write. What it tells of a fault goes to `errors`; a failed write of
+/// that doesn't change the status.
+pub fn main_with<T: AsStr, S: Source, W: Sink, E: Sink>(
+    alloc: Global,
+    words: &[T],
+    reader: &mut S,
+    writer: &mut W,
+    errors: &mut E,
+) -> u8
+    requires readable { S.failed_reads reader.old < 2 ^ 64 - 1 }
+    requires writable { W.failed_writes writer.old < 2 ^ 64 - 1 }
+    requires tellable { E.failed_writes errors.old < 2 ^ 64 - 1 }
+    ensures status { result ≤ 4 }
+    ensures ends { (reader.new ≡ reader.old)
+        ⊎ ((options : Asked) × EndsAs options result (S.remaining reader.old) (W.contents writer.old) (W.contents writer.new)) }
+    ensures reads { S.failed_reads reader.new ≤ S.failed_reads reader.old + 1 }
+    ensures writes { W.failed_writes writer.new ≤ W.failed_writes writer.old + 1 }
+    ensures error_writes { E.failed_writes errors.new ≤ E.failed_writes errors.old + 1 }
+{
+    match read_words(alloc, words) {
+        Ok(options) => run_with(alloc, &options, reader, writer, errors),
+        Err(error) => refuse(alloc, &error, writer, errors),
+    }
+}

@@ -1,0 +1,163 @@
+//! A run from bytes to bytes.
+ghost use Rattle.std.specs.Prelude.{◌≡◌, ℕ, ◌+◌, ◌-◌, ◌^◌, ◌<◌, ◌≤◌, ◌⊎◌, ◌*◌, None, Some, length, MatchOption, IfSome, IfOk, OnOk, IfErr};
+ghost use Rattle.trace_driver.specs.Faults.{MatchFault};
+ghost use Rattle.trace_driver.specs.Outcome.{outcome_from, outcome};
+ghost use Rattle.trace_driver.specs.Pieces.{HasNoFeed, pieces};
+ghost use Rattle.trace_driver.specs.Refusals.{IsSound, MayBeFull};
+ghost use Rattle.trace_driver.specs.Carried.{StopsAt, LeavesBefore, LeavesOutput, Prints, PrintsFront};
+ghost use Rattle.trace_driver.specs.Stepped.{AtEach, CarriesOutTo};
+ghost use Rattle.trace_driver.specs.Session.{Stands};
+
+use crate::config::RunConfig;
+use crate::fault::Fault;
+use crate::lines::split_line;
+use crate::reading::read_all;
+use crate::session::Session;
+use crate::source::Source;
+use crate::step::carry_out;
+use heap_text::Sink;
+use std::alloc::Allocator;
+use trace_text::Kind;
+
+/// The most bytes that a line has before its line feed.
+const MAX_LINE_LEN: usize = 4096;
+
+/// Carries out the finished lines of a text from line `number` on, and gives the number of the next line and what
+/// comes after them.
+fn carry_out_lines<'t, A: Allocator + Clone, W: Sink>(
+    session: &mut Session<A>,
+    number: u128,
+    text: &'t [u8],
+    writer: &mut W,
+) -> Result<(u128, &'t [u8]), Fault>
+    requires room { number + length text.now < 2 ^ 127 }
+    requires countable { W.failed_writes writer.old < 2 ^ 64 - 1 }
+    ensures ok { IfOk result (λ found. AtEach (Stands session.old) (λ config store.
+        CarriesOutTo (Stands session.new) config number store text.now found.0 found.1.now (W.contents writer.old) (W.contents writer.new))) }
+    ensures feeds { IfOk result (λ found. HasNoFeed found.1.now) }
+    ensures writes { OnOk result (W.failed_writes writer.new ≡ W.failed_writes writer.old) }
+    ensures rises { W.failed_writes writer.new ≤ W.failed_writes writer.old + 1 }
+    ensures err { IfErr result (λ e. MatchFault e
+        (λ at kind. AtEach (Stands session.old) (λ config store. StopsAt config number store text.now at kind (W.contents writer.old) (W.contents writer.new)))
+        (λ at. AtEach (Stands session.old) (λ config store. LeavesBefore (MayBeFull config) config number store text.now at (W.contents writer.old) (W.contents writer.new)))
+        (λ at. AtEach (Stands session.old) (λ config store. LeavesBefore (IsSound config) config number store text.now at (W.contents writer.old) (W.contents writer.new)))
+        ⊥
+        (W.failed_writes writer.new ≡ W.failed_writes writer.old + 1)) }
+{
+    let mut next = number;
+    let mut rest = text;
+    while let Some((line, after)) = split_line(rest) {
+        match carry_out(session, next, line, writer) {
+            Ok(()) => {}
+            Err(fault) => return Err(fault),
+        }
+        next += 1;
+        rest = after;
+    }
+    Ok((next, rest))
+}
+
+/// Carries out a whole trace.
+fn carry_out_text<A: Allocator + Clone, W: Sink>(
+    session: &mut Session<A>,
+    text: &[u8],
+    writer: &mut W,
+) -> Result<(), Fault>
+    requires { W.failed_writes writer.old < 2 ^ 64 - 1 }
+    ensures ok { OnOk result (AtEach (Stands session.old) (λ config store.
+        Prints (outcome_from config 1 store (pieces text.now)) None (W.contents writer.old) (W.contents writer.new))) }
+    ensures writes { OnOk result (W.failed_writes writer.new ≡ W.failed_writes writer.old) }
+    ensures rises { W.failed_writes writer.new ≤ W.failed_writes writer.old + 1 }
+    ensures err { IfErr result (λ e. MatchFault e
+        (λ at kind. AtEach (Stands session.old) (λ config store. Prints (outcome_from config 1 store (pieces text.now)) (Some (at, kind)) (W.contents writer.old) (W.contents writer.new)))
+        (λ at. AtEach (Stands session.old) (λ config store. LeavesBefore (MayBeFull config) config 1 store text.now at (W.contents writer.old) (W.contents writer.new)))
+        (λ at. AtEach (Stands session.old) (λ config store. LeavesBefore (IsSound config) config 1 store text.now at (W.contents writer.old) (W.contents writer.new)))
+        ⊥
+        (W.failed_writes writer.new ≡ W.failed_writes writer.old + 1)) }
+{
+    let (number, rest) = match carry_out_lines(session, 1, text, writer) {
+        Ok(done) => done,
+        Err(fault) => return Err(fault),
+    };
+    if rest.is_empty() {
+        Ok(())
+    } else if rest.len() > MAX_LINE_LEN {
+        Err(Fault::BadTrace(number, Kind::LineTooLong))
+    } else {
+        Err(Fault::BadTrace(number, Kind::UnfinishedLine))
+    }
+}
+
+/// Reads a whole trace, carries it out with one worker and writes what it prints. It makes the heap first, and starts
+/// no thread.
+pub fn run_one<A: Allocator + Clone, S: Source, W: Sink>(
+    alloc: A,
+    reader: &mut S,
+    writer: &mut W,
+    config: RunConfig,
+) -> Result<(), Fault>
+    requires one { config.workers ≡ 1 }
+    requires readable { S.failed_reads reader.old < 2 ^ 64 - 1 }
+    requires writable { W.failed_writes writer.old < 2 ^ 64 - 1 }
+    ensures ok { OnOk result (IfSome (S.remaining reader.old) (λ input.
+        Prints (outcome config.config input) None (W.contents writer.old) (W.contents writer.new))) }
+    ensures err { IfErr result (λ e. MatchFault e
+        (λ line kind. IfSome (S.remaining reader.old) (λ input.
+        Prints (outcome config.config input) (Some (line, kind)) (W.contents writer.old) (W.contents writer.new)))
+        (λ line. MatchOption line
+        ((config.config.blocks < config.config.mutators * config.config.nursery_blocks) × (writer.new ≡ writer.old) × (reader.new ≡ reader.old))
+        (λ at. IfSome (S.remaining reader.old) (LeavesOutput (MayBeFull config.config) config.config at (W.contents writer.old) (W.contents writer.new))))
+        (λ line. MatchOption line
+        (writer.new ≡ writer.old)
+        (λ at. IfSome (S.remaining reader.old) (LeavesOutput (IsSound config.config) config.config at (W.contents writer.old) (W.contents writer.new))))
+        (IfSome (S.remaining reader.old) (PrintsFront config.config (W.contents writer.old) (W.contents writer.new))
+        × ((S.failed_reads reader.new ≡ S.failed_reads reader.old + 1)
+        ⊎ IfSome (S.remaining reader.old) (λ input. 2 ^ 64 - 1 ≤ length input)))
+        (W.failed_writes writer.new ≡ W.failed_writes writer.old + 1)) }
+    ensures reads { S.failed_reads reader.new ≤ S.failed_reads reader.old + 1 }
+    ensures writes { W.failed_writes writer.new ≤ W.failed_writes writer.old + 1 }
+{
+    let Ok(text_alloc) = alloc.clone() else {
+        return Err(Fault::NoMemory(None));
+    };
+    let mut session = match Session::new(alloc, config.config()) {
+        Ok(session) => session,
+        Err(fault) => return Err(fault),
+    };
+    let text = match read_all(text_alloc, reader) {
+        Ok(text) => text,
+        Err(fault) => return Err(fault),
+    };
+    carry_out_text(&mut session, text.as_slice(), writer)
+}
+
+/// Reads a whole trace, carries it out and writes what it prints. It makes the heap first.
+pub fn run<A: Allocator + Clone, S: Source, W: Sink>(
+    alloc: A,
+    reader: &mut S,
+    writer: &mut W,
+    config: RunConfig,
+) -> Result<(), Fault>
+    requires readable { S.failed_reads reader.old < 2 ^ 64 - 1 }
+    requires writable { W.failed_writes writer.old < 2 ^ 64 - 1 }
+    ensures ok { OnOk result (IfSome (S.remaining reader.old) (λ input.
+        Prints (outcome config.config input) None (W.contents writer.old) (W.contents writer.new))) }
+    ensures err { IfErr result (λ e. MatchFault e
+        (λ line kind. IfSome (S.remaining reader.old) (λ input.
+        Prints (outcome config.config input) (Some (line, kind)) (W.contents writer.old) (W.contents writer.new)))
+        (λ line. MatchOption line
+        ((config.config.blocks < config.config.mutators * config.config.nursery_blocks) × (writer.new ≡ writer.old) × (reader.new ≡ reader.old))
+        (λ at. IfSome (S.remaining reader.old) (LeavesOutput (MayBeFull config.config) config.config at (W.contents writer.old) (W.contents writer.new))))
+        (λ line. MatchOption line
+        (writer.new ≡ writer.old)
+        (λ at. IfSome (S.remaining reader.old) (LeavesOutput (IsSound config.config) config.config at (W.contents writer.old) (W.contents writer.new))))
+        (IfSome (S.remaining reader.old) (PrintsFront config.config (W.contents writer.old) (W.contents writer.new))
+        × ((S.failed_reads reader.new ≡ S.failed_reads reader.old + 1)
+        ⊎ IfSome (S.remaining reader.old) (λ input. 2 ^ 64 - 1 ≤ length input)))
+        (W.failed_writes writer.new ≡ W.failed_writes writer.old + 1)) }
+    ensures reads { S.failed_reads reader.new ≤ S.failed_reads reader.old + 1 }
+    ensures writes { W.failed_writes writer.new ≤ W.failed_writes writer.old + 1 }
+{
+    let _one_worker = config.config();
+    run_one(alloc, reader, writer, config)
+}

@@ -1,0 +1,157 @@
+//! The form of a line.
+ghost use Rattle.std.specs.Prelude.{◌≡◌, ◌<◌, length, IfOk};
+ghost use Rattle.std.specs.List.{list_all};
+ghost use Rattle.std.specs.Char.{is_ascii_digit};
+ghost use Rattle.model.specs.Commands.{command_of as said};
+ghost use Rattle.trace_text.specs.Words.{words};
+ghost use Rattle.trace_text.specs.Grammar.{one_of, four_of, is_nil, name_of, is_name_byte, number_of, new_of, drop_of, collect_of, command_of, entry_of, without_return};
+ghost use Rattle.trace_text.specs.Answer.{Gives, view, IsKnown, IsKnownLine};
+
+use crate::line::Line;
+use crate::words::{four_words, no_words, one_word, split_first_word};
+use model::{Command, Kind};
+
+/// The most bytes that a line has before its line feed.
+const MAX_LINE_LEN: usize = 4096;
+
+const MAX_NAME_LEN: usize = 32;
+
+fn is_name_byte(byte: u8) -> bool
+    ensures { result ≡ is_name_byte byte }
+{
+    byte.is_ascii_alphanumeric() || byte == b'_' || byte == b'.' || byte == b'-'
+}
+
+fn has_name_bytes(word: &[u8]) -> bool
+    ensures { result ≡ list_all is_name_byte word.now }
+{
+    word.iter().all(|byte| is_name_byte(*byte))
+}
+
+fn is_nil(word: &[u8]) -> bool
+    ensures { result ≡ is_nil word.now }
+{
+    word == b"nil".as_slice()
+}
+
+#[tactic(auto, unfolding(crate::specs::Grammar::name_of))]
+fn name(word: &[u8]) -> Result<&[u8], Kind>
+    ensures { Gives (λ found. found.now) result (name_of word.now) }
+{
+    if word.is_empty() {
+        Err(Kind::BadName)
+    } else if word.len() > MAX_NAME_LEN {
+        Err(Kind::BadName)
+    } else if is_nil(word) {
+        Err(Kind::BadName)
+    } else if has_name_bytes(word) {
+        Ok(word)
+    } else {
+        Err(Kind::BadName)
+    }
+}
+
+fn has_digits(word: &[u8]) -> bool
+    ensures { result ≡ list_all is_ascii_digit word.now }
+{
+    word.iter().all(|byte| byte.is_ascii_digit())
+}
+
+fn number(word: &[u8]) -> Result<u64, Kind>
+    ensures { Gives (λ found. found) result (number_of word.now) }
+{
+    if !has_digits(word) {
+        return Err(Kind::BadNumber);
+    }
+    let Ok(text) = std::str::from_utf8(word) else {
+        return Err(Kind::BadNumber);
+    };
+    let Ok(value) = text.parse::<u64>() else {
+        return Err(Kind::BadNumber);
+    };
+    Ok(value)
+}
+
+#[tactic(auto, unfolding(crate::specs::Grammar::new_of))]
+fn new(rest: &[u8]) -> Result<Command<'_>, Kind>
+    ensures gives { Gives said result (four_of (words rest.now) new_of) }
+    ensures known { IfOk result IsKnown }
+{
+    let (name_word, mutator, pointers, plain) = four_words(rest)?;
+    let name = name(name_word)?;
+    let mutator = number(mutator)?;
+    let pointers = number(pointers)?;
+    let plain = number(plain)?;
+    Ok(Command::New {
+        name,
+        mutator,
+        pointers,
+        plain,
+    })
+}
+
+#[tactic(auto, unfolding(crate::specs::Grammar::drop_of))]
+fn drop_name(rest: &[u8]) -> Result<Command<'_>, Kind>
+    ensures gives { Gives said result (one_of (words rest.now) drop_of) }
+    ensures known { IfOk result IsKnown }
+{
+    let word = one_word(rest)?;
+    let name = name(word)?;
+    Ok(Command::Drop { name })
+}
+
+#[tactic(auto, unfolding(crate::specs::Grammar::collect_of))]
+fn collect(rest: &[u8]) -> Result<Command<'_>, Kind>
+    ensures gives { Gives said result (one_of (words rest.now) collect_of) }
+    ensures known { IfOk result IsKnown }
+{
+    let word = one_word(rest)?;
+    let generation = number(word)?;
+    Ok(Command::Collect { generation })
+}
+
+#[tactic(auto, unfolding(crate::specs::Grammar::command_of))]
+fn command<'a>(word: &[u8], rest: &'a [u8]) -> Result<Command<'a>, Kind>
+    ensures gives { Gives said result (command_of word.now (words rest.now)) }
+    ensures known { IfOk result IsKnown }
+{
+    if word == b"new".as_slice() {
+        new(rest)
+    } else if word == b"drop".as_slice() {
+        drop_name(rest)
+    } else if word == b"collect".as_slice() {
+        collect(rest)
+    } else if word == b"census".as_slice() {
+        no_words(rest)?;
+        Ok(Command::Census)
+    } else {
+        Err(Kind::UnknownCommand)
+    }
+}
+
+/// One carriage return at the end is taken off.
+fn without_return(line: &[u8]) -> &[u8]
+    ensures { result.now ≡ without_return line.now }
+{
+    line.strip_suffix(b"\r".as_slice()).unwrap_or(line)
+}
+
+/// One line without its line feed: what it says, or its first fault. Of the commands it knows `new`, `drop`,
+/// `collect` and `census`. It allocates nothing.
+#[tactic(auto, unfolding(crate::specs::Grammar::entry_of))]
+pub fn parse(line: &[u8]) -> Result<Line<'_>, Kind>
+    ensures gives { Gives view result (entry_of line.now) }
+    ensures known { IfOk result IsKnownLine }
+{
+    if line.len() > MAX_LINE_LEN {
+        return Err(Kind::LineTooLong);
+    }
+    let Some((first, rest)) = split_first_word(without_return(line)) else {
+        return Ok(Line::Nothing);
+    };
+    if first[0] == b'#' {
+        return Ok(Line::Nothing);
+    }
+    let command = command(first, rest)?;
+    Ok(Line::Command(command))
+}

@@ -1,0 +1,13 @@
+//! The form of one line of a trace.
+#![tactic(auto)]
+
+mod form;
+mod line;
+mod words;
+
+pub use form::parse;
+pub use line::Line;
+pub use model::{Command, Kind};
+
+#[cfg(test)]
+mod tests;

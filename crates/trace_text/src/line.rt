@@ -1,0 +1,9 @@
+use model::Command;
+
+/// A line of a trace. Its names are slices of the line.
+#[derive(Clone, Copy, Debug)]
+pub enum Line<'a> {
+    /// A blank line or a comment.
+    Nothing,
+    Command(Command<'a>),
+}
