@@ -2,6 +2,8 @@
 //! line on standard error.
 #![tactic(auto)]
 
+ghost use Rattle.std.specs.Prelude.{◌≡◌, ◌⊎◌, IfErr};
+
 use heap_text::{Counted, write_all};
 use std::process::ExitCode;
 use std::{env, io};
@@ -14,7 +16,9 @@ const NO_MEMORY: u8 = 1;
 const BAD_WORDS: u8 = 3;
 
 /// The words of the command line, or the status where they can't be had, after a line on standard error.
-fn words_of(rt: &HostRuntime) -> Result<Vec<String>, u8> {
+fn words_of(rt: &HostRuntime) -> Result<Vec<String>, u8>
+    ensures { IfErr result (λ status. (status ≡ NO_MEMORY) ⊎ (status ≡ BAD_WORDS)) }
+{
     let mut errors = Counted {
         inner: rt.stderr(),
         failed_writes: 0,
