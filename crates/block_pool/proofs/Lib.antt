@@ -3,3 +3,5 @@ pub mod WordLemmas
 pub mod BlockLemmas
 pub mod PoolLemmas
 pub mod ObjectLemmas
+pub mod WriteLemmas
+pub mod ReadLemmas

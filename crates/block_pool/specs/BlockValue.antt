@@ -1,5 +1,5 @@
 -- A block as its objects, in the order in which they were put in.
-use Rattle.std.specs.Prelude.{ℕ, ◌-◌, List, [], None, length, take, replicate, Option, refl}
+use Rattle.std.specs.Prelude.{ℕ, ◌-◌, List, [], None, length, take, replicate, slice_set, Option, refl}
 use Rattle.std.specs.List.{sum_by}
 use Rattle.std.specs.Coded.{Coded, code_by, coded×, coded_list, coded_option, coded_ℕ}
 use Rattle.layout.specs.Object.{Raw, raw_code, raw_size}
@@ -49,3 +49,11 @@ without_last objects = take (length objects - 1) objects
 -- an object with nil pointers and zero words
 abbrev pub new_object : ℕ → ℕ → Raw
 new_object p q = record { pointers = replicate p 0; plain = replicate q 0 }
+
+-- the object with the word of pointer i changed
+abbrev pub with_pointer_word : Raw → ℕ → ℕ → Raw
+with_pointer_word raw i word = record raw { pointers = slice_set raw.pointers i word }
+
+-- the object with plain word i changed
+abbrev pub with_plain_word : Raw → ℕ → ℕ → Raw
+with_plain_word raw i word = record raw { plain = slice_set raw.plain i word }

@@ -1,8 +1,8 @@
-ghost use Rattle.std.specs.Prelude.{◌≡◌, ℕ, ◌+◌, ◌<◌, ◌≤◌, ◌↔◌, [], ◌∷◌, ◌++◌, length, Some, None, IsTrue, IsSomeAnd, IfOk, IfSome, slice_get};
-ghost use Rattle.layout.specs.Object.{raw_size};
+ghost use Rattle.std.specs.Prelude.{◌≡◌, ℕ, ◌+◌, ◌<◌, ◌≤◌, ◌↔◌, [], ◌∷◌, ◌++◌, length, Some, None, IsTrue, IsSomeAnd, IfOk, IfSome, slice_get, slice_index, slice_set};
+ghost use Rattle.layout.specs.Object.{Raw, raw_size};
 ghost use Rattle.layout.specs.Header.{size_of};
 ghost use Rattle.layout.specs.ObjectRef.{raw_of};
-ghost use Rattle.block_pool.specs.BlockValue.{BlockValue, used_of, offset_of, without_last, new_object, empty_block};
+ghost use Rattle.block_pool.specs.BlockValue.{BlockValue, used_of, offset_of, without_last, new_object, empty_block, with_pointer_word, with_plain_word};
 
 use layout::ObjectRef;
 use std::alloc::{AllocError, Allocator, Global};
@@ -10,6 +10,9 @@ use std::marker::Model;
 
 /// Ordinals are counted in a header word by this.
 const ORDINAL_UNIT: u64 = 1 << 48;
+
+/// How many pointers an object has stands below this in its header word.
+const POINTER_UNIT: u64 = 1 << 24;
 
 use crate::words::{read_object, write_new, write_object};
 
@@ -170,6 +173,58 @@ impl<A: Allocator> Block<A> {
         } else {
             None
         }
+    }
+
+    /// How many pointers the object with the ordinal `k` has.
+    pub fn pointer_count(&self, k: usize) -> usize
+        requires { k < length self.now.objects }
+        ensures { (raw : Raw) → slice_get self.now.objects k ≡ Some raw → result ≡ length raw.pointers }
+    {
+        let offset = self.offsets[k] as usize;
+        (self.words[offset] % POINTER_UNIT) as usize
+    }
+
+    /// Pointer `i` of the object with the ordinal `k`.
+    pub fn pointer(&self, k: usize, i: usize) -> u64
+        requires object { k < length self.now.objects }
+        requires field { (raw : Raw) → slice_get self.now.objects k ≡ Some raw → i < length raw.pointers }
+        ensures { (raw : Raw) → slice_get self.now.objects k ≡ Some raw → result ≡ slice_index raw.pointers i }
+    {
+        let offset = self.offsets[k] as usize;
+        self.words[offset + 1 + i]
+    }
+
+    /// The ordinal of the object that begins at an offset in words, where one begins there. It reads the header alone.
+    pub fn ordinal_at(&self, offset: usize) -> usize
+        ensures { (k : ℕ) → k < length self.now.objects → offset_of self.now.objects k ≡ offset → result ≡ k }
+    {
+        if offset >= self.words.len() {
+            return 0;
+        }
+        (self.words[offset] / ORDINAL_UNIT) as usize
+    }
+
+    /// Changes pointer `i` of the object with the ordinal `k`.
+    pub fn set_pointer(&mut self, k: usize, i: usize, word: u64)
+        requires object { k < length self.old.objects }
+        requires field { (raw : Raw) → slice_get self.old.objects k ≡ Some raw → i < length raw.pointers }
+        ensures { (raw : Raw) → slice_get self.old.objects k ≡ Some raw
+            → self.new ≡ record self.old { objects = slice_set self.old.objects k (with_pointer_word raw i word) } }
+    {
+        let offset = self.offsets[k] as usize;
+        self.words[offset + 1 + i] = word;
+    }
+
+    /// Changes plain word `i` of the object with the ordinal `k`.
+    pub fn set_plain(&mut self, k: usize, i: usize, word: u64)
+        requires object { k < length self.old.objects }
+        requires field { (raw : Raw) → slice_get self.old.objects k ≡ Some raw → i < length raw.plain }
+        ensures { (raw : Raw) → slice_get self.old.objects k ≡ Some raw
+            → self.new ≡ record self.old { objects = slice_set self.old.objects k (with_plain_word raw i word) } }
+    {
+        let offset = self.offsets[k] as usize;
+        let pointers = (self.words[offset] % POINTER_UNIT) as usize;
+        self.words[offset + 1 + pointers + i] = word;
     }
 
     /// The offset in words of the object with the ordinal `k`.

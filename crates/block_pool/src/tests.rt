@@ -48,6 +48,31 @@ fn objects_lie_one_after_the_other(rt: HostRuntime) -> Result<(), Fail> {
 }
 
 #[test]
+fn a_field_is_written(rt: HostRuntime) -> Result<(), Fail> {
+    let mut block = Block::new(rt.alloc(), 16)?;
+    assert!(rt; block.fits(4));
+    block.push_new(1, 2);
+    assert!(rt; block.fits(4));
+    block.push_new(2, 1);
+    assert!(rt; 1 < block.len() && 1 < block.object(1).pointers.len());
+    block.set_pointer(1, 1, 65536);
+    assert!(rt; 0 < block.len() && 1 < block.object(0).words.len());
+    block.set_plain(0, 1, 7);
+    assert!(rt; 1 < block.len());
+    let first = block.object(0);
+    assert_eq!(rt;
+        (first.pointers, first.words),
+        ([0].as_slice(), [0, 7].as_slice())
+    );
+    let second = block.object(1);
+    assert_eq!(rt;
+        (second.pointers, second.words),
+        ([0, 65536].as_slice(), [0].as_slice())
+    );
+    Ok(())
+}
+
+#[test]
 fn an_object_is_taken_back(rt: HostRuntime) -> Result<(), Fail> {
     let mut block = Block::new(rt.alloc(), 16)?;
     assert!(rt; block.fits(3));

@@ -9,7 +9,8 @@ use Rattle.layout.specs.Place.{small_word}
 use Rattle.block_pool.specs.BlockValue.{BlockValue, used_of}
 use Rattle.heap.specs.BlockObjects.{object_of, objects_from, block_objects}
 use Rattle.heap.specs.BlockObjects.{copies_of}
-use Rattle.collector.specs.Copied.{IsCopyBlock, MakesRoom, PushesLast, AddsCopy, with_copy, opened_block, AreCopyBlocks}
+use Rattle.collector.proofs.BlockCopies.{Grows-same, Grows-then, Grows-push, Grows-last}
+use Rattle.collector.specs.Copied.{LastFits, IsCopyBlock, MakesRoom, PushesLast, AddsCopy, with_copy, opened_block, AreCopyBlocks}
 
 pub objects_from-push : (word g s : ℕ) (raws : List Raw) (raw : Raw) → objects_from word g s (raws ++ raw ∷ []) ≡ objects_from word g s raws ++ (word + sum_by raw_size raws, object_of g s raw) ∷ []
 objects_from-push word g s [] raw = let none : word + sum_by raw_size [] ≡ word = omega arith in rw none refl
@@ -53,6 +54,7 @@ adds_copy free words old mid new raw place m p =
         each = rw p.change (All-set (IsCopyBlock words) mid (length mid - 1) (with_copy p.block raw) is' m.blocks.each);
       };
       copies = rw (p.change, p.place_is) (copies_of-set_last mid (length mid - 1) p.block raw (omega arith) p.last is.generation is.step ∙ ap (λ es. es ++ (small_word p.block.number (used_of p.block), object_of 0 0 raw) ∷ []) m.copies);
+      grows = rw p.change (Grows-then old mid (set mid (length mid - 1) (with_copy p.block raw)) m.grows (Grows-last mid p.block raw some p.last));
     }
 
 copies_of-opened : (words number : ℕ) (blocks : List BlockValue) → copies_of (blocks ++ opened_block words number ∷ []) ≡ copies_of blocks
@@ -72,6 +74,7 @@ makes_room free words size old new stand small lt is =
         each = rw is (All-push (IsCopyBlock words) old opened stand.each (record { generation = refl; step = refl; words_are = refl; fits = omega (arith, empty) }));
       };
       copies = ap copies_of is ∙ copies_of-opened words (slice_index free (length old)) old;
+      grows = rw is (Grows-push old opened);
       last = record {
         some = omega arith;
         room = λ block read.
@@ -79,6 +82,10 @@ makes_room free words size old new stand small lt is =
             rw same (omega (arith, empty));
       };
     }
+
+-- the last block has room as it is
+pub has_room : (free : List ℕ) (words size : ℕ) (blocks : List BlockValue) → AreCopyBlocks free words blocks → LastFits size blocks → MakesRoom free words size blocks blocks
+has_room free words size blocks stand last = record { blocks = stand; copies = refl; grows = Grows-same blocks; last = last }
 
 -- what two clauses say of an Ok
 pub on_ok : {A B P : Type 0} {E : Type 0} (r : Result (Unit {0}) E) → OnOk r A → OnOk r B → (A → B → P) → OnOk r P

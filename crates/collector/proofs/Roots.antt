@@ -1,5 +1,5 @@
 -- Where today's collections start: at the roots.
-use Rattle.std.proofs.Common.{◌≡◌, ℕ, zero, suc, ◌+◌, ◌<◌, List, [], ◌∷◌, ◌++◌, length, map, replicate, get_or, Option, Some, None, refl, sym, ap, ◌∙◌, arith, ⊎_elim, below_more}
+use Rattle.std.proofs.Common.{◌≡◌, ℕ, zero, suc, ◌+◌, ◌<◌, List, [], ◌∷◌, ◌++◌, length, map, replicate, get_or, Option, Some, None, refl, sym, ap, ◌∙◌, arith, ⊎_elim, inl, below_more}
 use Rattle.std.proofs.lemmas.Bool.{cases_eq}
 use Rattle.std.proofs.lemmas.List.{length-map, get_or-map}
 use Rattle.std.proofs.lemmas.List.Elements.{All-nil}
@@ -12,7 +12,8 @@ use Rattle.heap.specs.declared.collection.Slot.{Slot}
 use Rattle.std.specs.Ordering.{nat_cmp}
 use Rattle.std.specs.FinMap.{find, entries, get-entries}
 use Rattle.model.specs.Graph.{Object, object_at, IsClosed}
-use Rattle.model.specs.Live.{IsRooted, IsYoung}
+use Rattle.model.specs.Live.{IsRooted, IsYoung, Live}
+use Rattle.model.specs.Reached.{first}
 use Rattle.model.specs.OldSlots.{old_slots}
 use Rattle.model.proofs.NatMap.{find_same, find_other}
 use Rattle.layout.specs.declared.place.Place.{Place}
@@ -20,7 +21,7 @@ use Rattle.block_pool.specs.BlockValue.{BlockValue}
 use Rattle.heap.specs.HeapValue.{HeapValue}
 use Rattle.heap.specs.Plain.{IsPlainHeap}
 use Rattle.heap.specs.CollectionValue.{CollectionValue, SlotValue, IsOpened, root_slot, field_slot_of, target_of_slot, young_names}
-use Rattle.collector.specs.Copied.{HasCopied, HasDone, CopiesName, CopiesRooted, IsWon}
+use Rattle.collector.specs.Copied.{HasCopied, HasDone, HasRooted, StaysWon, IsWon}
 use Rattle.collector.proofs.Finds.{some_is, some_not_none}
 use Rattle.heap.proofs.Names.{find_entry, entries-rise}
 
@@ -67,23 +68,23 @@ rooted_young heap g name closed plain rooted =
     let there : (o : Object) × (object_at heap.graph name ≡ Some o) = closed.roots rooted.root name rooted.leads in
     record { object = there.0; there = there.1; young = omega (arith, (plain.objects name there.0 there.1).generation) }
 
+-- what a root leads to is live
+pub rooted_live : (heap : HeapValue) (g name : ℕ) → IsClosed heap.graph → IsPlainHeap heap → IsRooted heap.graph name → Live heap.graph g name
+rooted_live heap g name closed plain rooted = first (rooted_young heap g name closed plain rooted, inl rooted)
+
 -- a slot more
-pub done_more : (heap : HeapValue) (g name : ℕ) (slots : List SlotValue) (count : ℕ) (old_won : List (ℕ × ℕ)) (places : List (Option Place)) (blocks : List BlockValue) (won : List (ℕ × ℕ)) (scanned : List ℕ) → HasDone heap g slots count old_won → name ≡ get_or (map target_of_slot slots) count 0 → CopiesName heap g name old_won places blocks won scanned → HasDone heap g slots (count + 1) won
-done_more heap g name slots count old_won places blocks won scanned done is copies =
-    record { won_is = below_more (λ k. IsWon (young_names heap.graph g) won (slice_index (map target_of_slot slots) k)) count (λ k lt. copies.kept _ (done.won_is k lt)) (rw (← is) copies.is_won) }
+pub done_more : (heap : HeapValue) (g name : ℕ) (slots : List SlotValue) (count : ℕ) (old_won won : List (ℕ × ℕ)) → HasDone heap g slots count old_won → name ≡ get_or (map target_of_slot slots) count 0 → StaysWon (young_names heap.graph g) old_won won → IsWon (young_names heap.graph g) won name → HasDone heap g slots (count + 1) won
+done_more heap g name slots count old_won won done is stays now =
+    record { won_is = below_more (λ k. IsWon (young_names heap.graph g) won (slice_index (map target_of_slot slots) k)) count (λ k lt. stays _ (done.won_is k lt)) (rw (← is) now) }
 
 -- after the last slot all that roots lead to is won
-pub copies_rooted : (heap : HeapValue) (c : CollectionValue) (places : List (Option Place)) (blocks : List BlockValue) (won : List (ℕ × ℕ)) (scanned : List ℕ) → IsPlainHeap heap → IsOpened heap c.generation c → HasCopied heap c.generation places blocks won scanned → HasDone heap c.generation c.slots (length c.slots) won → CopiesRooted heap c.generation places blocks won scanned
-copies_rooted heap c places blocks won scanned plain opened copied done =
-    record {
-      copied = copied;
-      all = λ name rooted.
-          let same = slot_targets heap c plain opened in
-          let count : length (entries heap.graph.roots) ≡ length c.slots = sym (length-map (entries heap.graph.roots) (λ (e : ℕ × ℕ). e.1)) ∙ sym (ap length same) ∙ length-map c.slots target_of_slot in
-          let at = value_at rooted.root name (entries heap.graph.roots) (sym (get-entries heap.graph.roots rooted.root) ∙ rooted.leads) in
-          let target : get_or (map target_of_slot c.slots) at.0 0 ≡ name = ap (λ ts. get_or ts at.0 0) same ∙ at.2 in
-          rw target at (done.won_is at.0 (omega (arith, at.1)));
-    }
+pub has_rooted : (heap : HeapValue) (c : CollectionValue) (won : List (ℕ × ℕ)) → IsPlainHeap heap → IsOpened heap c.generation c → HasDone heap c.generation c.slots (length c.slots) won → HasRooted heap c.generation won
+has_rooted heap c won plain opened done = λ name rooted.
+    let same = slot_targets heap c plain opened in
+    let count : length (entries heap.graph.roots) ≡ length c.slots = sym (length-map (entries heap.graph.roots) (λ (e : ℕ × ℕ). e.1)) ∙ sym (ap length same) ∙ length-map c.slots target_of_slot in
+    let at = value_at rooted.root name (entries heap.graph.roots) (sym (get-entries heap.graph.roots rooted.root) ∙ rooted.leads) in
+    let target : get_or (map target_of_slot c.slots) at.0 0 ≡ name = ap (λ ts. get_or ts at.0 0) same ∙ at.2 in
+    rw target at (done.won_is at.0 (omega (arith, at.1)))
 
 -- the word of a slot's target
 pub target_at : (slots : List Slot) (k : ℕ) (slot : Slot) (word : ℕ) → k < length slots → slot ≡ get_or slots k slot → word ≡ target_of_slot (slot_value slot) → word ≡ get_or (map target_of_slot (map slot_value slots)) k 0
@@ -107,14 +108,16 @@ unfolding IsDistinct
 distinct_none = tt
 
 -- nothing is copied yet
-pub copied_none : (heap : HeapValue) (g cells : ℕ) (scanned : List ℕ) (places : List (Option Place)) (blocks : List BlockValue) (won : List (ℕ × ℕ)) → cells ≡ length (young_names heap.graph g) → places ≡ replicate cells None → blocks ≡ [] → won ≡ [] → scanned ≡ [] → HasCopied heap g places blocks won scanned
+pub copied_none : (heap : HeapValue) (g cells : ℕ) (scanned : List ℕ) (places : List (Option Place)) (blocks : List BlockValue) (won : List (ℕ × ℕ)) → cells ≡ length (young_names heap.graph g) → places ≡ replicate cells None → blocks ≡ [] → won ≡ [] → scanned ≡ [] → HasCopied heap g places blocks won scanned 0
 copied_none heap g cells scanned places blocks won count p b w s =
     rw (p, b, w, s) (record {
       places_count = length-nones cells ∙ count;
       same_places = λ q. nones cells q;
       once = distinct_none;
-      rooted = All-nil _;
+      live = All-nil _;
       blocks_are = record { numbers = refl; few = omega arith; each = All-nil _ };
       copies = refl;
+      leads = tt;
       scans = refl;
+      in_order = inl refl;
     })

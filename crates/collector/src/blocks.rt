@@ -1,13 +1,21 @@
 //! The blocks that copies go to.
-ghost use Rattle.std.specs.Prelude.{◌≡◌, ℕ, ◌+◌, ◌<◌, ◌≤◌, ◌↔◌, [], ◌∷◌, ◌++◌, length, slice_index, IsTrue, OnOk, IfOk, Err};
-ghost use Rattle.layout.specs.Object.{raw_size};
+ghost use Rattle.std.specs.Prelude.{◌≡◌, ◌+◌, ◌<◌, ◌≤◌, ◌↔◌, [], ◌∷◌, ◌++◌, length, slice_index, slice_index_or, slice_set, IsTrue, OnOk, IfOk, Err};
+ghost use Rattle.layout.specs.Object.{Raw, raw_size};
+ghost use Rattle.block_pool.specs.BlockValue.{BlockValue, offset_of, with_pointer_word};
 ghost use Rattle.layout.specs.ObjectRef.{raw_of};
-ghost use Rattle.layout.specs.Place.{place_word};
-ghost use Rattle.collector.specs.Copied.{AreBlockNumbers, AreCopyBlocks, LastFits, IsFull, MakesRoom, AddsCopy, PushesLast, opened_block};
+ghost use Rattle.layout.specs.Place.{place_word, small_word};
+ghost use Rattle.collector.specs.Copied.{AreBlockNumbers, AreCopyBlocks, LastFits, IsFull, MakesRoom, AddsCopy, PushesLast, HasOrdinal, opened_block};
 
 use block_pool::Block;
 use layout::{ObjectRef, Place};
 use std::alloc::{AllocError, AllocFailed, Allocator};
+
+/// The first object that is not scanned: in which of the blocks, and its ordinal there.
+#[derive(Clone, Copy, Debug)]
+pub(crate) struct ScanPoint {
+    pub(crate) block: usize,
+    pub(crate) ordinal: usize,
+}
 
 /// Why an object was not copied.
 #[derive(Clone, Copy, Debug, PartialEq, Eq)]
@@ -127,4 +135,66 @@ pub(crate) fn copy_object<A: Allocator + Clone>(
 {
     make_room(alloc, blocks, free, words, object.size() as usize)?;
     Ok(push_last(blocks, object))
+}
+
+/// The word of a pointer of the object with an ordinal in one of the blocks.
+pub(crate) fn pointer_word<A: Allocator>(blocks: &[Block<A>], at: ScanPoint, field: usize) -> u64
+    requires in_blocks { at.block < length blocks.now }
+    requires in_block { HasOrdinal blocks.now at.block at.ordinal }
+    requires field { (d : BlockValue) (r : Raw)
+        → field < length (slice_index_or (slice_index_or blocks.now at.block d).objects at.ordinal r).pointers }
+    ensures { (d : BlockValue) (r : Raw)
+        → result ≡ slice_index (slice_index_or (slice_index_or blocks.now at.block d).objects at.ordinal r).pointers field }
+{
+    blocks[at.block].pointer(at.ordinal, field)
+}
+
+/// How many pointers that object has.
+pub(crate) fn pointer_count<A: Allocator>(blocks: &[Block<A>], at: ScanPoint) -> usize
+    requires in_blocks { at.block < length blocks.now }
+    requires in_block { HasOrdinal blocks.now at.block at.ordinal }
+    ensures { (d : BlockValue) (r : Raw)
+        → result ≡ length (slice_index_or (slice_index_or blocks.now at.block d).objects at.ordinal r).pointers }
+{
+    blocks[at.block].pointer_count(at.ordinal)
+}
+
+/// Makes a pointer of that object lead to a place.
+pub(crate) fn write_pointer<A: Allocator>(
+    blocks: &mut [Block<A>],
+    at: ScanPoint,
+    field: usize,
+    place: Place,
+)
+    requires in_blocks { at.block < length blocks.old }
+    requires in_block { HasOrdinal blocks.old at.block at.ordinal }
+    requires field { (d : BlockValue) (r : Raw)
+        → field < length (slice_index_or (slice_index_or blocks.old at.block d).objects at.ordinal r).pointers }
+    ensures { (block : BlockValue) (raw : Raw) → block ≡ slice_index_or blocks.old at.block block
+        → raw ≡ slice_index_or block.objects at.ordinal raw
+        → blocks.new ≡ slice_set blocks.old at.block
+        (record block { objects = slice_set block.objects at.ordinal (with_pointer_word raw field (place_word place)) }) }
+{
+    let block = &mut blocks[at.block];
+    block.set_pointer(at.ordinal, field, place.to_word());
+}
+
+/// Where that object stands.
+pub(crate) fn place_at<A: Allocator>(blocks: &[Block<A>], at: ScanPoint) -> Place
+    requires in_blocks { at.block < length blocks.now }
+    requires in_block { HasOrdinal blocks.now at.block at.ordinal }
+    ensures { (d : BlockValue) → place_word result
+        ≡ small_word (slice_index_or blocks.now at.block d).number (offset_of (slice_index_or blocks.now at.block d).objects at.ordinal) }
+{
+    let block = &blocks[at.block];
+    Place::small(block.number() as u16, block.offset(at.ordinal) as u16)
+}
+
+/// How many objects a block holds.
+pub(crate) fn object_count<A: Allocator>(blocks: &[Block<A>], block: usize) -> usize
+    requires { block < length blocks.now }
+    ensures value { (d : BlockValue) → result ≡ length (slice_index_or blocks.now block d).objects }
+    ensures in_words { (d : BlockValue) → result ≤ (slice_index_or blocks.now block d).words }
+{
+    blocks[block].len()
 }

@@ -1,15 +1,19 @@
 //! Collections.
 #![tactic(auto)]
 
-ghost use Rattle.std.specs.Prelude.{◌≡◌, ◌↔◌, ◌≤◌, [], IfOk, OnErr, Err};
+ghost use Rattle.std.specs.Prelude.{◌≡◌, ◌↔◌, ◌≤◌, [], map, IfOk, OnErr, Err};
+ghost use Rattle.layout.specs.Place.{place_word};
+ghost use Rattle.heap.specs.ReportView.{won_value};
 ghost use Rattle.collector.specs.Collects.{CollectsAlone};
+ghost use Rattle.collector.specs.Copied.{HasScanned, IsReady};
 
 mod blocks;
 mod copier;
+mod scan;
 
 use crate::blocks::CopyError;
-use crate::copier::copy_slots;
-use heap::{Heap, OpenError, Report, Settled, WorkerReport};
+use crate::copier::Copier;
+use heap::{Collection, Heap, OpenError, Report, Settled, WorkerReport};
 use std::alloc::{AllocError, AllocFailed, Allocator};
 
 /// Why a collection was not carried out. The heap is as before.
@@ -71,6 +75,25 @@ impl<T: Drop> From<AllocFailed<T>> for CollectError {
     }
 }
 
+/// Copies all that the slots of a collection lead to, and what is reached from there.
+fn copy_live<A: Allocator + Clone>(
+    alloc: A,
+    heap: &Heap<A>,
+    collection: &Collection<A>,
+) -> Result<Copier<A>, CopyError>
+    requires { IsReady heap.now collection.now }
+    ensures { IfOk result (λ copier. HasScanned heap.now collection.now.generation copier.places.items copier.blocks.items
+        (map won_value copier.won.items) (map place_word copier.scanned.items)) }
+{
+    let slots = collection.slots();
+    let mut copier = Copier::new(alloc.clone()?, collection.cells() as usize)?;
+    for slot in slots {
+        copier.forward(alloc.clone()?, heap, collection, slot.target())?;
+    }
+    copier.scan_all(alloc, heap, collection)?;
+    Ok(copier)
+}
+
 /// Collects the generations 0 to `g` with one worker, and starts no thread.
 pub fn collect_one<A: Allocator + Clone>(
     alloc: A,
@@ -86,7 +109,7 @@ pub fn collect_one<A: Allocator + Clone>(
         return Err(CollectError::NoGeneration);
     }
     let collection = heap.open_collection(alloc.clone()?, g)?;
-    let copier = copy_slots(alloc.clone()?, heap, &collection)?;
+    let copier = copy_live(alloc.clone()?, heap, &collection)?;
     let mut workers = Vec::with_capacity(alloc.clone()?, 1)?;
     workers.push(WorkerReport::new(copier.won, copier.scanned))?;
     let settled = Settled {

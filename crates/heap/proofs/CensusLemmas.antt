@@ -1,9 +1,10 @@
 -- The counts of a heap's objects, block by block.
-use Rattle.std.proofs.Common.{◌≡◌, ℕ, zero, suc, ◌+◌, ◌/◌, ◌≤◌, Bool, true, false, cond, List, [], ◌∷◌, ◌++◌, length, map, Option, Some, None, sum_by, filter, replicate, refl, sym, ap, ◌∙◌, arith, length-append}
+use Rattle.std.proofs.Common.{◌≡◌, ℕ, zero, suc, ◌+◌, ◌/◌, ◌≤◌, Bool, true, false, cond, List, [], ◌∷◌, ◌++◌, length, map, Option, Some, None, sum_by, filter, replicate, refl, ap, ◌∙◌, arith, length-append}
 use Rattle.std.proofs.lemmas.Bool.Decides.{nat_tests}
 use Rattle.std.proofs.lemmas.List.Sums.{sum_by-cons, sum_by-append}
 use Rattle.std.specs.Prelude.{nat_lt, count_by}
 use Rattle.std.specs.List.{list_any}
+use Rattle.std.specs.Option.{option_map_or}
 use Rattle.model.specs.Graph.{Object, size_of, is_large}
 use Rattle.model.specs.Config.{Config}
 use Rattle.model.specs.Census.{is_small_at, points_to, points_younger}
@@ -13,7 +14,7 @@ use Rattle.block_pool.specs.BlockValue.{BlockValue, words_of}
 use Rattle.heap.specs.Plain.{IsPlain, ArePlain}
 use Rattle.heap.specs.Words.{target_of_word}
 use Rattle.heap.specs.BlockObjects.{object_of, objects_from}
-use Rattle.heap.specs.Table.{slot_at, slot_objects, table_objects, slot_len, slot_words, AreSmallAndNil, IsHeapBlock}
+use Rattle.heap.specs.Table.{slot_at, slot_objects, table_objects, slot_len, slot_words, AreSmall, IsHeapBlock}
 
 abbrev pub values_of : List (ℕ × Object) → List Object
 values_of es = map (λ e. e.1) es
@@ -30,19 +31,18 @@ pub map-nil : (n : ℕ) → map target_of_word (replicate n 0) ≡ replicate n N
 map-nil zero = refl
 map-nil (suc n) = ap (λ xs. None ∷ xs) (map-nil n)
 
-pub object_of-plain : (w : ℕ) (raw : Raw) → raw_size raw ≤ w / 4 → raw.pointers ≡ replicate (length raw.pointers) 0 → IsPlain w (object_of 0 0 raw)
-object_of-plain w raw small nil =
+pub object_of-plain : (w : ℕ) (raw : Raw) → raw_size raw ≤ w / 4 → IsPlain w (object_of 0 0 raw)
+object_of-plain w raw small =
     let same : length (map target_of_word raw.pointers) ≡ length raw.pointers = length-map target_of_word raw.pointers in
     record {
       generation = refl;
       step = refl;
       small = omega arith;
-      nil = ap (map target_of_word) nil ∙ map-nil (length raw.pointers) ∙ ap (λ n. replicate n None) (sym same);
     }
 
-objects_from-plain : (w word : ℕ) (raws : List Raw) → AreSmallAndNil w raws → ArePlain w (values_of (objects_from word 0 0 raws))
+objects_from-plain : (w word : ℕ) (raws : List Raw) → AreSmall w raws → ArePlain w (values_of (objects_from word 0 0 raws))
 objects_from-plain w word [] h = tt
-objects_from-plain w word (r ∷ raws) h = (object_of-plain w r h.0 h.1, objects_from-plain w (word + raw_size r) raws h.2)
+objects_from-plain w word (r ∷ raws) h = (object_of-plain w r h.0, objects_from-plain w (word + raw_size r) raws h.1)
 
 -- each block is one of the heap's
 abbrev pub AreHeapBlocks : Config → ℕ → List (Option BlockValue) → Type 0
@@ -94,12 +94,21 @@ small_plain w o plain =
 pub not_large_plain : (w : ℕ) (o : Object) → IsPlain w o → is_large w o ≡ false
 not_large_plain w o plain = grind (arith, nat_tests, plain.small)
 
-any-nil : (test : Option ℕ → Bool) (n : ℕ) → test None ≡ false → list_any test (replicate n None) ≡ false
-any-nil test zero is = refl
-any-nil test (suc n) is = rw is (any-nil test n is)
+any-none : (test : Option ℕ → Bool) (ps : List (Option ℕ)) → ((p : Option ℕ) → test p ≡ false) → list_any test ps ≡ false
+any-none test [] is = refl
+any-none test (p ∷ ps) is = rw (is p) (any-none test ps is)
+
+-- no object is younger than one of generation 0
+points_none : (object : ℕ → Option Object) (o : Object) → o.generation ≡ 0 → (p : Option ℕ) → points_to (λ target. nat_lt target.generation o.generation) object p ≡ false
+points_none object o first None = refl
+points_none object o first (Some name) = go (object name)
+  where
+    go : (x : Option Object) → option_map_or (λ target. nat_lt target.generation o.generation) x false ≡ false
+    go None = refl
+    go (Some target) = grind (arith, nat_tests, first)
 
 pub points_plain : (object : ℕ → Option Object) (w : ℕ) (o : Object) → IsPlain w o → points_younger object o ≡ false
-points_plain object w o plain = ap (list_any (points_to (λ target. nat_lt target.generation o.generation) object)) plain.nil ∙ any-nil _ (length o.pointers) refl
+points_plain object w o plain = any-none _ o.pointers (points_none object o plain.generation)
 
 count-none : (p : Object → Bool) (w : ℕ) (os : List Object) → ((o : Object) → IsPlain w o → p o ≡ false) → ArePlain w os → count_by p os ≡ 0
 count-none p w [] each plain = refl

@@ -1,27 +1,27 @@
 -- After a commit the heap is the collected one.
 use Rattle.std.proofs.Common.{◌≡◌, ℕ, zero, suc, ◌*◌, ◌-◌, ◌<◌, Bool, true, false, cond, List, [], ◌∷◌, map, replicate, Option, Some, None, refl, sym, ap, subst, ◌∙◌, arith, ⊎_elim, inl, inr}
 use Rattle.std.proofs.lemmas.Bool.{true≢false}
-use Rattle.std.specs.Prelude.{is_some, slice_index_or, unwrap_or, nat_eq}
+use Rattle.std.specs.Prelude.{slice_index_or, unwrap_or, nat_eq}
 use Rattle.std.specs.List.{IsDistinct}
 use Rattle.std.specs.Option.{option_map}
 use Rattle.std.specs.Ordering.{nat_cmp, eq_by_cmp}
 use Rattle.std.specs.FinMap.{get, find, entries, get-entries, get-empty}
-use Rattle.model.specs.Graph.{Object}
+use Rattle.model.specs.Graph.{Object, IsClosed}
 use Rattle.model.specs.Live.{Live}
 use Rattle.model.specs.Reached.{has}
 use Rattle.model.specs.Collected.{Collected, renamed, moved_to}
 use Rattle.model.specs.Destination.{dest}
 use Rattle.model.specs.Room.{Room}
 use Rattle.model.proofs.Has.{has_none}
-use Rattle.model.proofs.LiveLemmas.{Live-young}
+use Rattle.model.proofs.ClosedLemmas.{closed_collected}
 use Rattle.model.proofs.NatMap.{find_same}
 use Rattle.layout.specs.Object.{Raw}
 use Rattle.layout.specs.declared.place.Place.{Place}
-use Rattle.layout.specs.Place.{place_word, small_word}
+use Rattle.layout.specs.Place.{small_word}
 use Rattle.block_pool.specs.BlockValue.{BlockValue}
 use Rattle.heap.specs.ConfigRange.{IsInRange}
 use Rattle.heap.specs.HeapValue.{nursery_count}
-use Rattle.heap.specs.HeapView.{heap_of, LeadsToObjects}
+use Rattle.heap.specs.HeapView.{heap_of}
 use Rattle.heap.specs.Plain.{IsPlain}
 use Rattle.heap.specs.Roots.{roots_map, root_word, renamed_word}
 use Rattle.heap.specs.Space.{SpaceValue, IsReplaced}
@@ -36,9 +36,8 @@ use Rattle.heap.proofs.CensusLemmas.{not_large_plain, points_plain}
 use Rattle.heap.proofs.Installed.{numbers_of, EachFits, find-copies}
 use Rattle.heap.proofs.Replacing.{all_numbers, installed-some}
 use Rattle.heap.proofs.RootMap.{get-roots}
-use Rattle.heap.proofs.SettledLemmas.{rooted_live}
 use Rattle.heap.proofs.TableLemmas.{IsWordOf}
-use Rattle.heap.proofs.WonNames.{some_is, some_not_none}
+use Rattle.heap.proofs.WonNames.{some_not_none}
 
 find_pairs : (f : ℕ → ℕ) (es : List (ℕ × ℕ)) (n : ℕ) → find nat_cmp n (map {B = ℕ × ℕ} (λ e. (e.0, f e.1)) es) ≡ option_map f (find nat_cmp n es)
 find_pairs f [] n = refl
@@ -60,10 +59,6 @@ none_distinct : IsDistinct nat_eq []
 unfolding IsDistinct
 none_distinct = tt
 
-from_place : (f : ℕ → ℕ) (o : Option Place) (w : ℕ) → Some w ≡ option_map f (option_map place_word o) → (q : Place) × (o ≡ Some q) × (w ≡ f (place_word q))
-from_place f None w e = absurd (some_not_none e)
-from_place f (Some q) w e = (q, refl, some_is e)
-
 first_object : (number : ℕ) (block : BlockValue) → (block.objects ≡ [] → ⊥) → (o : Object) × (find nat_cmp (small_word number 0) (slot_objects number (Some block)) ≡ Some o)
 first_object number block some = go block.objects some
   where
@@ -75,7 +70,7 @@ module _ (space space' : SpaceValue) (slots slots' : List (Option Place)) (colle
     (in_range : IsInRange space.config)
     (plain : (name : ℕ) (o : Object) → get space.objects name ≡ Some o → IsPlain space.config.block_words o)
     (plain' : (name : ℕ) (o : Object) → get space'.objects name ≡ Some o → IsPlain space'.config.block_words o)
-    (leads : LeadsToObjects space slots)
+    (closed : IsClosed (heap_of space slots).graph)
     (settled : IsSettled (heap_of space slots) collection places blocks won)
     (fits : EachFits blocks)
     (replaced : IsReplaced space blocks space')
@@ -106,12 +101,9 @@ module _ (space space' : SpaceValue) (slots slots' : List (Option Place)) (colle
     roots = λ root. get-roots slots' root ∙ root_is root ∙ ap (option_map _) (sym (get-roots slots root));
   }
 
-  pub now_leads : LeadsToObjects space' slots'
-  now_leads root place is =
-      let from = from_place (renamed (renaming_of (young_names (heap_of space slots).graph collection.generation) won)) (slice_index_or slots root None) (place_word place) (ap (option_map place_word) (sym is) ∙ root_is root) in
-      let live = rooted_live space slots collection places blocks won in_range plain settled leads root from.0 from.1 in
-      let young = Live-young (heap_of space slots).graph collection.generation (place_word from.0) live in
-      ap (λ w. is_some (get space'.objects w)) from.2 ∙ ap is_some (live_copy (place_word from.0) young.object live young.there)
+  -- each pointer and root leads to an object again
+  pub now_closed : IsClosed (heap_of space' slots').graph
+  now_closed = closed_collected _ _ _ _ _ _ closed collected
 
   is_in_free : (place : ℕ) → IsIn (numbers_of blocks) place → IsIn space.free place
   is_in_free place at = (at.0, (at.1.0, (at.1.1.0, at.1.1.1, all_numbers blocks space.free at.0 settled.were_free at.1.1.2)))

@@ -1,13 +1,12 @@
 -- A heap as its blocks and roots show it.
-use Rattle.std.proofs.Common.{◌≡◌, ◌≢◌, ℕ, zero, suc, ◌-◌, ◌*◌, Bool, true, false, cond, List, [], ◌∷◌, ◌++◌, length, map, filter, replicate, Option, Some, None, sum_by, refl, sym, ap, subst, ◌∙◌, arith, ⊎_elim}
-use Rattle.std.proofs.lemmas.Bool.{cases_eq}
+use Rattle.std.proofs.Common.{◌≡◌, ℕ, ◌-◌, ◌*◌, Bool, true, false, cond, List, [], ◌∷◌, ◌++◌, length, map, filter, replicate, Option, Some, None, sum_by, refl, sym, ap, subst, ◌∙◌, arith}
 use Rattle.std.proofs.lemmas.List.{append-nil}
-use Rattle.std.specs.Prelude.{nat_le, IsSome, is_some, slice_get, slice_index_or, option_and_then}
+use Rattle.std.specs.Prelude.{nat_le, IsSome, is_some}
 use Rattle.std.specs.List.{list_any}
 use Rattle.std.specs.Option.{option_map, option_map_or}
 use Rattle.std.specs.Ordering.{nat_cmp, eq_by_cmp}
 use Rattle.std.specs.Cmp.{unsigned_tied}
-use Rattle.std.specs.FinMap.{FinMap, get, insert, empty, entries, keys, contains_key-keys}
+use Rattle.std.specs.FinMap.{FinMap, get, empty, entries, keys, contains_key-keys}
 use Rattle.model.specs.Config.{Config}
 use Rattle.model.specs.Graph.{Graph, Object, object_at, size_of, is_large, IsClosed}
 use Rattle.model.specs.Live.{IsYoung}
@@ -18,7 +17,6 @@ use Rattle.model.specs.Room.{full_room}
 use Rattle.model.specs.Slots.{slots_from}
 use Rattle.model.specs.OldSlots.{is_young_name, old_slots}
 use Rattle.model.proofs.Has.{has_head, has_tail}
-use Rattle.model.proofs.NatMap.{get-insert_same, get-insert_other}
 use Rattle.layout.specs.declared.place.Place.{Place}
 use Rattle.layout.specs.Place.{place_word}
 use Rattle.heap.specs.ConfigRange.{IsInRange}
@@ -93,50 +91,11 @@ slots_are heap one =
     let none : old_slots heap.graph heap.config.shape.generations 0 ≡ [] = rw one refl in
     ap (λ os. map (λ e. root_slot e.0 e.1) (entries heap.graph.roots) ++ map field_slot_of os) none ∙ append-nil (map (λ e. root_slot e.0 e.1) (entries heap.graph.roots))
 
-nil_field : (n i : ℕ) (target : ℕ) → slice_get (replicate n (let none : Option ℕ = None in none)) i ≡ Some (Some target) → ⊥
-nil_field zero i target e = cc
-nil_field (suc n) zero target e = cc
-nil_field (suc n) (suc i) target e = nil_field n i target e
-
-pub closed_is : (space : SpaceValue) (slots : List (Option Place)) → LeadsToObjects space slots → ((name : ℕ) (o : Object) → get space.objects name ≡ Some o → IsPlain space.config.block_words o) → IsClosed (heap_of space slots).graph
-closed_is space slots leads plain = record {
-  fields = λ name i target e. absurd (no_field name i target (get space.objects name) refl e);
-  roots = λ root target e. rooted root target (slice_index_or slots root None) refl (sym (get-roots slots root) ∙ e);
-}
-  where
-    no_field : (name i target : ℕ) (o : Option Object) → get space.objects name ≡ o → option_and_then (λ x. slice_get x.pointers i) (get space.objects name) ≡ Some (Some target) → ⊥
-    no_field name i target None is e = let e' : ◌≡◌ {A = Option (Option ℕ)} None (Some (Some target)) = rw is at e in cc
-    no_field name i target (Some x) is e =
-        let e' : slice_get x.pointers i ≡ Some (Some target) = rw is at e in
-        nil_field (length x.pointers) i target (ap (λ ps. slice_get ps i) (sym (plain name x is).nil) ∙ e')
-
-    object_of_some : (o : Option Object) → IsSome o → (x : Object) × (o ≡ Some x)
-    object_of_some None h = absurd (cc)
-    object_of_some (Some x) h = (x, refl)
-
-    rooted : (root target : ℕ) (p : Option Place) → slice_index_or slots root None ≡ p → option_map place_word (slice_index_or slots root None) ≡ Some target → (o : Object) × (get space.objects target ≡ Some o)
-    rooted root target None is e = let e' : ◌≡◌ {A = Option ℕ} None (Some target) = rw is at e in absurd (cc)
-    rooted root target (Some place) is e =
-        let e' : Some (place_word place) ≡ Some target = rw is at e in
-        let same : place_word place ≡ target = cc in
-        subst (λ t. (o : Object) × (get space.objects t ≡ Some o)) same (object_of_some (get space.objects (place_word place)) (leads root place is))
-
--- a new object and a root to it
-pub leads_more : (space space' : SpaceValue) (slots slots' : List (Option Place)) (key name : ℕ) (object : Object) (place : Place) → LeadsToObjects space slots → space'.objects ≡ insert space.objects name object → place_word place ≡ name → slice_index_or slots' key None ≡ Some place → ((other : ℕ) → other ≢ key → slice_index_or slots' other None ≡ slice_index_or slots other None) → LeadsToObjects space' slots'
-leads_more space space' slots slots' key name object place leads objects word here others = λ root p is.
-    ⊎_elim
-    (λ e.
-    let same : Some place ≡ Some p = sym here ∙ ap (λ k. slice_index_or slots' k None) (sym e) ∙ is in
-    let same' : place ≡ p = cc in
-    rw (objects, ← same', word) (ap is_some (get-insert_same space.objects name object)))
-    (λ ne. rw objects (kept (place_word p) (leads root p (sym (others root ne) ∙ is))))
-    (cases_eq root key)
-  where
-    kept : (q : ℕ) → IsSome (get space.objects q) → IsSome (get (insert space.objects name object) q)
-    kept q some = ⊎_elim
-        (λ e. ap (λ n. is_some (get (insert space.objects name object) n)) e ∙ ap is_some (get-insert_same space.objects name object))
-        (λ ne. ap is_some (get-insert_other space.objects name object q ne) ∙ some)
-        (cases_eq q name)
+-- each root leads to an object
+pub leads_is : (space : SpaceValue) (slots : List (Option Place)) → IsClosed (heap_of space slots).graph → LeadsToObjects space slots
+leads_is space slots closed root place is =
+    let there = closed.roots root (place_word place) (get-roots slots root ∙ ap (option_map place_word) is) in
+    ap is_some there.1
 
 -- where every object is of generation 0, each one is young
 pub first_young : (objects : FinMap nat_cmp Object) (roots : FinMap nat_cmp ℕ) (name : ℕ) (g : ℕ) (block_words : ℕ) → ((q : ℕ) (o : Object) → get objects q ≡ Some o → IsPlain block_words o) → IsSome (get objects name) → IsYoung (record { objects = objects; roots = roots }) g name

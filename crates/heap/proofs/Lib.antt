@@ -13,9 +13,13 @@ pub mod Installing
 pub mod Sound
 pub mod Replacing
 pub mod Located
+pub mod Changed
+pub mod FieldWrites
+pub mod Places
 pub mod Empty
 pub mod HeapLemmas
 pub mod Allocating
+pub mod Storing
 pub mod RootSlots
 pub mod OpenedHeap
 pub mod Rewriting

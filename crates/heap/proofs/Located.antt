@@ -1,6 +1,8 @@
 -- Objects by place and by number.
-use Rattle.std.proofs.Common.{◌≡◌, ◌≢◌, ℕ, zero, suc, ◌+◌, ◌*◌, ◌<◌, ◌≤◌, List, [], ◌∷◌, length, get_or, Option, Some, None, sum_by, refl, ap, ◌∙◌, arith, ⊎_elim}
-use Rattle.std.proofs.lemmas.Bool.{cases_lt}
+use Rattle.std.proofs.Common.{◌≡◌, ◌≢◌, ℕ, zero, suc, ◌+◌, ◌*◌, ◌<◌, ◌≤◌, List, [], ◌∷◌, length, get_or, take, Option, Some, None, sum_by, refl, ap, ◌∙◌, arith, ⊎_elim}
+use Rattle.std.proofs.lemmas.Bool.{cases_lt, cases_eq}
+use Rattle.std.proofs.lemmas.Option.{slice_get-get_or}
+use Rattle.model.proofs.NatMap.{find_other}
 use Rattle.std.proofs.lemmas.List.Sums.{sum_by-cons, sum_by_more_le, sum_by-le}
 use Rattle.std.specs.Prelude.{slice_get, IsSome, All}
 use Rattle.std.specs.Ordering.{nat_cmp}
@@ -11,7 +13,7 @@ use Rattle.layout.specs.Object.{Raw, raw_size}
 use Rattle.layout.specs.Place.{small_word, large_word}
 use Rattle.block_pool.specs.BlockValue.{BlockValue, used_of, words_of, offset_of}
 use Rattle.block_pool.specs.PoolValue.{PoolValue}
-use Rattle.heap.specs.BlockObjects.{object_of}
+use Rattle.heap.specs.BlockObjects.{object_of, objects_from}
 use Rattle.heap.specs.CollectionValue.{rank_below}
 use Rattle.heap.specs.Table.{slot_at, slot_objects, table_objects, slot_len, objects_before, IsHeapBlock}
 use Rattle.heap.specs.Space.{IsSoundSpace}
@@ -29,6 +31,21 @@ pub record Begins (table : List (Option BlockValue)) (number offset ordinal : �
   pub in_block : ordinal < length block.objects
   pub at : offset_of block.objects ordinal ≡ offset
   pub is : slice_get block.objects ordinal ≡ Some raw
+
+pub record IsBeginning (table : List (Option BlockValue)) (number offset : ℕ) : Type 0 where
+  pub ordinal : ℕ
+  pub raw : Raw
+  pub begins : Begins table number offset ordinal raw
+
+begins_from : (word g s : ℕ) (raws : List Raw) (q : ℕ) → IsSome (find nat_cmp q (objects_from word g s raws)) → (k : ℕ) × (k < length raws) × (word + offset_of raws k ≡ q)
+begins_from word g s [] q some = absurd (cc)
+begins_from word g s (r ∷ raws) q some =
+    ⊎_elim
+    (λ same. (0, omega arith, omega (arith, same)))
+    (λ ne.
+    let rest = begins_from (word + raw_size r) g s raws q (rw (find_other q word (object_of g s r) (objects_from (word + raw_size r) g s raws) ne) at some) in
+    (suc rest.0, omega (arith, rest.1), omega (arith, rest.2, sum_by-cons raw_size r (take rest.0 raws))))
+    (cases_eq q word)
 
 len_used : (raws : List Raw) → length raws ≤ words_of raws
 len_used [] = omega arith
@@ -62,6 +79,21 @@ module _ (config : Config) (table : List (Option BlockValue)) (area : List ℕ) 
       go : (o : Option BlockValue) → slot_at table number ≡ o → find nat_cmp (small_word number offset) (slot_objects number o) ≡ None
       go None is = refl
       go (Some block) is = find-no_object (small_word number 0) block.generation block.step block.objects (small_word number offset) (λ k h e. none block is k h (omega (arith, e)))
+
+  -- where there is an object, some object of the block begins
+  pub begins_at : (number offset : ℕ) → offset < 512 → IsSome (get (objects_map table) (small_word number offset)) → IsBeginning table number offset
+  begins_at number offset lt some = go (slot_at table number) refl (rw (at_word number offset (omega arith)) at some)
+    where
+      go : (o : Option BlockValue) → slot_at table number ≡ o → IsSome (find nat_cmp (small_word number offset) (slot_objects number o)) → IsBeginning table number offset
+      go None is some = absurd (cc)
+      go (Some block) is some =
+          let found = begins_from (small_word number 0) block.generation block.step block.objects (small_word number offset) some in
+          let d : Raw = record { pointers = []; plain = [] } in
+          record {
+            ordinal = found.0;
+            raw = get_or block.objects found.0 d;
+            begins = record { block = block; there = is; in_block = found.1; at = omega (arith, found.2); is = slice_get-get_or block.objects found.0 d found.1 };
+          }
 
   pub past_none : (number q : ℕ) → IsWordOf number q → length table ≤ number → get (objects_map table) q ≡ None
   past_none number q word le = get-objects_map table q ∙ find-at table number q fits word ∙ ap (λ s. find nat_cmp q (slot_objects number s)) (get_or_end table number None le)

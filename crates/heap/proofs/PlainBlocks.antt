@@ -1,8 +1,8 @@
 -- A block whose objects are all plain is one of today's heap.
-use Rattle.std.proofs.Common.{◌≡◌, ◌≢◌, ℕ, zero, suc, ◌+◌, ◌/◌, ◌<◌, ◌≤◌, Bool, true, false, cond, List, [], ◌∷◌, length, map, replicate, get_or, Some, None, refl, sym, ap, ◌∙◌, arith}
+use Rattle.std.proofs.Common.{◌≡◌, ◌≢◌, ℕ, zero, suc, ◌+◌, ◌/◌, ◌<◌, ◌≤◌, true, false, List, [], ◌∷◌, length, map, get_or, Some, refl, sym, ap, ◌∙◌, arith}
 use Rattle.std.proofs.lemmas.Bool.{true≢false}
 use Rattle.std.proofs.lemmas.Bool.Decides.{nat_tests}
-use Rattle.std.specs.Prelude.{nat_eq, nat_lt}
+use Rattle.std.specs.Prelude.{nat_eq}
 use Rattle.std.specs.List.{IsDistinct}
 use Rattle.std.specs.Option.{option_map}
 use Rattle.std.specs.Ordering.{nat_cmp}
@@ -18,7 +18,7 @@ use Rattle.block_pool.specs.BlockValue.{BlockValue}
 use Rattle.heap.specs.BlockObjects.{object_of, objects_from}
 use Rattle.heap.specs.Installed.{is_installed_at, installed}
 use Rattle.heap.specs.Plain.{IsPlain}
-use Rattle.heap.specs.Table.{AreSmallAndNil}
+use Rattle.heap.specs.Table.{AreSmall}
 use Rattle.heap.specs.Words.{target_of_word}
 use Rattle.heap.proofs.CensusLemmas.{length-map}
 use Rattle.heap.proofs.Finds.{find_below}
@@ -26,39 +26,18 @@ use Rattle.heap.proofs.TableLemmas.{objects_from-within}
 use Rattle.heap.proofs.Installed.{numbers_of, distinct_rest}
 use Rattle.heap.proofs.WonNames.{some_not_none}
 
-no_target : (w : ℕ) → target_of_word w ≡ None → w ≡ 0
-no_target w e = go (nat_lt 0 w) refl e
-  where
-    go : (b : Bool) → nat_lt 0 w ≡ b → cond b (Some w) None ≡ None → w ≡ 0
-    go true is e = absurd (some_not_none e)
-    go false is e = grind (arith, nat_tests, is)
-
-first_of : {X : Type 0} (x y : X) (xs ys : List X) → x ∷ xs ≡ y ∷ ys → x ≡ y
-first_of x y xs ys e = cc
-
-rest_of : {X : Type 0} (x y : X) (xs ys : List X) → x ∷ xs ≡ y ∷ ys → xs ≡ ys
-rest_of x y xs ys e = cc
-
-zero_words : (ws : List ℕ) (n : ℕ) → map target_of_word ws ≡ replicate n None → ws ≡ replicate (length ws) 0
-zero_words [] n e = refl
-zero_words (w ∷ ws) zero e = let e' : target_of_word w ∷ map target_of_word ws ≡ [] = e in absurd (cc)
-zero_words (w ∷ ws) (suc n) e =
-    let e' : target_of_word w ∷ map target_of_word ws ≡ None ∷ replicate n None = e in
-    let rest = zero_words ws n (rest_of (target_of_word w) None (map target_of_word ws) (replicate n None) e') in
-    ap (λ x. x ∷ ws) (no_target w (first_of (target_of_word w) None (map target_of_word ws) (replicate n None) e')) ∙ ap (λ xs. 0 ∷ xs) rest
-
 -- of generation and step 0, where there is an object at all
 abbrev pub StandsFirst : ℕ → ℕ → List Raw → Type 0
 StandsFirst g s [] = Unit {0}
 StandsFirst g s (r ∷ raws) = (g ≡ 0) × (s ≡ 0)
 
-pub plain_raws : (w g s word : ℕ) (raws : List Raw) → ((q : ℕ) (o : Object) → find nat_cmp q (objects_from word g s raws) ≡ Some o → IsPlain w o) → AreSmallAndNil w raws × StandsFirst g s raws
+pub plain_raws : (w g s word : ℕ) (raws : List Raw) → ((q : ℕ) (o : Object) → find nat_cmp q (objects_from word g s raws) ≡ Some o → IsPlain w o) → AreSmall w raws × StandsFirst g s raws
 plain_raws w g s word [] plain = (tt, tt)
 plain_raws w g s word (r ∷ raws) plain =
     let here : IsPlain w (object_of g s r) = plain word (object_of g s r) (find_same word (object_of g s r) (objects_from (word + raw_size r) g s raws)) in
     let same : length (map target_of_word r.pointers) ≡ length r.pointers = length-map target_of_word r.pointers in
     let small : raw_size r ≤ w / 4 = omega (arith, here.small, same) in
-    ((small, zero_words r.pointers (length (map target_of_word r.pointers)) here.nil, (plain_raws w g s (word + raw_size r) raws later).0), (here.generation, here.step))
+    ((small, (plain_raws w g s (word + raw_size r) raws later).0), (here.generation, here.step))
   where
     later : (q : ℕ) (o : Object) → find nat_cmp q (objects_from (word + raw_size r) g s raws) ≡ Some o → IsPlain w o
     later q o is =
@@ -66,10 +45,6 @@ plain_raws w g s word (r ∷ raws) plain =
         plain q o (find_other q word (object_of g s r) (objects_from (word + raw_size r) g s raws) ne ∙ is)
 
 -- a copy of a plain object is plain
-map-none : (f : ℕ → ℕ) (n : ℕ) → map (option_map f) (replicate n None) ≡ replicate n None
-map-none f zero = refl
-map-none f (suc n) = ap (λ xs. None ∷ xs) (map-none f n)
-
 pub moved_plain : (w : ℕ) (places : List (ℕ × ℕ)) (o : Object) → IsPlain w o → IsPlain w (moved_to places (0, 0) o)
 moved_plain w places o plain =
     let same : length (map (option_map (renamed places)) o.pointers) ≡ length o.pointers = length-map _ o.pointers in
@@ -77,7 +52,6 @@ moved_plain w places o plain =
       generation = refl;
       step = refl;
       small = omega (arith, plain.small, same);
-      nil = ap (map (option_map (renamed places))) plain.nil ∙ map-none _ (length o.pointers) ∙ ap (λ n. replicate n None) (sym same);
     }
 
 -- a block with an object is installed

@@ -15,7 +15,7 @@ use Rattle.block_pool.specs.BlockValue.{BlockValue, used_of, new_object}
 use Rattle.block_pool.specs.PoolValue.{PoolValue}
 use Rattle.heap.specs.Plain.{IsPlain, ArePlain}
 use Rattle.heap.specs.BlockObjects.{object_of}
-use Rattle.heap.specs.Table.{slot_at, table_objects, AreSmallAndNil, IsHeapBlock, with_more, slot_words, block_after}
+use Rattle.heap.specs.Table.{slot_at, table_objects, AreSmall, IsHeapBlock, with_more, slot_words, block_after}
 use Rattle.heap.specs.Space.{IsSoundSpace, room_of}
 use Rattle.heap.proofs.TableLemmas.{SlotFits, TableFits}
 use Rattle.heap.proofs.TableMap.{objects_map, get-objects_map}
@@ -34,15 +34,12 @@ find_plain w q (x ∷ es) o plain is = go (eq_by_cmp nat_cmp q x.0) is (find_pla
     go true e rest = let same : x.1 ≡ o = cc in subst (IsPlain w) same plain.0
     go false e rest = rest e
 
-pub AreSmallAndNil-push : (w : ℕ) (raws : List Raw) (raw : Raw) → AreSmallAndNil w raws → raw_size raw ≤ w / 4 → raw.pointers ≡ replicate (length raw.pointers) 0 → AreSmallAndNil w (raws ++ raw ∷ [])
-AreSmallAndNil-push w [] raw each small nil = (small, nil, tt)
-AreSmallAndNil-push w (r ∷ raws) raw each small nil = (each.0, each.1, AreSmallAndNil-push w raws raw each.2 small nil)
+pub AreSmall-push : (w : ℕ) (raws : List Raw) (raw : Raw) → AreSmall w raws → raw_size raw ≤ w / 4 → AreSmall w (raws ++ raw ∷ [])
+AreSmall-push w [] raw each small = (small, tt)
+AreSmall-push w (r ∷ raws) raw each small = (each.0, AreSmall-push w raws raw each.1 small)
 
 pub new_object-size : (p q : ℕ) → raw_size (new_object p q) ≡ 1 + p + q
 new_object-size p q = omega (arith, length-replicate {A = ℕ} p 0, length-replicate {A = ℕ} q 0)
-
-pub new_object-nil : (p q : ℕ) → (new_object p q).pointers ≡ replicate (length (new_object p q).pointers) 0
-new_object-nil p q = ap (λ n. replicate n 0) (sym (length-replicate {A = ℕ} p 0))
 
 pub object_of-new : (p q : ℕ) → object_of 0 0 (new_object p q) ≡ fresh_object p q
 object_of-new p q = ap (λ ps. let o : Object = record { pointers = ps; plain = replicate q 0; generation = 0; step = 0 } in o) (map-nil p)
@@ -183,7 +180,7 @@ module _ (config : Config) (table : List (Option BlockValue)) (area : List ℕ) 
           generation = old.generation;
           step = old.step;
           fits = omega (arith, used_more, at.has_room);
-          objects = AreSmallAndNil-push config.block_words at.block.objects raw old.objects (omega (arith, new_object-size p q)) (new_object-nil p q);
+          objects = AreSmall-push config.block_words at.block.objects raw old.objects (omega (arith, new_object-size p q));
         }
 
     pub pushed_sound : IsSoundSpace config new_table area number pool

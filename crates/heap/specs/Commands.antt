@@ -1,7 +1,7 @@
 -- What the commands on a heap do.
-use Rattle.std.specs.Prelude.{◌≡◌, ℕ, ◌+◌, ◌/◌, ◌||◌, Bool, Option, Some, None, nat_lt, slice_get, slice_set, option_and_then}
+use Rattle.std.specs.Prelude.{◌≡◌, ℕ, ◌+◌, ◌/◌, ◌<◌, ◌||◌, Bool, length, Option, Some, None, IsSome, IsSomeAnd, nat_lt, slice_get, slice_set, option_and_then}
 use Rattle.std.specs.FinMap.{values, len}
-use Rattle.model.specs.Graph.{object_at, root_at, with_object, with_root, fresh_object}
+use Rattle.model.specs.Graph.{Graph, Object, object_at, root_at, with_object, with_root, fresh_object}
 use Rattle.model.specs.Room.{Room, room_after}
 use Rattle.model.specs.Census.{Census, census_of}
 use Rattle.heap.specs.HeapValue.{HeapValue}
@@ -26,3 +26,33 @@ pub record Allocates (old : HeapValue) (mutator p q root : ℕ) (new : HeapValue
 -- what a census of the heap shows
 abbrev pub heap_census : HeapValue → Census
 heap_census heap = census_of heap.config (object_at heap.graph) (values heap.graph.objects) (len heap.graph.roots)
+
+-- the object that a root leads to
+abbrev pub rooted_object : Graph → ℕ → Option Object
+rooted_object graph root = option_and_then (object_at graph) (root_at graph root)
+
+-- the root's object has a pointer i
+abbrev pub HasPointer : Graph → ℕ → ℕ → Type 0
+HasPointer graph root i = IsSomeAnd (rooted_object graph root) (λ o. i < length o.pointers)
+
+-- the root's object has a plain word i
+abbrev pub HasPlain : Graph → ℕ → ℕ → Type 0
+HasPlain graph root i = IsSomeAnd (rooted_object graph root) (λ o. i < length o.plain)
+
+-- what a pointer holds that is nil or leads where a root does
+abbrev pub value_at : Graph → Option ℕ → Option ℕ
+value_at graph None = None
+value_at graph (Some root) = root_at graph root
+
+-- nil, or a root that there is
+abbrev pub IsValue : Graph → Option ℕ → Type 0
+IsValue graph None = Unit {0}
+IsValue graph (Some root) = IsSome (root_at graph root)
+
+-- the object of a root was changed, and nothing else
+pub record Changes (old : HeapValue) (root : ℕ) (change : Object → Object) (new : HeapValue) : Type 0 where
+  pub name : ℕ
+  pub object : Object
+  pub root_is : root_at old.graph root ≡ Some name
+  pub there : object_at old.graph name ≡ Some object
+  pub changed : new ≡ record old { graph = with_object old.graph name (change object) }

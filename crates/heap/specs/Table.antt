@@ -1,5 +1,5 @@
 -- The objects of the blocks of a heap, by place.
-use Rattle.std.specs.Prelude.{◌≡◌, ℕ, ◌+◌, ◌/◌, ◌≤◌, List, [], ◌∷◌, ◌++◌, length, Option, Some, None, replicate, take, sum_by, length, slice_index_or, nat_le, nat_lt, if◌then◌else◌}
+use Rattle.std.specs.Prelude.{◌≡◌, ℕ, ◌+◌, ◌/◌, ◌≤◌, List, [], ◌∷◌, ◌++◌, length, Option, Some, None, take, sum_by, length, slice_index_or, nat_le, nat_lt, if◌then◌else◌}
 use Rattle.model.specs.Graph.{Object}
 use Rattle.model.specs.Config.{Config}
 use Rattle.layout.specs.Object.{Raw, raw_size}
@@ -19,10 +19,10 @@ abbrev pub table_objects : ℕ → List (Option BlockValue) → List (ℕ × Obj
 table_objects number [] = []
 table_objects number (slot ∷ table) = slot_objects number slot ++ table_objects (number + 1) table
 
--- small objects whose pointers are all nil
-abbrev pub AreSmallAndNil : ℕ → List Raw → Type 0
-AreSmallAndNil block_words [] = Unit {0}
-AreSmallAndNil block_words (raw ∷ raws) = (raw_size raw ≤ block_words / 4) × (raw.pointers ≡ replicate (length raw.pointers) 0) × AreSmallAndNil block_words raws
+-- objects of at most a quarter of a block
+abbrev pub AreSmall : ℕ → List Raw → Type 0
+AreSmall block_words [] = Unit {0}
+AreSmall block_words (raw ∷ raws) = (raw_size raw ≤ block_words / 4) × AreSmall block_words raws
 
 -- a block of the heap with that number, of the one generation that there is today
 pub record IsHeapBlock (config : Config) (number : ℕ) (block : BlockValue) : Type 0 where
@@ -31,7 +31,7 @@ pub record IsHeapBlock (config : Config) (number : ℕ) (block : BlockValue) : T
   pub generation : block.generation ≡ 0
   pub step : block.step ≡ 0
   pub fits : used_of block ≤ config.block_words
-  pub objects : AreSmallAndNil config.block_words block.objects
+  pub objects : AreSmall config.block_words block.objects
 
 -- a block with no object
 abbrev pub empty_block : ℕ → ℕ → BlockValue

@@ -1,17 +1,17 @@
 //! The heap.
 ghost use Rattle.std.specs.Prelude.{◌≡◌, ℕ, ◌*◌, ◌+◌, ◌<◌, ◌≤◌, ◌↔◌, Some, None, false, IsTrue, IsSome, IsOk, IfOk, IfSome, IfNone, OnOk, OnErr, option_copied};
 ghost use Rattle.std.specs.Option.{option_map};
-ghost use Rattle.model.specs.Graph.{root_at, without_root};
+ghost use Rattle.model.specs.Graph.{root_at, without_root, with_pointer};
 ghost use Rattle.layout.specs.Place.{place_word};
 ghost use Rattle.heap.specs.HeapValue.{empty_heap, nursery_count};
-ghost use Rattle.heap.specs.Commands.{Allocates, is_too_big, room_for, heap_census};
-ghost use Rattle.std.specs.Prelude.{MatchOption, IsSomeAnd, slice_index, length, Err};
+ghost use Rattle.heap.specs.Commands.{Allocates, is_too_big, room_for, heap_census, Changes, HasPointer, HasPlain, IsValue, value_at, rooted_object};
+ghost use Rattle.std.specs.Prelude.{MatchOption, IsSomeAnd, IsNone, ◌⊎◌, slice_get, slice_set, slice_index, length, Err};
 ghost use Rattle.model.specs.Graph.{IsClosed, object_at};
 ghost use Rattle.model.specs.Live.{IsYoung};
 ghost use Rattle.model.specs.LiveCount.{LiveCount};
 ghost use Rattle.layout.specs.ObjectRef.{raw_of};
 ghost use Rattle.heap.specs.Words.{IsShownAs};
-ghost use Rattle.heap.specs.Plain.{IsPlainHeap};
+ghost use Rattle.heap.specs.Plain.{IsPlainHeap, NamesArePlaces};
 ghost use Rattle.heap.specs.StepPairs.{step_pair, stands_at};
 ghost use Rattle.heap.specs.CollectionValue.{IsOpened, AreFreeBlocks, young_names};
 ghost use Rattle.heap.specs.ReportValue.{all_won, renaming_of};
@@ -64,6 +64,24 @@ pub enum OpenError {
 #[derive(Clone, Copy, Debug, PartialEq, Eq)]
 pub struct NoRoot;
 
+/// Why a plain word was not read or written. The heap is as before.
+#[derive(Clone, Copy, Debug, PartialEq, Eq)]
+pub enum FieldError {
+    NoRoot,
+    /// The object has no such field.
+    BadField,
+}
+
+/// Why a pointer was not stored. The heap is as before.
+#[derive(Clone, Copy, Debug, PartialEq, Eq)]
+pub enum StoreError {
+    /// No root of the object, or none of the value.
+    NoRoot,
+    /// The object has no such pointer.
+    BadField,
+    NoMemory,
+}
+
 /// Objects in blocks, and roots that lead to them.
 #[derive(Drop)]
 pub struct Heap<A: Allocator = Global> {
@@ -78,11 +96,12 @@ impl<A: Allocator> Model for Heap<A> {
 
     ghost coded = { heap_code };
 
-    ghost use Rattle.heap.specs.HeapView.{heap_of, LeadsToObjects};
+    ghost use Rattle.model.specs.Graph.{IsClosed};
+    ghost use Rattle.heap.specs.HeapView.{heap_of};
 
     ghost view = { λ h. heap_of h.space h.roots.slots };
 
-    ghost invariant = { λ h. LeadsToObjects h.space h.roots.slots };
+    ghost invariant = { λ h. IsClosed (heap_of h.space h.roots.slots).graph };
 }
 
 impl<A: Allocator + Clone> Heap<A> {
@@ -152,6 +171,77 @@ impl<A: Allocator + Clone> Heap<A> {
         Ok(())
     }
 
+    /// Makes pointer `field` of a root's object lead where another root does, or makes it nil.
+    pub fn store(
+        &mut self,
+        root: RootId,
+        field: u64,
+        value: Option<RootId>,
+    ) -> Result<(), StoreError>
+        ensures ok { OnOk result (Changes self.old root.number
+            (λ o. with_pointer o field (value_at self.old.graph (option_map (λ r. r.number) value))) self.new) }
+        ensures known { OnOk result (IsValue self.old.graph (option_map (λ r. r.number) value)) }
+        ensures field { OnOk result (HasPointer self.old.graph root.number field) }
+        ensures no_root { (result ≡ Err StoreError.NoRoot) ↔ (IsNone (root_at self.old.graph root.number)
+            ⊎ (HasPointer self.old.graph root.number field × ¬ (IsValue self.old.graph (option_map (λ r. r.number) value)))) }
+        ensures bad_field { (result ≡ Err StoreError.BadField)
+            ↔ (IsSome (root_at self.old.graph root.number) × ¬ (HasPointer self.old.graph root.number field)) }
+        ensures err { OnErr result (self.new ≡ self.old) }
+    {
+        let Some(holder) = self.target(root) else {
+            return Err(StoreError::NoRoot);
+        };
+        if field >= self.space.pointer_count(holder) as u64 {
+            return Err(StoreError::BadField);
+        }
+        let target = match value {
+            None => None,
+            Some(other) => match self.target(other) {
+                Some(place) => Some(place),
+                None => return Err(StoreError::NoRoot),
+            },
+        };
+        self.space.set_pointer(holder, field as usize, target);
+        Ok(())
+    }
+
+    /// Writes plain word `field` of a root's object.
+    pub fn put(&mut self, root: RootId, field: u64, value: u64) -> Result<(), FieldError>
+        ensures ok { OnOk result (Changes self.old root.number
+            (λ o. record o { plain = slice_set o.plain field value }) self.new) }
+        ensures field { OnOk result (HasPlain self.old.graph root.number field) }
+        ensures no_root { (result ≡ Err FieldError.NoRoot) ↔ IsNone (root_at self.old.graph root.number) }
+        ensures bad_field { (result ≡ Err FieldError.BadField)
+            ↔ (IsSome (root_at self.old.graph root.number) × ¬ (HasPlain self.old.graph root.number field)) }
+        ensures err { OnErr result (self.new ≡ self.old) }
+    {
+        let Some(holder) = self.target(root) else {
+            return Err(FieldError::NoRoot);
+        };
+        if field >= self.space.plain_count(holder) as u64 {
+            return Err(FieldError::BadField);
+        }
+        self.space.set_plain(holder, field as usize, value);
+        Ok(())
+    }
+
+    /// Reads plain word `field` of a root's object.
+    pub fn get(&self, root: RootId, field: u64) -> Result<u64, FieldError>
+        ensures ok { IfOk result (λ word. IsSomeAnd (rooted_object self.now.graph root.number)
+            (λ o. slice_get o.plain field ≡ Some word)) }
+        ensures no_root { (result ≡ Err FieldError.NoRoot) ↔ IsNone (root_at self.now.graph root.number) }
+        ensures bad_field { (result ≡ Err FieldError.BadField)
+            ↔ (IsSome (root_at self.now.graph root.number) × ¬ (HasPlain self.now.graph root.number field)) }
+    {
+        let Some(holder) = self.target(root) else {
+            return Err(FieldError::NoRoot);
+        };
+        match self.space.object(holder) {
+            Some(object) if field < object.words.len() as u64 => Ok(object.words[field as usize]),
+            _ => Err(FieldError::BadField),
+        }
+    }
+
     /// Where the object of a root stands.
     pub fn target(&self, root: RootId) -> Option<Place>
         ensures { option_map place_word result ≡ root_at self.now.graph root.number }
@@ -202,6 +292,7 @@ impl<A: Allocator + Clone> Heap<A> {
         // What holds of every heap.
         ensures closed { IsClosed self.now.graph }
         ensures plain { IsPlainHeap self.now }
+        ensures places { NamesArePlaces self.now.graph }
         ensures free { AreFreeBlocks self.now.config.blocks self.now.free }
     {
         let _free = self.space.free_count();

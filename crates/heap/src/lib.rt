@@ -16,6 +16,6 @@ mod table;
 pub use census::{Census, StepCount};
 pub use collection::{Collection, Settled, Slot};
 pub use config::{BadConfig, Config, Sizes};
-pub use heap::{AllocateError, Heap, MakeError, NoRoot, OpenError};
+pub use heap::{AllocateError, FieldError, Heap, MakeError, NoRoot, OpenError, StoreError};
 pub use report::{Delivery, Report, Won, WorkerReport};
 pub use root::{RootId, StepId};

@@ -1,10 +1,11 @@
 //! The blocks of a heap: those of the nursery, and those that collections filled.
-ghost use Rattle.std.specs.Prelude.{◌≡◌, ℕ, ◌+◌, ◌/◌, ◌<◌, ◌≤◌, ◌↔◌, Some, None, Err, length, map, filter, slice_index, sum_by, IsTrue, IsNone, IsSome, IfOk, IfSome, IfNone, OnOk, OnErr, MatchOption, slice_index_or};
-ghost use Rattle.std.specs.FinMap.{keys, values, get};
-ghost use Rattle.model.specs.Graph.{size_of, Object};
+ghost use Rattle.std.specs.Prelude.{◌≡◌, ℕ, ◌+◌, ◌/◌, ◌<◌, ◌≤◌, ◌↔◌, Some, None, Err, length, map, filter, slice_index, sum_by, IsTrue, IsNone, IsSome, IfOk, IfSome, IfNone, OnOk, OnErr, MatchOption, IsSomeAnd, slice_index_or, slice_set};
+ghost use Rattle.std.specs.FinMap.{keys, values, get, insert};
+ghost use Rattle.std.specs.Option.{option_map};
+ghost use Rattle.model.specs.Graph.{size_of, Object, with_pointer};
 ghost use Rattle.heap.specs.Plain.{IsPlain, ArePlain};
 ghost use Rattle.model.specs.Room.{room_after};
-ghost use Rattle.layout.specs.Place.{place_word, small_word};
+ghost use Rattle.layout.specs.Place.{place_word, pointer_word, small_word};
 ghost use Rattle.layout.specs.ObjectRef.{raw_of};
 ghost use Rattle.heap.specs.ConfigRange.{IsInRange};
 ghost use Rattle.heap.specs.BlockObjects.{object_of};
@@ -14,11 +15,24 @@ ghost use Rattle.heap.specs.Space.{SpaceAllocates, empty_space, CanReplace, IsRe
 use crate::census::StepCount;
 use crate::config::Config;
 use crate::exchange::{end_of, exchange, grow};
-use crate::table::{Table, bases, block_for, block_object, count_blocks, nursery_table, push_new};
+use crate::table::{
+    Table, bases, block_for, block_object, count_blocks, nursery_table, ordinal_at, push_new,
+    set_plain, set_pointer,
+};
 use block_pool::{Block, Pool};
 use layout::{ObjectRef, Place};
 use std::alloc::{AllocError, Allocator, Global};
 use std::marker::Model;
+
+/// The word of a pointer, which is 0 for nil.
+fn word_of(target: Option<Place>) -> u64
+    ensures { result ≡ pointer_word target }
+{
+    match target {
+        Some(place) => place.to_word(),
+        None => 0,
+    }
+}
 
 /// The blocks of a heap, and which numbers are free.
 #[derive(Drop)]
@@ -106,6 +120,69 @@ impl<A: Allocator + Clone> Space<A> {
         }
     }
 
+    /// How many pointers the object at a place has.
+    pub(crate) fn pointer_count(&self, place: Place) -> u32
+        requires { IsSome (get self.now.objects (place_word place)) }
+        ensures { (o : Object) → get self.now.objects (place_word place) ≡ Some o → result ≡ length o.pointers }
+    {
+        match self.object(place) {
+            Some(object) => object.header.pointers,
+            None => 0,
+        }
+    }
+
+    /// How many plain words the object at a place has.
+    pub(crate) fn plain_count(&self, place: Place) -> u32
+        requires { IsSome (get self.now.objects (place_word place)) }
+        ensures { (o : Object) → get self.now.objects (place_word place) ≡ Some o → result ≡ length o.plain }
+    {
+        match self.object(place) {
+            Some(object) => object.header.plain,
+            None => 0,
+        }
+    }
+
+    /// Changes pointer `i` of the object at a place.
+    pub(crate) fn set_pointer(&mut self, place: Place, i: usize, target: Option<Place>)
+        requires { IsSomeAnd (get self.old.objects (place_word place)) (λ o. i < length o.pointers) }
+        ensures { (o : Object) → get self.old.objects (place_word place) ≡ Some o
+            → self.new ≡ record self.old { objects = insert self.old.objects (place_word place) (with_pointer o i (option_map place_word target)) } }
+    {
+        let word = word_of(target);
+        match place {
+            Place::Small(at) => {
+                set_pointer(
+                    &mut self.table,
+                    at.block as usize,
+                    at.offset as usize,
+                    i,
+                    word,
+                )
+            }
+            Place::Large(_) => {}
+        }
+    }
+
+    /// Changes plain word `i` of the object at a place.
+    pub(crate) fn set_plain(&mut self, place: Place, i: usize, word: u64)
+        requires { IsSomeAnd (get self.old.objects (place_word place)) (λ o. i < length o.plain) }
+        ensures { (o : Object) → get self.old.objects (place_word place) ≡ Some o
+            → self.new ≡ record self.old { objects = insert self.old.objects (place_word place) (record o { plain = slice_set o.plain i word }) } }
+    {
+        match place {
+            Place::Small(at) => {
+                set_plain(
+                    &mut self.table,
+                    at.block as usize,
+                    at.offset as usize,
+                    i,
+                    word,
+                )
+            }
+            Place::Large(_) => {}
+        }
+    }
+
     /// How many objects there are, and how many words they take.
     pub(crate) fn count(&self) -> StepCount
         ensures generation { result.generation ≡ 0 }
@@ -144,10 +221,7 @@ impl<A: Allocator + Clone> Space<A> {
             return 0;
         };
         let number = at.block as usize;
-        match block_object(table, number, at.offset as usize) {
-            Some(object) => bases[number] + object.header.ordinal as u32,
-            None => 0,
-        }
+        bases[number] + ordinal_at(table, number, at.offset as usize) as u32
     }
 
     /// How many blocks are free.
@@ -171,6 +245,7 @@ impl<A: Allocator + Clone> Space<A> {
         ensures in_range { IsInRange self.now.config }
         // What holds of the objects today.
         ensures plain { (name : ℕ) (o : Object) → get self.now.objects name ≡ Some o → IsPlain self.now.config.block_words o }
+        ensures places { (name : ℕ) (o : Object) → get self.now.objects name ≡ Some o → (place : Place) × (place_word place ≡ name) }
     {
         self.config
     }

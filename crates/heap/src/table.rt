@@ -1,8 +1,9 @@
 //! The table of a heap's blocks, by number.
 ghost use Rattle.std.specs.Prelude.{◌≡◌, ◌≢◌, ℕ, ◌+◌, ◌<◌, ◌≤◌, ◌↔◌, Some, None, length, IsTrue, IsSome, IfOk, IfSome, IfNone, sum_by, slice_get, slice_index, slice_set, vec_len, slice_index_or};
 ghost use Rattle.layout.specs.Header.{size_of};
+ghost use Rattle.layout.specs.Object.{Raw};
 ghost use Rattle.layout.specs.ObjectRef.{raw_of};
-ghost use Rattle.block_pool.specs.BlockValue.{BlockValue, used_of, offset_of, new_object};
+ghost use Rattle.block_pool.specs.BlockValue.{BlockValue, used_of, offset_of, new_object, with_pointer_word, with_plain_word};
 ghost use Rattle.heap.specs.Table.{empty_block, with_more, slot_len, slot_words, objects_before, block_after};
 
 use crate::census::StepCount;
@@ -87,6 +88,90 @@ pub(crate) fn block_object<A: Allocator>(
     match &table[number] {
         Some(block) => block.object_at(offset),
         None => None,
+    }
+}
+
+fn set_block_pointer<A: Allocator>(block: &mut Block<A>, offset: usize, i: usize, word: u64)
+    ensures { (k : ℕ) (raw : Raw) → k < length block.old.objects → offset_of block.old.objects k ≡ offset
+        → slice_get block.old.objects k ≡ Some raw → i < length raw.pointers
+        → block.new ≡ record block.old { objects = slice_set block.old.objects k (with_pointer_word raw i word) } }
+{
+    let Some(object) = block.object_at(offset) else {
+        return;
+    };
+    let k = object.header.ordinal as usize;
+    if i < object.pointers.len() {
+        block.set_pointer(k, i, word);
+    }
+}
+
+/// Changes pointer `i` of the object that begins at an offset of a block.
+pub(crate) fn set_pointer<A: Allocator>(
+    table: &mut [Option<Block<A>>],
+    number: usize,
+    offset: usize,
+    i: usize,
+    word: u64,
+)
+    requires in_range { number < length table.old }
+    ensures { (block : BlockValue) (k : ℕ) (raw : Raw) → slice_index_or table.old number None ≡ Some block
+        → k < length block.objects → offset_of block.objects k ≡ offset → slice_get block.objects k ≡ Some raw → i < length raw.pointers
+        → table.new ≡ slice_set table.old number (Some (record block { objects = slice_set block.objects k (with_pointer_word raw i word) })) }
+{
+    let slot = &mut table[number];
+    match slot {
+        Some(block) => set_block_pointer(block, offset, i, word),
+        None => {}
+    }
+}
+
+fn set_block_plain<A: Allocator>(block: &mut Block<A>, offset: usize, i: usize, word: u64)
+    ensures { (k : ℕ) (raw : Raw) → k < length block.old.objects → offset_of block.old.objects k ≡ offset
+        → slice_get block.old.objects k ≡ Some raw → i < length raw.plain
+        → block.new ≡ record block.old { objects = slice_set block.old.objects k (with_plain_word raw i word) } }
+{
+    let Some(object) = block.object_at(offset) else {
+        return;
+    };
+    let k = object.header.ordinal as usize;
+    if i < object.words.len() {
+        block.set_plain(k, i, word);
+    }
+}
+
+/// Changes plain word `i` of the object that begins at an offset of a block.
+pub(crate) fn set_plain<A: Allocator>(
+    table: &mut [Option<Block<A>>],
+    number: usize,
+    offset: usize,
+    i: usize,
+    word: u64,
+)
+    requires in_range { number < length table.old }
+    ensures { (block : BlockValue) (k : ℕ) (raw : Raw) → slice_index_or table.old number None ≡ Some block
+        → k < length block.objects → offset_of block.objects k ≡ offset → slice_get block.objects k ≡ Some raw → i < length raw.plain
+        → table.new ≡ slice_set table.old number (Some (record block { objects = slice_set block.objects k (with_plain_word raw i word) })) }
+{
+    let slot = &mut table[number];
+    match slot {
+        Some(block) => set_block_plain(block, offset, i, word),
+        None => {}
+    }
+}
+
+/// The ordinal of the object that begins at an offset of a block, where one begins there.
+pub(crate) fn ordinal_at<A: Allocator>(
+    table: &[Option<Block<A>>],
+    number: usize,
+    offset: usize,
+) -> usize
+    requires { number < length table.now }
+    ensures { (block : BlockValue) (k : ℕ) → slice_index_or table.now number None ≡ Some block
+        → k < length block.objects → offset_of block.objects k ≡ offset → result ≡ k }
+{
+    match &table[number] {
+        Some(block) => block.ordinal_at(offset),
+        None => 0,
     }
 }
 

@@ -17,3 +17,5 @@ pub mod CollectLemmas
 pub mod Among
 pub mod OldSlotsExact
 pub mod DestCount
+pub mod ClosedLemmas
+pub mod SpreadSame

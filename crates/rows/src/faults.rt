@@ -18,10 +18,9 @@ fn lines_without_a_command(rt: HostRuntime) {
         (b"#", b"gctrace: line 1: unfinished line\n"),
         (b"frob\n", b"gctrace: line 1: unknown command\n"),
         (b"New a 0 0 0\n", b"gctrace: line 1: unknown command\n"),
-        (b"\n\nset a 0 b\n", b"gctrace: line 3: unknown command\n"),
-        (b"put a 0 1\n", b"gctrace: line 1: unknown command\n"),
+        (b"\n\nSet a 0 b\n", b"gctrace: line 3: unknown command\n"),
         (b"get b a 0\n", b"gctrace: line 1: unknown command\n"),
-        (b"heap\n", b"gctrace: line 1: unknown command\n"),
+        (b"look 0\n", b"gctrace: line 1: unknown command\n"),
     ] {
         assert_fault(&rt, rt.alloc(), input, errors);
     }

@@ -12,6 +12,8 @@ mod faults;
 #[cfg(test)]
 mod memory;
 #[cfg(test)]
+mod pointers;
+#[cfg(test)]
 mod program;
 #[cfg(test)]
 mod reads_and_writes;

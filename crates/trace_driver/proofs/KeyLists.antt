@@ -73,7 +73,7 @@ module _ {X : Type 0} where
   pub key_has : (m : FinMap nat_cmp X) (q : ℕ) → has (keys m) q ≡ true → (v : X) × (get m q ≡ Some v)
   key_has m q there = let found = key_found (entries m) q there in (found.0, get-entries m q ∙ found.1)
 
-keys_count : {X : Type 0} (es : List (ℕ × X)) → length (map (λ (e : ℕ × X). e.0) es) ≡ length es
+pub keys_count : {X : Type 0} (es : List (ℕ × X)) → length (map (λ (e : ℕ × X). e.0) es) ≡ length es
 keys_count [] = refl
 keys_count (e ∷ es) = ap suc (keys_count es)
 

@@ -15,5 +15,13 @@ pub mod LiveSame
 pub mod PlacedCollected
 pub mod PresentLists
 pub mod CountsSame
+pub mod PlacedChanged
+pub mod FieldLemmas
+pub mod NamesSame
+pub mod TextSame
 pub mod StepLemmas
+pub mod FieldSteps
+pub mod HeapSteps
+pub mod CommandFaults
+pub mod NamesOrder
 pub mod FaultLemmas

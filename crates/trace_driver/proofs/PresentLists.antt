@@ -1,10 +1,11 @@
 -- The names of the objects that are in a store, and sums over its objects and those of the heap that stands for it.
-use Rattle.std.proofs.Common.{◌≡◌, ℕ, zero, suc, ◌+◌, true, false, cond, List, [], ◌∷◌, map, length, Option, Some, None, refl, sym, ap, subst, ◌∙◌, arith, ⊎_elim}
+use Rattle.std.proofs.Common.{◌≡◌, ℕ, zero, suc, ◌+◌, ◌≤◌, true, false, cond, List, [], ◌∷◌, map, length, Option, Some, None, refl, sym, ap, subst, ◌∙◌, arith, ⊎_elim}
 use Rattle.std.specs.Prelude.{nat_eq, nat_le, sum_by, count_by, filter, filter_map}
 use Rattle.std.specs.Option.{option_map_or}
+use Rattle.std.proofs.lemmas.List.{length-map}
 use Rattle.std.proofs.lemmas.List.Sums.{sum_by-cons, length-filter}
 use Rattle.std.specs.List.{IsDistinct}
-use Rattle.std.specs.FinMap.{get, keys, values}
+use Rattle.std.specs.FinMap.{get, keys, values, len, entries, len-entries}
 use Rattle.model.specs.Graph as graph
 use Rattle.model.specs.Graph.{Graph, Object}
 use Rattle.model.specs.Reached.{has}
@@ -12,11 +13,11 @@ use Rattle.model.specs.OldSlots.{is_young_name}
 use Rattle.model.specs.Store.{Store, object_at, present}
 use Rattle.model.proofs.SlotMap.{slot_at}
 use Rattle.model.proofs.Has.{has_none, has_head, has_tail, has-cons, has_map, has_map_of}
-use Rattle.model.proofs.Same.{SameMembers, same_sum_by, apart_from_absent, IsDistinct-map}
+use Rattle.model.proofs.Same.{SameMembers, same_length, same_sum_by, apart_from_absent, IsDistinct-map}
 use Rattle.trace_driver.specs.Stands.{renamed_object, IsPlaced}
 use Rattle.trace_driver.proofs.StoreObjects.{at_slot}
 use Rattle.trace_driver.proofs.NamedLemmas.{none_is_some}
-use Rattle.trace_driver.proofs.KeyLists.{has_key, key_has, keys_distinct, sum_of_values}
+use Rattle.trace_driver.proofs.KeyLists.{has_key, key_has, keys_distinct, keys_count, sum_of_values}
 
 -- the places from i on that hold something
 abbrev present_from : ℕ → List (Option Object) → List ℕ
@@ -85,6 +86,14 @@ present_name store name there =
     let is : at.k ≡ name = omega (arith, at.is) in
     (at.object, at_slot store.objects name ∙ ap (slot_at store.objects) (sym is) ∙ at.there)
 
+present_short : (i : ℕ) (objects : List (Option Object)) → length (present_from i objects) ≤ length objects
+present_short i [] = omega arith
+present_short i (None ∷ objects) = omega (arith, present_short (i + 1) objects)
+present_short i (Some o ∷ objects) = omega (arith, present_short (i + 1) objects)
+
+pub few_present : (store : Store) → length (present_names store) ≤ length store.objects
+few_present store = present_short 0 store.objects
+
 module _ (store : Store) (place : ℕ → ℕ) (heap : Graph) (placed : IsPlaced store place heap) where
   pub places_distinct : IsDistinct nat_eq (map place (present_names store))
   places_distinct =
@@ -106,6 +115,12 @@ module _ (store : Store) (place : ℕ → ℕ) (heap : Graph) (placed : IsPlaced
         let from = placed.no_others q o.0 o.1 in
         subst (λ k. has (map place (present_names store)) k ≡ true) from.1.1.1 (has_map place (present_names store) from.0 (name_present store from.0 from.1.0 from.1.1.0));
   }
+
+  -- as many as the heap has objects
+  pub same_number : length (present_names store) ≡ len heap.objects
+  same_number =
+      sym (length-map (present_names store) place) ∙ same_length (map place (present_names store)) (keys heap.objects) places_distinct (keys_distinct heap.objects) same_keys
+      ∙ keys_count (entries heap.objects) ∙ sym (len-entries heap.objects)
 
   -- a sum over the objects of the heap is one over those of the store
   pub same_sum : (W V : Object → ℕ) → ((name : ℕ) (o : Object) → object_at store name ≡ Some o → W (renamed_object place o) ≡ V o) → sum_by W (values heap.objects) ≡ sum_by V (present store)

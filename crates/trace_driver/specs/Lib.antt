@@ -11,3 +11,4 @@ pub mod Stands
 pub mod RunValue
 pub mod Program
 pub mod Session
+pub mod Targets

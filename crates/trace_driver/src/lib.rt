@@ -4,6 +4,7 @@
 mod command_line;
 mod config;
 mod fault;
+mod fields;
 mod lines;
 mod names;
 mod program;

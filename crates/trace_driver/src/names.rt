@@ -1,11 +1,14 @@
 //! The names in use.
-ghost use Rattle.std.specs.Prelude.{◌≡◌, ℕ, List, [], OnOk, OnErr, not, filter, length};
+ghost use Rattle.std.specs.Prelude.{◌≡◌, ℕ, List, [], IfOk, IsTrue, OnOk, OnErr, not, filter, length, map};
 ghost use Rattle.std.specs.Option.{option_map};
 ghost use Rattle.std.specs.Ordering.{nat_cmp, eq_by_cmp};
 ghost use Rattle.std.specs.Cmp.Lexicographic.{slice_cmp};
 ghost use Rattle.std.specs.FinMap.{find, put};
+ghost use Rattle.std.specs.FinMap.Entries.{is_sorted};
+ghost use Rattle.heap_text.specs.HeapLines.{name_value};
 
 use heap::RootId;
+use heap_text::Name;
 use std::alloc::{AllocError, Allocator, Global};
 use std::collections::BTreeMap;
 use std::marker::Model;
@@ -57,5 +60,20 @@ impl<A: Allocator + Clone> Names<A> {
         ensures names { self.new ≡ filter (λ e. not (eq_by_cmp (slice_cmp nat_cmp) name.now e.0)) self.old }
     {
         self.roots.remove(name)
+    }
+
+    /// The names in byte order, each with its root. The error says that memory ran out.
+    pub fn list(&self, alloc: A) -> Result<Vec<Name<'_>, A>, AllocError>
+        ensures names { IfOk result (λ list. map name_value list.items ≡ self.now) }
+        ensures sorted { IfOk result (λ _. IsTrue (is_sorted (slice_cmp nat_cmp) self.now)) }
+    {
+        let mut list = Vec::new(alloc);
+        for (text, root) in self.roots.iter() {
+            list.push(Name {
+                text: text.as_slice(),
+                root: *root,
+            })?;
+        }
+        Ok(list)
     }
 }

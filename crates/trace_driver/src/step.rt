@@ -1,5 +1,8 @@
 //! What one line does.
-ghost use Rattle.std.specs.Prelude.{◌≡◌, ◌+◌, ◌-◌, ◌^◌, ◌<◌, ◌≤◌, Some, Err, OnOk, IfErr};
+ghost use Rattle.std.specs.Prelude.{◌≡◌, ◌+◌, ◌-◌, ◌^◌, ◌<◌, ◌≤◌, Some, Err, OnOk, IfErr, is_some};
+ghost use Rattle.std.specs.List.{list_all};
+ghost use Rattle.model.specs.Graph.{root_at};
+ghost use Rattle.model.specs.Commands as meant;
 ghost use Rattle.model.specs.Commands.{command_of, Collect, Census};
 ghost use Rattle.trace_text.specs.Answer.{IsKnown};
 ghost use Rattle.trace_driver.specs.Faults.{MatchFault};
@@ -11,7 +14,8 @@ ghost use Rattle.trace_driver.specs.Session.{Stands};
 use crate::fault::Fault;
 use crate::session::Session;
 use collector::{CollectError, collect_one};
-use heap_text::{Sink, WriteError, write_census, write_collection};
+use heap::Heap;
+use heap_text::{Name, Sink, WriteError, write_census, write_collection, write_heap};
 use std::alloc::Allocator;
 use trace_text::{Command, Kind, Line, parse};
 
@@ -91,6 +95,49 @@ fn collect<A: Allocator + Clone, W: Sink>(
     }
 }
 
+/// Whether each name's root is one of the heap.
+fn are_rooted<A: Allocator + Clone>(heap: &Heap<A>, names: &[Name<'_>]) -> bool
+    ensures { result ≡ list_all (λ name. is_some (root_at heap.now.graph name.root.number)) names.now }
+{
+    names.iter().all(|name| heap.target(name.root).is_some())
+}
+
+/// Writes the names, and each object that a name leads to.
+fn show_heap<A: Allocator + Clone, W: Sink>(
+    session: &mut Session<A>,
+    number: u128,
+    writer: &mut W,
+) -> Result<(), Fault>
+    requires { W.failed_writes writer.old < 2 ^ 64 - 1 }
+    ensures ok { OnOk result (AtEach (Stands session.old)
+        (λ config store. StepsTo (Stands session.new) config (command_step config store meant.Heap) (W.contents writer.old) (W.contents writer.new))) }
+    ensures counts { OnOk result (W.failed_writes writer.new ≡ W.failed_writes writer.old) }
+    ensures rises { W.failed_writes writer.new ≤ W.failed_writes writer.old + 1 }
+    ensures err { IfErr result (λ e. MatchFault e
+        (λ at kind. (at ≡ number) × AtEach (Stands session.old) (λ config store. command_step config store meant.Heap ≡ Err kind) × (writer.new ≡ writer.old))
+        (λ _. ⊥)
+        (λ at. (at ≡ Some number) × AtEach (Stands session.old) (λ config store. IsSoundCommand config store meant.Heap) × (writer.new ≡ writer.old))
+        ⊥
+        (W.failed_writes writer.new ≡ W.failed_writes writer.old + 1)) }
+{
+    let Ok(alloc) = session.alloc.clone() else {
+        return Err(Fault::NoMemory(Some(number)));
+    };
+    let Ok(names_alloc) = session.alloc.clone() else {
+        return Err(Fault::NoMemory(Some(number)));
+    };
+    let Ok(names) = session.names.list(names_alloc) else {
+        return Err(Fault::NoMemory(Some(number)));
+    };
+    if !are_rooted(&session.heap, &names) {
+        return Err(Fault::BadTrace(number, Kind::UnknownName));
+    }
+    match write_heap(alloc, &session.heap, &names, writer) {
+        Ok(()) => Ok(()),
+        Err(error) => Err(not_written(number, error)),
+    }
+}
+
 /// Carries out one command.
 fn carry_out_command<A: Allocator + Clone, W: Sink>(
     session: &mut Session<A>,
@@ -118,11 +165,17 @@ fn carry_out_command<A: Allocator + Clone, W: Sink>(
             pointers,
             plain,
         } => session.add(number, name, mutator, pointers, plain),
+        Command::Set {
+            name,
+            field,
+            target,
+        } => session.set(number, name, field, target),
+        Command::Put { name, field, value } => session.put(number, name, field, value),
         Command::Drop { name } => session.remove(number, name),
         Command::Collect { generation } => collect(session, number, generation, writer),
         Command::Census => census(session, number, writer),
-        Command::Set { .. } | Command::Put { .. } | Command::Get { .. } | Command::Heap =>
-            unreachable!(),
+        Command::Heap => show_heap(session, number, writer),
+        Command::Get { .. } => unreachable!(),
     }
 }
 

@@ -20,9 +20,12 @@ view (lines.Command command) = Some (command_of command)
 -- the commands that a line may have so far
 abbrev pub IsKnown : declared.Command → Type 0
 IsKnown (written.New n m p q) = Unit {0}
+IsKnown (written.Set n i t) = Unit {0}
+IsKnown (written.Put n i v) = Unit {0}
 IsKnown (written.Drop n) = Unit {0}
 IsKnown (written.Collect g) = Unit {0}
 IsKnown written.Census = Unit {0}
+IsKnown written.Heap = Unit {0}
 IsKnown _ = ⊥
 
 abbrev pub IsKnownLine : Line → Type 0

@@ -7,7 +7,7 @@ use Rattle.std.specs.Str.Parse.{digits_value}
 use Rattle.trace_text.specs.Words.{words}
 use Rattle.model.specs.declared.kind.Kind.{Kind}
 use Rattle.model.specs.declared.kind.Kind.TheVariants.{LineTooLong, UnknownCommand, WrongWords, BadName, BadNumber}
-use Rattle.model.specs.Commands.{Command, New, Drop, Collect, Census}
+use Rattle.model.specs.Commands.{Command, New, Set, Put, Drop, Collect, Census, Heap}
 
 infixl 10 ◌>>=◌
 abbrev pub ◌>>=◌ : {A B : Type 0} → Result A Kind → (A → Result B Kind) → Result B Kind
@@ -47,6 +47,10 @@ abbrev pub one_of : List (List ℕ) → (List ℕ → Result Command Kind) → R
 one_of (a ∷ []) f = f a
 one_of _ f = Err WrongWords
 
+abbrev pub three_of : List (List ℕ) → (List ℕ → List ℕ → List ℕ → Result Command Kind) → Result Command Kind
+three_of (a ∷ b ∷ c ∷ []) f = f a b c
+three_of _ f = Err WrongWords
+
 abbrev pub four_of : List (List ℕ) → (List ℕ → List ℕ → List ℕ → List ℕ → Result Command Kind) → Result Command Kind
 four_of (a ∷ b ∷ c ∷ d ∷ []) f = f a b c d
 four_of _ f = Err WrongWords
@@ -58,6 +62,24 @@ new_of a b c d = do
   pointers ← number_of c
   plain ← number_of d
   Ok (New name mutator pointers plain)
+
+-- a name, or `nil`
+unfoldable pub target_of : List ℕ → Result (Option (List ℕ)) Kind
+target_of word = if is_nil word then Ok None else (name_of word >>= λ name. Ok (Some name))
+
+unfoldable pub set_of : List ℕ → List ℕ → List ℕ → Result Command Kind
+set_of a b c = do
+  name ← name_of a
+  field ← number_of b
+  target ← target_of c
+  Ok (Set name field target)
+
+unfoldable pub put_of : List ℕ → List ℕ → List ℕ → Result Command Kind
+put_of a b c = do
+  name ← name_of a
+  field ← number_of b
+  value ← number_of c
+  Ok (Put name field value)
 
 unfoldable pub drop_of : List ℕ → Result Command Kind
 drop_of a = do
@@ -73,10 +95,13 @@ collect_of a = do
 unfoldable pub command_of : List ℕ → List (List ℕ) → Result Command Kind
 command_of command rest =
     if bytes_eq command (codes "new") then four_of rest new_of
+    else (if bytes_eq command (codes "set") then three_of rest set_of
+    else (if bytes_eq command (codes "put") then three_of rest put_of
     else (if bytes_eq command (codes "drop") then one_of rest drop_of
     else (if bytes_eq command (codes "collect") then one_of rest collect_of
     else (if bytes_eq command (codes "census") then none_of rest Census
-    else Err UnknownCommand)))
+    else (if bytes_eq command (codes "heap") then none_of rest Heap
+    else Err UnknownCommand))))))
 
 -- a comment's first word begins with `#`, which is 35
 abbrev pub is_comment : List ℕ → Bool

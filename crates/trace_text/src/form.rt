@@ -2,13 +2,13 @@
 ghost use Rattle.std.specs.Prelude.{◌≡◌, ◌<◌, length, IfOk};
 ghost use Rattle.std.specs.List.{list_all};
 ghost use Rattle.std.specs.Char.{is_ascii_digit};
-ghost use Rattle.model.specs.Commands.{command_of as said};
+ghost use Rattle.model.specs.Commands.{command_of as said, target_of as target_said};
 ghost use Rattle.trace_text.specs.Words.{words};
-ghost use Rattle.trace_text.specs.Grammar.{one_of, four_of, is_nil, name_of, is_name_byte, number_of, new_of, drop_of, collect_of, command_of, entry_of, without_return};
+ghost use Rattle.trace_text.specs.Grammar.{one_of, three_of, four_of, is_nil, name_of, is_name_byte, number_of, target_of, new_of, set_of, put_of, drop_of, collect_of, command_of, entry_of, without_return};
 ghost use Rattle.trace_text.specs.Answer.{Gives, view, IsKnown, IsKnownLine};
 
 use crate::line::Line;
-use crate::words::{four_words, no_words, one_word, split_first_word};
+use crate::words::{four_words, no_words, one_word, split_first_word, three_words};
 use model::{Command, Kind};
 
 /// The most bytes that a line has before its line feed.
@@ -90,6 +90,46 @@ fn new(rest: &[u8]) -> Result<Command<'_>, Kind>
     })
 }
 
+/// A name, or `nil`.
+#[tactic(auto, unfolding(crate::specs::Grammar::target_of))]
+fn target(word: &[u8]) -> Result<Option<&[u8]>, Kind>
+    ensures { Gives (λ found. target_said (λ name. name.now) found) result (target_of word.now) }
+{
+    if is_nil(word) {
+        return Ok(None);
+    }
+    let name = name(word)?;
+    Ok(Some(name))
+}
+
+#[tactic(auto, unfolding(crate::specs::Grammar::set_of))]
+fn set(rest: &[u8]) -> Result<Command<'_>, Kind>
+    ensures gives { Gives said result (three_of (words rest.now) set_of) }
+    ensures known { IfOk result IsKnown }
+{
+    let (name_word, field, target_word) = three_words(rest)?;
+    let name = name(name_word)?;
+    let field = number(field)?;
+    let target = target(target_word)?;
+    Ok(Command::Set {
+        name,
+        field,
+        target,
+    })
+}
+
+#[tactic(auto, unfolding(crate::specs::Grammar::put_of))]
+fn put(rest: &[u8]) -> Result<Command<'_>, Kind>
+    ensures gives { Gives said result (three_of (words rest.now) put_of) }
+    ensures known { IfOk result IsKnown }
+{
+    let (name_word, field, value) = three_words(rest)?;
+    let name = name(name_word)?;
+    let field = number(field)?;
+    let value = number(value)?;
+    Ok(Command::Put { name, field, value })
+}
+
 #[tactic(auto, unfolding(crate::specs::Grammar::drop_of))]
 fn drop_name(rest: &[u8]) -> Result<Command<'_>, Kind>
     ensures gives { Gives said result (one_of (words rest.now) drop_of) }
@@ -117,6 +157,10 @@ fn command<'a>(word: &[u8], rest: &'a [u8]) -> Result<Command<'a>, Kind>
 {
     if word == b"new".as_slice() {
         new(rest)
+    } else if word == b"set".as_slice() {
+        set(rest)
+    } else if word == b"put".as_slice() {
+        put(rest)
     } else if word == b"drop".as_slice() {
         drop_name(rest)
     } else if word == b"collect".as_slice() {
@@ -124,6 +168,9 @@ fn command<'a>(word: &[u8], rest: &'a [u8]) -> Result<Command<'a>, Kind>
     } else if word == b"census".as_slice() {
         no_words(rest)?;
         Ok(Command::Census)
+    } else if word == b"heap".as_slice() {
+        no_words(rest)?;
+        Ok(Command::Heap)
     } else {
         Err(Kind::UnknownCommand)
     }
@@ -136,8 +183,8 @@ fn without_return(line: &[u8]) -> &[u8]
     line.strip_suffix(b"\r".as_slice()).unwrap_or(line)
 }
 
-/// One line without its line feed: what it says, or its first fault. Of the commands it knows `new`, `drop`,
-/// `collect` and `census`. It allocates nothing.
+/// One line without its line feed: what it says, or its first fault. Of the commands it knows `new`, `set`, `put`,
+/// `drop`, `collect`, `census` and `heap`. It allocates nothing.
 #[tactic(auto, unfolding(crate::specs::Grammar::entry_of))]
 pub fn parse(line: &[u8]) -> Result<Line<'_>, Kind>
     ensures gives { Gives view result (entry_of line.now) }

@@ -72,6 +72,17 @@ pub fn one_word(rest: &[u8]) -> Result<&[u8], Kind>
     Ok(a)
 }
 
+pub fn three_words(rest: &[u8]) -> Result<(&[u8], &[u8], &[u8]), Kind>
+    ensures ok { IfOk result (λ found. words rest.now
+        ≡ found.0.now ∷ found.1.now ∷ found.2.now ∷ []) }
+    ensures err { IfErr result (λ e. (e ≡ Kind.WrongWords) × (length (words rest.now) ≢ 3)) }
+{
+    let (a, rest) = split_first_word(rest).ok_or(Kind::WrongWords)?;
+    let (b, rest) = split_first_word(rest).ok_or(Kind::WrongWords)?;
+    let c = one_word(rest)?;
+    Ok((a, b, c))
+}
+
 pub fn four_words(rest: &[u8]) -> Result<(&[u8], &[u8], &[u8], &[u8]), Kind>
     ensures ok { IfOk result (λ found. words rest.now
         ≡ found.0.now ∷ found.1.now ∷ found.2.now ∷ found.3.now ∷ []) }

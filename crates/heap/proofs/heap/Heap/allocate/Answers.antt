@@ -1,21 +1,22 @@
-use Rattle.std.proofs.Common.{◌≡◌, ap, sym, ◌∙◌, refl, None, arith}
+use Rattle.std.proofs.Common.{◌≡◌, ap, sym, ◌∙◌, None, arith}
 use Rattle.std.specs.Prelude.{slice_index_or}
 use Rattle.std.specs.FinMap.{insert}
-use Rattle.model.specs.Graph.{fresh_object}
 use Rattle.layout.specs.Place.{place_word}
 use Rattle.heap.specs.Roots.{roots_map}
 use Rattle.heap.proofs.RootMap.{roots-insert}
-use Rattle.heap.proofs.HeapLemmas.{leads_more}
+use Rattle.model.proofs.ClosedLemmas.{closed_fresh}
 use Rattle.heap.proofs.Allocating.{allocates_is}
 use Rattle.heap.proofs.heap.Heap.allocate.Goals as goal
 
 pub invariant_of-self-in-Some : goal.invariant_of-self-in-Some
 invariant_of-self-in-Some g c =
     let some = c.in-Some.ensures.some in
-    let up = c.insert_reserved.ensures.updates in
-    leads_more c.self.inside.space c.allocate.new.self c.self.inside.roots.slots c.insert_reserved.new.self.slots c.insert_reserved.result (place_word c.in-Some.place) (fresh_object c.args.p c.args.q) c.in-Some.place
-    c.self.invariant (ap (λ s. s.objects) some.change) refl up.changed
-    (λ other ne. up.others other ne ∙ ap (λ s. slice_index_or s.slots other None) c.reserve.ensures.rest_kept)
+    let kept = ap (λ s. s.slots) c.reserve.ensures.rest_kept in
+    let first : c.args.mutator ≡ 0 = omega (arith, c.if-mutator-mutators.false, c.mutators.ensures.value, ap (λ k. k.mutators) c.config-config.ensures.value, c.config-config.ensures.in_range.one_mutator) in
+    let vacant = sym (ap (λ s. slice_index_or s c.insert_reserved.result None) kept) ∙ c.insert_reserved.ensures.was_vacant in
+    let roots = roots-insert c.reserve.new.self c.insert_reserved.new.self c.insert_reserved.result c.in-Some.place c.insert_reserved.ensures.updates ∙ ap (λ s. insert (roots_map s) c.insert_reserved.result (place_word c.in-Some.place)) kept in
+    let made = allocates_is c.self.inside.space c.allocate.new.self c.self.inside.roots.slots c.insert_reserved.new.self.slots c.args.mutator c.args.p c.args.q c.insert_reserved.result (place_word c.in-Some.place) first some vacant roots in
+    rw (ap (λ h. h.graph) made.change) (closed_fresh _ c.insert_reserved.result made.name c.args.p c.args.q c.self.invariant)
 
 pub returns-in-Some-clause-ok : goal.returns-in-Some-clause-ok
 returns-in-Some-clause-ok g c =

@@ -9,7 +9,8 @@ use Rattle.heap.proofs.Replacing.{each_fits}
 use Rattle.heap.proofs.RenamedRoots.{renamed_once}
 use Rattle.heap.proofs.SettledLemmas.{bases_are, bases_cover, places_many, root_named, new_words, copies_plain}
 use Rattle.heap.proofs.CanCommit.{heap_blocks, each_block_fits}
-use Rattle.heap.proofs.Committed.{collected_heap, now_leads}
+use Rattle.heap.proofs.Committed.{collected_heap, now_closed}
+use Rattle.heap.proofs.HeapLemmas.{leads_is}
 use Rattle.heap.proofs.KeptCount.{won_within, kept_count}
 use Rattle.heap.proofs.heap.Heap.commit.Goals as goal
 
@@ -27,6 +28,9 @@ renamed_roots-requires-clause-covers g c =
     let settled = rw (← c.self.view_is) at c.requires in
     rw c.bases-bases.ensures (bases_cover c.self.inside.space c.self.inside.roots.slots c.args.settled.collection c.args.settled.places.items c.args.settled.blocks.items (all_won c.args.settled.workers.items) c.config-before.ensures.in_range c.config-before.ensures.plain settled)
 
+pub renamed_roots-requires-clause-leads : goal.renamed_roots-requires-clause-leads
+renamed_roots-requires-clause-leads g c = leads_is c.self.inside.space c.self.inside.roots.slots c.self.invariant
+
 pub renamed_roots-requires-clause-count : goal.renamed_roots-requires-clause-count
 renamed_roots-requires-clause-count g c =
     let settled = rw (← c.self.view_is) at c.requires in
@@ -35,7 +39,7 @@ renamed_roots-requires-clause-count g c =
 pub renamed_roots-requires-clause-named : goal.renamed_roots-requires-clause-named
 renamed_roots-requires-clause-named g c =
     let settled = rw (← c.self.view_is) at c.requires in
-    rw c.deref.ensures.value (root_named c.self.inside.space c.self.inside.roots.slots c.args.settled.collection c.args.settled.places.items c.args.settled.blocks.items (all_won c.args.settled.workers.items) c.config-before.ensures.in_range c.config-before.ensures.plain settled c.self.invariant)
+    rw c.deref.ensures.value (root_named c.self.inside.space c.self.inside.roots.slots c.args.settled.collection c.args.settled.places.items c.args.settled.blocks.items (all_won c.args.settled.workers.items) c.config-before.ensures.in_range c.config-before.ensures.plain settled (leads_is c.self.inside.space c.self.inside.roots.slots c.self.invariant))
 
 pub count_won-kept-requires : goal.count_won-kept-requires
 count_won-kept-requires g c =
@@ -92,7 +96,7 @@ invariant_of-self-2 g c =
     let new = renamed (renaming_of (young_names (heap_of c.self.inside.space c.self.inside.roots.slots).graph collection.generation) won) in
     let pairs = c.in_ok-renamed.ensures new (rw c.deref.ensures.value words) in
     let written = rw c.deref-4.ensures.value at c.write_roots.ensures in
-    now_leads c.self.inside.space c.replace.new.self c.self.inside.roots.slots c.write_roots.new.roots.slots collection c.args.settled.places.items c.args.settled.blocks.items won range plain c.config-config.ensures.plain c.self.invariant settled fits c.in_ok-replace.ensures.ok (map root_pair c.in_ok-renamed.renamed.items) pairs written
+    now_closed c.self.inside.space c.replace.new.self c.self.inside.roots.slots c.write_roots.new.roots.slots collection c.args.settled.places.items c.args.settled.blocks.items won range plain c.config-config.ensures.plain c.self.invariant settled fits c.in_ok-replace.ensures.ok (map root_pair c.in_ok-renamed.renamed.items) pairs written
 
 pub returns-clause-ok : goal.returns-clause-ok
 returns-clause-ok g c =

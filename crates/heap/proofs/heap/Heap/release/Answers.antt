@@ -1,6 +1,7 @@
 use Rattle.std.proofs.Common.{refl, sym, ap, ◌∙◌}
 use Rattle.std.specs.Option.{option_map}
 use Rattle.layout.specs.Place.{place_word}
+use Rattle.model.proofs.ClosedLemmas.{closed-without_root}
 use Rattle.heap.proofs.RootMap.{get-roots, roots-remove}
 use Rattle.heap.proofs.heap.Heap.release.Goals as goal
 
@@ -17,3 +18,7 @@ returns-clause-known g c =
 pub returns-clause-ok : goal.returns-clause-ok
 returns-clause-ok g c =
     rw (← c.self.view_is, roots-remove c.self.inside.roots c.try_remove.new.self c.args.root.number c.in-Some.ensures.updates) refl
+
+pub invariant_of-self-2 : goal.invariant_of-self-2
+invariant_of-self-2 g c =
+    rw (roots-remove c.self.inside.roots c.try_remove.new.self c.args.root.number c.in-Some.ensures.updates) (closed-without_root _ c.args.root.number c.self.invariant)

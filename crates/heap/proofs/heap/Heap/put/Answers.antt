@@ -1,0 +1,8 @@
+use Rattle.heap.specs.HeapView.{heap_of}
+use Rattle.heap.proofs.Storing.{held, plain_stored}
+use Rattle.heap.proofs.heap.Heap.put.Goals as goal
+
+pub invariant_of-self : goal.invariant_of-self
+invariant_of-self g c =
+    let h = held (heap_of c.self.inside.space c.self.inside.roots.slots).graph c.args.root.number _ _ c.self.invariant (rw (← c.self.view_is) at c.target.ensures) c.in-Some.is in
+    plain_stored c.self.inside.space c.set_plain.new.self c.self.inside.roots.slots c.args.root.number _ c.self.invariant h _ (c.set_plain.ensures h.object h.there)

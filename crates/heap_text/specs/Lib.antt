@@ -1,0 +1,3 @@
+-- The text of a heap.
+pub mod HeapLines
+pub mod Numbering
