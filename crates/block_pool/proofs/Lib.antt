@@ -5,3 +5,5 @@ pub mod PoolLemmas
 pub mod ObjectLemmas
 pub mod WriteLemmas
 pub mod ReadLemmas
+pub mod DrawLemmas
+pub mod ClaimLemmas

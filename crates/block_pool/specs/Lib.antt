@@ -1,4 +1,6 @@
--- What a block and a pool are, and how objects lie in the words of a block.
+-- What a block, a pool and claims are, how objects lie in the words of a block, and how seats draw.
 pub mod BlockValue
 pub mod Words
 pub mod PoolValue
+pub mod Drawn
+pub mod ClaimsValue

@@ -1,0 +1,13 @@
+pub mod PairLemmas
+pub mod Keeps
+pub mod Told
+pub mod Gathered
+pub mod Read
+pub mod Few
+pub mod PlainKeeps
+pub mod PlainStart
+pub mod PlainSettled
+pub mod Wins
+pub mod Noting
+pub mod Joining
+pub mod Settling
