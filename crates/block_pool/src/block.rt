@@ -315,4 +315,11 @@ impl<A: Allocator> Block<A> {
     {
         self.sent = Some((exporter, position));
     }
+
+    /// Puts back what `sent` answered before.
+    pub fn restore_sent(&mut self, sent: Option<(u32, u64)>)
+        ensures { self.new ≡ record self.old { sent = sent } }
+    {
+        self.sent = sent;
+    }
 }

@@ -87,6 +87,8 @@ fn an_object_is_taken_back(rt: HostRuntime) -> Result<(), Fail> {
     assert!(rt; block.object_at(3).is_none());
     block.mark_exported(1, 4);
     assert_eq!(rt; block.sent(), Some((1, 4)));
+    block.restore_sent(Some((2, 7)));
+    assert_eq!(rt; block.sent(), Some((2, 7)));
     block.clear();
     assert_eq!(rt;
         (block.len(), block.used(), block.front(), block.sent()),

@@ -14,3 +14,4 @@ pub mod Numbers
 pub mod Roots
 pub mod Settling
 pub mod Alone
+pub mod SameError

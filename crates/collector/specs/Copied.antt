@@ -9,12 +9,12 @@ use Rattle.model.specs.Graph.{Graph, Object, object_at, fresh_object, IsClosed}
 use Rattle.model.specs.Live.{Live, IsRooted}
 use Rattle.model.specs.Collected.{renamed}
 use Rattle.layout.specs.declared.place.Place.{Place}
-use Rattle.layout.specs.Object.{Raw}
+use Rattle.layout.specs.Object.{Raw, raw_size}
 use Rattle.layout.specs.Place.{place_word, small_word}
 use Rattle.block_pool.specs.BlockValue.{BlockValue, used_of, empty_block}
 use Rattle.heap.specs.HeapValue.{HeapValue}
-use Rattle.heap.specs.BlockObjects.{object_of}
-use Rattle.heap.specs.BlockObjects.{copies_of}
+use Rattle.heap.specs.BlockObjects.{object_of, copies_of}
+use Rattle.heap.specs.Words.{IsShownAs}
 use Rattle.heap.specs.ReportValue.{renaming_of}
 use Rattle.heap.specs.Plain.{IsPlainHeap, NamesArePlaces}
 use Rattle.heap.specs.CollectionValue.{CollectionValue, IsOpened, young_names, SlotValue, target_of_slot}
@@ -151,6 +151,23 @@ pub record Forwards (heap : HeapValue) (g name place fields : ℕ) (old_blocks :
   pub stays : StaysWon (young_names heap.graph g) old_won won
   pub is_won : IsWon (young_names heap.graph g) won name
   pub found : find nat_cmp name (renaming_of (young_names heap.graph g) won) ≡ Some place
+
+-- Copies took all free blocks, and a live object that has none yet has no room in the last
+pub record IsUsedUp (heap : HeapValue) (g : ℕ) : Type 0 where
+  pub places : List (Option Place)
+  pub blocks : List BlockValue
+  pub won : List (ℕ × ℕ)
+  pub scanned : List ℕ
+  pub fields : ℕ
+  pub copied : HasCopied heap g places blocks won scanned fields
+  pub number : ℕ
+  pub live : Live heap.graph g (slice_index (young_names heap.graph g) number)
+  pub left : find nat_cmp number won ≡ None
+  pub object : Object
+  pub there : object_at heap.graph (slice_index (young_names heap.graph g) number) ≡ Some object
+  pub raw : Raw
+  pub shown : IsShownAs object raw
+  pub full : IsFull heap.free (raw_size raw) blocks
 
 -- what a collection that is carried out knows of its heap
 pub record IsReady (heap : HeapValue) (collection : CollectionValue) : Type 0 where

@@ -3,7 +3,7 @@ ghost use Rattle.std.specs.Prelude.{◌≡◌, ℕ, ◌<◌, ◌≤◌, [], leng
 ghost use Rattle.model.specs.Live.{Live};
 ghost use Rattle.layout.specs.Place.{place_word};
 ghost use Rattle.heap.specs.ReportView.{won_value};
-ghost use Rattle.collector.specs.Copied.{HasCopied, IsReady, Forwards};
+ghost use Rattle.collector.specs.Copied.{HasCopied, IsReady, IsUsedUp, Forwards};
 
 use crate::blocks::{CopyError, copy_object};
 use block_pool::Block;
@@ -57,7 +57,7 @@ impl<A: Allocator + Clone> Copier<A> {
             self.old.blocks.items (map won_value self.old.won.items)
             self.new.places.items self.new.blocks.items (map won_value self.new.won.items) (map place_word self.new.scanned.items)) }
         ensures scanned { self.new.scanned ≡ self.old.scanned }
-        ensures full { result ≡ Err CopyError.HeapFull → length heap.now.free ≤ length self.old.blocks.items }
+        ensures full { result ≡ Err CopyError.HeapFull → IsUsedUp heap.now collection.now.generation }
     {
         let number = heap.number_of(collection, target) as usize;
         if let Some(place) = self.places[number] {

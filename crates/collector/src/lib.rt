@@ -5,7 +5,7 @@ ghost use Rattle.std.specs.Prelude.{◌≡◌, ◌↔◌, ◌≤◌, [], map, If
 ghost use Rattle.layout.specs.Place.{place_word};
 ghost use Rattle.heap.specs.ReportView.{won_value};
 ghost use Rattle.collector.specs.Collects.{CollectsAlone};
-ghost use Rattle.collector.specs.Copied.{HasScanned, IsReady};
+ghost use Rattle.collector.specs.Copied.{HasScanned, IsReady, IsUsedUp};
 
 mod blocks;
 mod copier;
@@ -82,8 +82,9 @@ fn copy_live<A: Allocator + Clone>(
     collection: &Collection<A>,
 ) -> Result<Copier<A>, CopyError>
     requires { IsReady heap.now collection.now }
-    ensures { IfOk result (λ copier. HasScanned heap.now collection.now.generation copier.places.items copier.blocks.items
+    ensures ok { IfOk result (λ copier. HasScanned heap.now collection.now.generation copier.places.items copier.blocks.items
         (map won_value copier.won.items) (map place_word copier.scanned.items)) }
+    ensures full { result ≡ Err CopyError.HeapFull → IsUsedUp heap.now collection.now.generation }
 {
     let slots = collection.slots();
     let mut copier = Copier::new(alloc.clone()?, collection.cells() as usize)?;
@@ -103,6 +104,7 @@ pub fn collect_one<A: Allocator + Clone>(
     ensures ok { IfOk result (λ report. CollectsAlone heap.old g report.kept report.freed report.workers.items heap.new) }
     ensures deliveries { IfOk result (λ report. report.deliveries.items ≡ []) }
     ensures no_generation { (result ≡ Err CollectError.NoGeneration) ↔ (heap.old.config.shape.generations ≤ g) }
+    ensures full { result ≡ Err CollectError.HeapFull → IsUsedUp heap.old g }
     ensures err { OnErr result (heap.new ≡ heap.old) }
 {
     if g >= heap.config().generations() as u64 {

@@ -1,10 +1,10 @@
 //! How one worker of a collection scans what it copied: breadth first, with a scan point and no stack.
-ghost use Rattle.std.specs.Prelude.{◌≡◌, ◌≢◌, ◌+◌, ◌<◌, [], length, map, Some, OnOk, IfSome, IfNone};
+ghost use Rattle.std.specs.Prelude.{◌≡◌, ◌≢◌, ◌+◌, ◌<◌, [], length, map, Some, OnOk, IfSome, IfNone, Err};
 ghost use Rattle.layout.specs.declared.place.Place.{Place};
 ghost use Rattle.layout.specs.Place.{place_word};
 ghost use Rattle.heap.specs.ReportView.{won_value};
 ghost use Rattle.heap.specs.CollectionValue.{young_names};
-ghost use Rattle.collector.specs.Copied.{HasCopied, HasRooted, HasScanned, IsReady, IsAt, HasOrdinal, next_object, ScansFields, ScansTo, ScansBlock};
+ghost use Rattle.collector.specs.Copied.{HasCopied, HasRooted, HasScanned, IsReady, IsUsedUp, IsAt, HasOrdinal, next_object, ScansFields, ScansTo, ScansBlock};
 
 use crate::blocks::{
     CopyError, ScanPoint, object_count, place_at, pointer_count, pointer_word, write_pointer,
@@ -46,6 +46,7 @@ impl<A: Allocator + Clone> Copier<A> {
             (map won_value self.old.won.items) self.new.places.items self.new.blocks.items
             (map won_value self.new.won.items) (map place_word self.new.scanned.items)) }
         ensures scanned { OnOk result (self.new.scanned ≡ self.old.scanned) }
+        ensures full { result ≡ Err CopyError.HeapFull → IsUsedUp heap.now collection.now.generation }
     {
         let Some(target) = target_of(pointer_word(&self.blocks, at, field)) else {
             return Ok(());
@@ -71,6 +72,7 @@ impl<A: Allocator + Clone> Copier<A> {
         ensures ok { OnOk result (ScansTo heap.now collection.now.generation at.block (at.ordinal + 1)
             (map won_value self.old.won.items) self.new.places.items self.new.blocks.items
             (map won_value self.new.won.items) (map place_word self.new.scanned.items)) }
+        ensures full { result ≡ Err CopyError.HeapFull → IsUsedUp heap.now collection.now.generation }
     {
         let fields = pointer_count(&self.blocks, at);
         for field in 0..fields {
@@ -95,6 +97,7 @@ impl<A: Allocator + Clone> Copier<A> {
         ensures ok { OnOk result (ScansBlock heap.now collection.now.generation block
             (map won_value self.old.won.items) self.new.places.items self.new.blocks.items
             (map won_value self.new.won.items) (map place_word self.new.scanned.items)) }
+        ensures full { result ≡ Err CopyError.HeapFull → IsUsedUp heap.now collection.now.generation }
     {
         let mut ordinal = 0;
         while ordinal < object_count(&self.blocks, block) {
@@ -119,6 +122,7 @@ impl<A: Allocator + Clone> Copier<A> {
         requires rooted { HasRooted heap.now collection.now.generation (map won_value self.old.won.items) }
         ensures ok { OnOk result (HasScanned heap.now collection.now.generation self.new.places.items self.new.blocks.items
             (map won_value self.new.won.items) (map place_word self.new.scanned.items)) }
+        ensures full { result ≡ Err CopyError.HeapFull → IsUsedUp heap.now collection.now.generation }
     {
         let mut block = 0;
         while block < self.blocks.len() {

@@ -1,4 +1,4 @@
-use Rattle.std.proofs.Common.{◌≡◌, ◌<◌, length, map, get_or, ap, arith, refl}
+use Rattle.std.proofs.Common.{◌≡◌, ◌<◌, length, map, get_or, ap, arith, refl, Err}
 use Rattle.std.proofs.lemmas.List.{length-map}
 use Rattle.layout.specs.Place.{place_word}
 use Rattle.heap.specs.ReportView.{won_value}
@@ -6,6 +6,7 @@ use Rattle.heap.specs.SlotView.{slot_value}
 use Rattle.heap.specs.CollectionValue.{target_of_slot}
 use Rattle.collector.specs.Copied.{HasDone, Forwards}
 use Rattle.collector.proofs.Roots.{copied_none, target_at, slot_rooted, rooted_live, done_more, has_rooted}
+use Rattle.collector.proofs.SameError.{same_error}
 use Rattle.collector.proofs.copy_live.Goals as goal
 
 pub loop-slot-init : goal.loop-slot-init
@@ -48,3 +49,9 @@ scan_all-requires-clause-rooted g c =
     let done : HasDone c.args.heap.now c.args.collection.now.generation c.args.collection.now.slots (length c.args.collection.now.slots) (map won_value c.loop-slot.copier.won.items) =
     rw (← all, ← c.slots-slots.ensures) c.loop-slot.invariant.done in
     has_rooted c.args.heap.now c.args.collection.now (map won_value c.loop-slot.copier.won.items) c.requires.plain c.requires.opened done
+
+pub returns-in_err-forward-clause-full : goal.returns-in_err-forward-clause-full
+returns-in_err-forward-clause-full g c = λ is. c.in_err-forward.ensures.full (ap Err (same_error c.from_residual-in_err-forward.result _ _ c.from_residual-in_err-forward.ensures.1 is))
+
+pub returns-in_err-scan_all-clause-full : goal.returns-in_err-scan_all-clause-full
+returns-in_err-scan_all-clause-full g c = λ is. c.in_err-scan_all.ensures.full (ap Err (same_error c.from_residual-in_err-scan_all.result _ _ c.from_residual-in_err-scan_all.ensures.1 is))

@@ -1,4 +1,4 @@
-use Rattle.std.proofs.Common.{◌≡◌, ◌∙◌, arith, map, get_or, length, None, Some, sym, ap}
+use Rattle.std.proofs.Common.{◌≡◌, ◌∙◌, arith, map, get_or, length, None, Some, sym, ap, Err}
 use Rattle.std.proofs.lemmas.List.{with_items_is}
 use Rattle.std.specs.Vec.{with_items}
 use Rattle.layout.specs.Place.{place_word}
@@ -8,6 +8,7 @@ use Rattle.collector.specs.Copied.{IsAt, HasOrdinal, Forwards, next_object}
 use Rattle.heap.specs.CollectionValue.{young_names}
 use Rattle.collector.proofs.Fields.{IsWordAt, pointers_at, word_is, leads_to_live, scans_nil, scans_pointer, at', more', same_count, place_above}
 use Rattle.collector.proofs.Targets.{target_word}
+use Rattle.collector.proofs.SameError.{same_error}
 use Rattle.collector.proofs.copier.Copier.scan_field.Goals as goal
 
 pub pointer_word-requires-clause-field : goal.pointer_word-requires-clause-field
@@ -66,3 +67,6 @@ returns-clause-ok g c =
     let written = rw c.deref_mut.ensures.value at c.write_pointer.ensures in
     rw (items, c.in_ok-place.ensures.scanned) (scans_pointer c.args.heap.now c.args.collection.now.generation c.args.self.now.places.items c.args.self.now.blocks.items (map won_value c.args.self.now.won.items) (map place_word c.args.self.now.scanned.items) c.args.field c.args.at.block c.args.at.ordinal
     c.requires.copied c.requires.at c.requires.more c.in-Some.target c.in_ok-place.place c.forward.new.self.places.items c.forward.new.self.blocks.items (map won_value c.forward.new.self.won.items) f c.write_pointer.new.blocks c.requires.field leads written)
+
+pub returns-in_err-place-clause-full : goal.returns-in_err-place-clause-full
+returns-in_err-place-clause-full g c = λ is. c.in_err-place.ensures.full (ap Err (same_error c.from_residual.result _ _ c.from_residual.ensures.1 is))

@@ -1,4 +1,4 @@
-use Rattle.std.proofs.Common.{◌≡◌, ◌+◌, ◌∙◌, ◌++◌, ◌∷◌, [], arith, get_or, map, length, sym, ap}
+use Rattle.std.proofs.Common.{◌≡◌, ◌+◌, ◌∙◌, ◌++◌, ◌∷◌, [], arith, get_or, map, length, sym, ap, Err}
 use Rattle.std.specs.Prelude.{Vec}
 use Rattle.model.specs.Graph.{Object}
 use Rattle.layout.specs.declared.place.Place.{Place}
@@ -9,6 +9,7 @@ use Rattle.block_pool.specs.BlockValue.{BlockValue, empty_block, new_object, off
 use Rattle.layout.specs.Place.{place_word, small_word}
 use Rattle.heap.specs.ReportView.{won_value}
 use Rattle.collector.proofs.Fields.{scans_none, scans_more, scans_object, next_kept, pointers_at}
+use Rattle.collector.proofs.SameError.{same_error}
 use Rattle.collector.proofs.copier.Copier.scan_object.Goals as goal
 
 pub loop-field-init : goal.loop-field-init
@@ -48,12 +49,13 @@ place_at-requires-clause-in_blocks g c = rw c.deref-2.ensures.value c.loop-field
 pub place_at-requires-clause-in_block : goal.place_at-requires-clause-in_block
 place_at-requires-clause-in_block g c = rw c.deref-2.ensures.value c.loop-field.invariant.scans.more
 
-pub returns : goal.returns
-returns g c =
+pub returns-clause-ok : goal.returns-clause-ok
+returns-clause-ok g c =
     let all : c.loop-field.field ≡ length (next_object c.args.heap.now.graph (young_names c.args.heap.now.graph c.args.collection.now.generation) (map won_value c.loop-field.self.won.items) (length (map place_word c.loop-field.self.scanned.items))).pointers = omega (arith, c.loop-field.invariant.count) in
     let is : (d : BlockValue) → place_word c.place_at.result ≡ small_word (get_or c.loop-field.self.blocks.items c.args.at.block d).number (offset_of (get_or c.loop-field.self.blocks.items c.args.at.block d).objects c.args.at.ordinal) = rw (← c.deref-2.ensures.value) c.place_at.ensures in
     let scanned : map place_word c.push.new.self.items ≡ map place_word c.loop-field.self.scanned.items ++ place_word c.place_at.result ∷ [] = rw c.in_ok-push.ensures.items (map-append place_word c.loop-field.self.scanned.items _) in
-    record {
-      ok = rw scanned (scans_object c.args.heap.now c.args.collection.now.generation c.loop-field.self.places.items c.loop-field.self.blocks.items (map won_value c.args.self.now.won.items) (map won_value c.loop-field.self.won.items) (map place_word c.loop-field.self.scanned.items) c.loop-field.field c.args.at.block c.args.at.ordinal (place_word c.place_at.result)
-          c.loop-field.invariant.scans all is);
-    }
+    rw scanned (scans_object c.args.heap.now c.args.collection.now.generation c.loop-field.self.places.items c.loop-field.self.blocks.items (map won_value c.args.self.now.won.items) (map won_value c.loop-field.self.won.items) (map place_word c.loop-field.self.scanned.items) c.loop-field.field c.args.at.block c.args.at.ordinal (place_word c.place_at.result)
+    c.loop-field.invariant.scans all is)
+
+pub returns-in_err-scan_field-clause-full : goal.returns-in_err-scan_field-clause-full
+returns-in_err-scan_field-clause-full g c = λ is. c.in_err-scan_field.ensures.full (ap Err (same_error c.from_residual-in_err-scan_field.result _ _ c.from_residual-in_err-scan_field.ensures.1 is))

@@ -1,0 +1,3 @@
+-- Laws of the count of idle seats.
+pub mod IdleLemmas
+pub mod SeatLemmas

@@ -1,0 +1,164 @@
+-- Each step keeps the rule of a tally, and what who gathered all seats knows.
+use Rattle.std.proofs.Common.{◌≡◌, ◌≢◌, ℕ, ◌+◌, ◌%◌, ◌^◌, ◌<◌, ◌≤◌, List, [], ◌∷◌, ◌++◌, set, length, get_or, max, refl, sym, ap, ◌∙◌, subst, ⊎_elim, arith, length-set, length-append, get_or-set_same, Some}
+use Rattle.std.proofs.Math.Nat.{le-max_left, le-max_right}
+use Rattle.std.proofs.lemmas.List.Elements.{All-pop, All-nil, All-cons, All-same, All-weaker}
+use Rattle.std.proofs.lemmas.List.Sums.{sum_by_push}
+use Rattle.std.specs.List.{All}
+use mathlib.Core.Option.{none, some}
+use lib.ListN.{get_elem?}
+use Rattle.atomic_table.specs.Seated.{TableId}
+use Rattle.atomic_table.specs.Table.{State, Me, step, keeps, stepped, Seen, Allows, Splits, Joins}
+use Rattle.atomic_table.proofs.Lists.{at_set, at_snoc}
+use Rattle.views.specs.Total.{total}
+use Rattle.views.proofs.Totals.{total-set, total-same, total-snoc, total-whole}
+use Rattle.pending_queues.specs.declared.tally_plays.Count.{Count}
+use Rattle.pending_queues.specs.Tallied.{known, raised_in, IsSound, IsKept, newcomer, dealt, both, spent, Raised, Saw}
+use Rattle.pending_queues.specs.TallyValue.{TallySeatValue, raised_by}
+
+abbrev St : Type 0
+St = State (Unit {0}) Count
+
+abbrev Sat : Type 0
+Sat = Me (Unit {0}) Count
+
+abbrev parts_in : List Count → ℕ
+parts_in = total (λ (v : Count). v.parts)
+
+-- one more is one more, also where the word wraps
+wraps : (word n : ℕ) → word ≡ n % 2 ^ 64 → (word + 1) % 2 ^ 64 ≡ (n + 1) % 2 ^ 64
+wraps word n is = omega arith
+
+-- the views after a step by one seat
+stepped_sound : (seats : ℕ) (s : St) (id : ℕ) (v w : Count) (more : ℕ) → IsKept seats s → raised_in s.views ≤ more → IsSound more w
+    → (j : ℕ) (u : Count) → get_elem? (set s.views id w) j ≡ some u → IsSound more u
+stepped_sound seats s id v w more r grown mine j u e = ⊎_elim
+    (λ (t : (j ≡ id) × (w ≡ u)). subst (IsSound more) t.1 mine)
+    (λ (t : (j ≢ id) × (get_elem? s.views j ≡ some u)).
+    let old = r.sound j u t.1 in let seen = old.seen in record { partless = old.partless; seen = omega arith })
+    (at_set s.views id j w u e)
+
+pub raises : (seats slots id : ℕ) (me : Sat) → me.0.parts ≡ 1
+    → Allows (IsKept seats) slots id me 0 (λ n. (n + 1) % 2 ^ 64) (Raised (step slots 0 1 0 none) me)
+raises seats slots id me part s r _ at _ =
+    let v : Count = me.0 in
+    let w : Count = known v.parts (v.raised + 1) v.seen in
+    let more : raised_in (set s.views id w) ≡ raised_in s.views + 1 = (let t = total-set (λ (u : Count). u.raised) s.views id v w at in omega arith) in
+    let mine = r.sound id v at in
+    let seen = mine.seen in
+    let wide = r.wide in
+    let kept : IsKept seats (stepped s 0 ((get_or s.words 0 0 + 1) % 2 ^ 64) id me.1 w keeps) = record {
+      wide = length-set s.words 0 _ ∙ r.wide;
+      whole = total-same (λ (u : Count). u.parts) s.views id v w at refl ∙ r.whole;
+      sound = stepped_sound seats s id v w _ r (omega arith) (record { partless = λ z. absurd (omega arith); seen = omega arith });
+      word = get_or-set_same s.words 0 _ 0 (omega arith) ∙ (wraps _ _ r.word ∙ ap (λ n. n % 2 ^ 64) (sym more));
+    } in (w, keeps, tt, kept, refl)
+
+pub reads : (seats slots id : ℕ) (me : Sat) → me.0.parts ≡ 1
+    → Allows (IsKept seats) slots id me 0 (λ n. n) (Saw (step slots 0 0 0 none) me)
+reads seats slots id me part s r _ at _ =
+    let v : Count = me.0 in
+    let w : Count = known v.parts v.raised (max v.seen (get_or s.words 0 0)) in
+    let same : raised_in (set s.views id w) ≡ raised_in s.views = total-same (λ (u : Count). u.raised) s.views id v w at refl in
+    let mine = r.sound id v at in
+    let word = r.word in
+    let wide = r.wide in
+    let kept : IsKept seats (stepped s 0 (get_or s.words 0 0) id me.1 w keeps) = record {
+      wide = length-set s.words 0 _ ∙ r.wide;
+      whole = total-same (λ (u : Count). u.parts) s.views id v w at refl ∙ r.whole;
+      sound = stepped_sound seats s id v w _ r (omega arith) (record { partless = mine.partless; seen = omega arith });
+      word = get_or-set_same s.words 0 _ 0 (omega arith) ∙ (r.word ∙ ap (λ n. n % 2 ^ 64) (sym same));
+    } in (w, keeps, tt, kept, refl)
+
+-- a change of views that keeps each sum
+sums : (seats : ℕ) (s : St) (vs : List Count) → IsKept seats s → parts_in vs ≡ parts_in s.views → raised_in vs ≡ raised_in s.views
+    → ((i : ℕ) (v : Count) → get_elem? vs i ≡ some v → IsSound (raised_in s.views) v)
+    → IsKept seats (record { words = s.words; homes = s.homes; views = vs })
+sums seats s vs r parts raised sound = record {
+  wide = r.wide;
+  whole = parts ∙ r.whole;
+  sound = subst (λ n. (i : ℕ) (v : Count) → get_elem? vs i ≡ some v → IsSound n v) (sym raised) sound;
+  word = r.word ∙ ap (λ n. n % 2 ^ 64) (sym raised);
+}
+
+pub deals : (seats id : ℕ) (v : Count) → 0 < v.parts → v.raised ≡ 0 → v.seen ≡ 0 → Splits (IsKept seats) id v (dealt v) (newcomer v)
+deals seats id v more unraised unseen s r at =
+    let vs : List Count = set s.views id (dealt v) in
+    let new : IsSound (raised_in s.views) (newcomer v) = record { partless = λ _. refl; seen = omega arith } in
+    let left : IsSound (raised_in s.views) (dealt v) = record { partless = λ _. unraised; seen = omega arith } in
+    sums seats s (vs ++ newcomer v ∷ []) r
+    (let a = total-snoc (λ (u : Count). u.parts) vs (newcomer v) in let b = total-set (λ (u : Count). u.parts) s.views id v (dealt v) at in omega arith)
+    (let a = total-snoc (λ (u : Count). u.raised) vs (newcomer v) in let b = total-set (λ (u : Count). u.raised) s.views id v (dealt v) at in omega arith)
+    (λ i u e. ⊎_elim
+    (λ (t : get_elem? vs i ≡ some u). stepped_sound seats s id v (dealt v) _ r (omega arith) left i u t)
+    (λ (t : newcomer v ≡ u). subst (IsSound (raised_in s.views)) t new) (at_snoc vs (newcomer v) u i e))
+
+pub gathers : (seats id : ℕ) (v : Count) (other : ℕ) (w : Count) → v.parts ≢ 0 → Joins (IsKept seats) id v other w (both v w) spent
+gathers seats id v other w part s r at apart at' =
+    let vs : List Count = set s.views id (both v w) in
+    let there : get_elem? s.views other ≡ some w = ⊎_elim
+    (λ (y : (other ≡ id) × (both v w ≡ w)). absurd (apart y.0))
+    (λ (y : (other ≢ id) × (get_elem? s.views other ≡ some w)). y.1) (at_set s.views id other (both v w) w at') in
+    let mine = (r.sound id v at).seen in
+    let theirs = (r.sound other w there).seen in
+    let sound : IsSound (raised_in s.views) (both v w) = record { partless = λ z. absurd (omega arith); seen = omega arith } in
+    let none : IsSound (raised_in s.views) spent = record { partless = λ _. refl; seen = omega arith } in
+    sums seats s (set vs other spent) r
+    (let a = total-set (λ (u : Count). u.parts) s.views id v (both v w) at in let b = total-set (λ (u : Count). u.parts) vs other w spent at' in omega arith)
+    (let a = total-set (λ (u : Count). u.raised) s.views id v (both v w) at in let b = total-set (λ (u : Count). u.raised) vs other w spent at' in omega arith)
+    (λ i u e. ⊎_elim
+    (λ (y : (i ≡ other) × (spent ≡ u)). subst (IsSound (raised_in s.views)) y.1 none)
+    (λ (y : (i ≢ other) × (get_elem? vs i ≡ some u)). stepped_sound seats s id v (both v w) _ r (omega arith) sound i u y.1)
+    (at_set vs other i spent u e))
+
+-- who has every part has raised all, and so as often as it has seen
+pub closes : (seats id : ℕ) (v : Count) (words : List ℕ) → (s : St) × Seen (IsKept seats) id v s × (s.words ≡ words) → v.parts ≡ seats → v.seen ≤ v.raised
+closes seats id v words final parts =
+    let s : St = final.0 in
+    let r = final.1.0 in
+    let whole = total-whole (λ (u : Count). u.parts) (λ (u : Count). u.raised) s.views (λ i u e z. (r.sound i u e).partless z) id v final.1.1 (r.whole ∙ sym parts) in
+    let seen = (r.sound id v final.1.1).seen in
+    omega arith
+
+-- the greatest count that any of the seats has seen
+abbrev pub most_seen : List TallySeatValue → ℕ
+most_seen [] = 0
+most_seen (p ∷ ps) = max p.seen (most_seen ps)
+
+pub most_seen-snoc : (xs : List TallySeatValue) (p : TallySeatValue) → max (most_seen xs) p.seen ≡ most_seen (xs ++ p ∷ [])
+most_seen-snoc [] p = omega arith
+most_seen-snoc (x ∷ xs) p = let r = most_seen-snoc xs p in omega arith
+
+seen_below : (n : ℕ) (xs : List TallySeatValue) → most_seen xs ≤ n → All (λ s. s.seen ≤ n) xs
+seen_below n [] h = All-nil (λ (s : TallySeatValue). s.seen ≤ n)
+seen_below n (x ∷ xs) h =
+    let a = le-max_left x.seen (most_seen xs) in
+    let b = le-max_right x.seen (most_seen xs) in
+    All-cons (λ (s : TallySeatValue). s.seen ≤ n) x xs (omega arith) (seen_below n xs (omega arith))
+
+-- all seats, once none is left to gather
+pub all_below : (left : List TallySeatValue) (n : ℕ) (all : List TallySeatValue) → left ≡ [] → max (most_seen left) n ≡ most_seen all → All (λ s. s.seen ≤ n) all
+all_below left n all gone e = seen_below n all (let z : most_seen left ≡ 0 = ap most_seen gone in omega arith)
+
+-- what the last seat and the rest raised and saw
+pub record IsPopped (name : TableId) (all rest : List TallySeatValue) (p : TallySeatValue) : Type 0 where
+  pub rest_each : All (λ s. s.name ≡ name) rest
+  pub last : p.name ≡ name
+  pub many : length all ≡ length rest + 1
+  pub raised : raised_by rest + p.raised ≡ raised_by all
+  pub seen : max (most_seen rest) p.seen ≡ most_seen all
+
+pub popped : (name : TableId) (all rest : List TallySeatValue) (p : TallySeatValue) → all ≡ rest ++ p ∷ [] → All (λ s. s.name ≡ name) all → IsPopped name all rest p
+popped name all rest p is each = let h = All-pop (λ (s : TallySeatValue). s.name ≡ name) all rest (Some p) is each in record {
+  rest_each = h.0;
+  last = h.1;
+  many = ap length is ∙ (length-append rest (p ∷ []) ∙ omega arith);
+  raised = sym (sum_by_push (λ (s : TallySeatValue). s.raised) rest p) ∙ ap raised_by (sym is);
+  seen = most_seen-snoc rest p ∙ ap most_seen (sym is);
+}
+
+-- what the seats saw, as it is known at the end
+pub all_raised : (seats all : List TallySeatValue) (seen raised : ℕ) → seats ≡ all → All (λ s. s.seen ≤ seen) all → raised ≡ raised_by all → seen ≤ raised → All (λ s. s.seen ≤ raised_by seats) seats
+all_raised seats all seen raised is each sum below =
+    let same : raised ≡ raised_by seats = sum ∙ ap raised_by (sym is) in
+    All-weaker (λ (s : TallySeatValue). s.seen ≤ seen) (λ (s : TallySeatValue). s.seen ≤ raised_by seats) (λ x low. omega arith) seats
+    (All-same (λ (s : TallySeatValue). s.seen ≤ seen) seats all is each)
