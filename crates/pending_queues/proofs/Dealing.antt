@@ -209,6 +209,9 @@ module _ {A K : Type 0} where
   fresh-seat key index passes marks is fresh many = let none = new-sent key _ _ index passes is in record {
     passes_are = λ u p at. rw none (is.passes_are u p at);
     many = many;
+    one_part = λ u m at.
+        let there : Some (unraised m.name) ≡ Some m = sym (slice_get-map unraised (map (λ m. m.name) marks) u ∙ ap (option_map unraised) (slice_get-map (λ m. m.name) marks u ∙ ap (option_map (λ m. m.name)) at)) ∙ (ap (λ l. slice_get l u) (sym fresh) ∙ at) in
+        ap (λ (o : Option TallySeatValue). (unwrap_or o (unraised m.name)).parts) (sym there);
     raised = λ u m at.
         let there : Some (unraised m.name) ≡ Some m = sym (slice_get-map unraised (map (λ m. m.name) marks) u ∙ ap (option_map unraised) (slice_get-map (λ m. m.name) marks u ∙ ap (option_map (λ m. m.name)) at)) ∙ (ap (λ l. slice_get l u) (sym fresh) ∙ at) in
         ap (λ (o : Option TallySeatValue). (unwrap_or o (unraised m.name)).raised) (sym there);

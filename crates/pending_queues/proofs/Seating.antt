@@ -8,7 +8,7 @@ use Rattle.block_pool.specs.BlockValue.{BlockValue}
 use Rattle.pending_queues.specs.PassValue.{PassValue, position_of, Took}
 use Rattle.pending_queues.specs.TallyValue.{TallySeatValue}
 use Rattle.pending_queues.specs.declared.seat.Taken.{Taken}
-use Rattle.pending_queues.specs.Seated.{IsSeated, pass_of, sent_by, taken_from, is_from}
+use Rattle.pending_queues.specs.Seated.{AtEach, IsSeated, pass_of, sent_by, taken_from, is_from}
 use Rattle.crossbeam_queue.specs.SegTies.{SegId}
 use Rattle.pending_queues.specs.PendingValue.{Source, SeatValue, IsSeatOf, after_export, after_take}
 use Rattle.pending_queues.specs.Labelled.{labelled}
@@ -49,6 +49,13 @@ agree f g xs ys u a b same at_a at_b =
     let e : Some (f a) ≡ Some (g b) = sym (l ∙ ap (option_map f) at_a) ∙ (ap (λ zs. slice_get zs u) same ∙ (r ∙ ap (option_map g) at_b)) in
     cc
 
+-- a mark stays one part
+one-set : (marks : List TallySeatValue) (u : ℕ) (m n : TallySeatValue) → slice_get marks u ≡ Some m → n.parts ≡ m.parts → AtEach (λ i x. x.parts ≡ 1) marks → AtEach (λ i x. x.parts ≡ 1) (set marks u n)
+one-set marks u m n at same each v x there = ⊎_elim
+    (λ (h : (v ≡ u) × (n ≡ x)). subst (λ (q : TallySeatValue). q.parts ≡ 1) h.1 (same ∙ each u m at))
+    (λ (h : (v ≢ u) × (slice_get marks v ≡ Some x)). each v x h.1)
+    (get-set marks u v n x there)
+
 -- what a take tells of the block
 pub record Learned {K : Type 0} (fits : K → BlockValue → Type 0) (key : K) (index u : ℕ) (sent taken : List BlockValue) (b : BlockValue) : Type 0 where
   pub label : b.sent ≡ Some (u, position_of b)
@@ -86,6 +93,7 @@ module _ {A K : Type 0} where
             (λ (h : (u ≢ index) × (slice_get passes u ≡ Some x)). other_pass x u n sent h.0 (is.passes_are u x h.1))
             (get-set passes index u w x there));
         many = is.many ∙ sym len;
+        one_part = is.one_part;
         raised = is.raised;
         sizes_are = em ∙ (rw (is.sizes_are, new) (sym (map-append (λ (c : BlockValue). length c.objects) sent (b ∷ []))));
         logged = is.logged;
@@ -162,6 +170,7 @@ module _ {A K : Type 0} where
             (λ (h : (v ≢ u) × (slice_get passes v ≡ Some x)). rw (from-else v taken b (others v h.0)) (is.passes_are v x h.1))
             (get-set passes u v w x there));
         many = length-set marks u n ∙ (is.many ∙ sym len);
+        one_part = one-set marks u m n at_m (ap (λ v. v.parts) en) is.one_part;
         raised = λ v x there. ⊎_elim
             (λ (h : (v ≡ u) × (n ≡ x)). subst (λ (q : TallySeatValue). q.raised ≡ length (taken_from v (taken ++ b ∷ []))) h.1
             (subst (λ (j : ℕ). n.raised ≡ length (taken_from j (taken ++ b ∷ []))) (sym h.0)
@@ -216,6 +225,7 @@ module _ {A K : Type 0} where
   seen key index passes marks sizes log taken cleared m n count known is at en le few = record {
     passes_are = is.passes_are;
     many = length-set marks index n ∙ is.many;
+    one_part = one-set marks index m n at (ap (λ v. v.parts) en) is.one_part;
     raised = λ u x there. ⊎_elim
         (λ (h : (u ≡ index) × (n ≡ x)). subst (λ (q : ℕ × TallySeatValue). q.1.raised ≡ length (taken_from q.0 taken)) (λ i. (sym h.0 i, h.1 i)) (ap (λ v. v.raised) en ∙ is.raised index m at))
         (λ (h : (u ≢ index) × (slice_get marks u ≡ Some x)). is.raised u x h.1)

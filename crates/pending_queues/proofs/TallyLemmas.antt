@@ -12,8 +12,8 @@ use Rattle.atomic_table.proofs.Lists.{at_set, at_snoc}
 use Rattle.views.specs.Total.{total}
 use Rattle.views.proofs.Totals.{total-set, total-same, total-snoc, total-whole}
 use Rattle.pending_queues.specs.declared.tally_plays.Count.{Count}
-use Rattle.pending_queues.specs.Tallied.{known, raised_in, IsSound, IsKept, newcomer, dealt, both, spent, Raised, Saw}
-use Rattle.pending_queues.specs.TallyValue.{TallySeatValue, raised_by}
+use Rattle.pending_queues.specs.Tallied.{known, raised_in, IsSound, IsKept, newcomer, dealt, both, spent, Raised, Saw, Checked}
+use Rattle.pending_queues.specs.TallyValue.{TallySeatValue}
 
 abbrev St : Type 0
 St = State (Unit {0}) Count
@@ -37,7 +37,7 @@ stepped_sound seats s id v w more r grown mine j u e = ⊎_elim
     let old = r.sound j u t.1 in let seen = old.seen in record { partless = old.partless; seen = omega arith })
     (at_set s.views id j w u e)
 
-pub raises : (seats slots id : ℕ) (me : Sat) → me.0.parts ≡ 1
+pub raises : (seats slots id : ℕ) (me : Sat) → 0 < me.0.parts
     → Allows (IsKept seats) slots id me 0 (λ n. (n + 1) % 2 ^ 64) (Raised (step slots 0 1 0 none) me)
 raises seats slots id me part s r _ at _ =
     let v : Count = me.0 in
@@ -53,9 +53,9 @@ raises seats slots id me part s r _ at _ =
       word = get_or-set_same s.words 0 _ 0 (omega arith) ∙ (wraps _ _ r.word ∙ ap (λ n. n % 2 ^ 64) (sym more));
     } in (w, keeps, tt, kept, refl)
 
-pub reads : (seats slots id : ℕ) (me : Sat) → me.0.parts ≡ 1
+pub reads : (seats slots id : ℕ) (me : Sat)
     → Allows (IsKept seats) slots id me 0 (λ n. n) (Saw (step slots 0 0 0 none) me)
-reads seats slots id me part s r _ at _ =
+reads seats slots id me s r _ at _ =
     let v : Count = me.0 in
     let w : Count = known v.parts v.raised (max v.seen (get_or s.words 0 0)) in
     let same : raised_in (set s.views id w) ≡ raised_in s.views = total-same (λ (u : Count). u.raised) s.views id v w at refl in
@@ -111,54 +111,18 @@ gathers seats id v other w part s r at apart at' =
     (at_set vs other i spent u e))
 
 -- who has every part has raised all, and so as often as it has seen
-pub closes : (seats id : ℕ) (v : Count) (words : List ℕ) → (s : St) × Seen (IsKept seats) id v s × (s.words ≡ words) → v.parts ≡ seats → v.seen ≤ v.raised
-closes seats id v words final parts =
-    let s : St = final.0 in
-    let r = final.1.0 in
-    let whole = total-whole (λ (u : Count). u.parts) (λ (u : Count). u.raised) s.views (λ i u e z. (r.sound i u e).partless z) id v final.1.1 (r.whole ∙ sym parts) in
-    let seen = (r.sound id v final.1.1).seen in
-    omega arith
-
--- the greatest count that any of the seats has seen
-abbrev pub most_seen : List TallySeatValue → ℕ
-most_seen [] = 0
-most_seen (p ∷ ps) = max p.seen (most_seen ps)
-
-pub most_seen-snoc : (xs : List TallySeatValue) (p : TallySeatValue) → max (most_seen xs) p.seen ≡ most_seen (xs ++ p ∷ [])
-most_seen-snoc [] p = omega arith
-most_seen-snoc (x ∷ xs) p = let r = most_seen-snoc xs p in omega arith
-
-seen_below : (n : ℕ) (xs : List TallySeatValue) → most_seen xs ≤ n → All (λ s. s.seen ≤ n) xs
-seen_below n [] h = All-nil (λ (s : TallySeatValue). s.seen ≤ n)
-seen_below n (x ∷ xs) h =
-    let a = le-max_left x.seen (most_seen xs) in
-    let b = le-max_right x.seen (most_seen xs) in
-    All-cons (λ (s : TallySeatValue). s.seen ≤ n) x xs (omega arith) (seen_below n xs (omega arith))
-
--- all seats, once none is left to gather
-pub all_below : (left : List TallySeatValue) (n : ℕ) (all : List TallySeatValue) → left ≡ [] → max (most_seen left) n ≡ most_seen all → All (λ s. s.seen ≤ n) all
-all_below left n all gone e = seen_below n all (let z : most_seen left ≡ 0 = ap most_seen gone in omega arith)
-
--- what the last seat and the rest raised and saw
-pub record IsPopped (name : TableId) (all rest : List TallySeatValue) (p : TallySeatValue) : Type 0 where
-  pub rest_each : All (λ s. s.name ≡ name) rest
-  pub last : p.name ≡ name
-  pub many : length all ≡ length rest + 1
-  pub raised : raised_by rest + p.raised ≡ raised_by all
-  pub seen : max (most_seen rest) p.seen ≡ most_seen all
-
-pub popped : (name : TableId) (all rest : List TallySeatValue) (p : TallySeatValue) → all ≡ rest ++ p ∷ [] → All (λ s. s.name ≡ name) all → IsPopped name all rest p
-popped name all rest p is each = let h = All-pop (λ (s : TallySeatValue). s.name ≡ name) all rest (Some p) is each in record {
-  rest_each = h.0;
-  last = h.1;
-  many = ap length is ∙ (length-append rest (p ∷ []) ∙ omega arith);
-  raised = sym (sum_by_push (λ (s : TallySeatValue). s.raised) rest p) ∙ ap raised_by (sym is);
-  seen = most_seen-snoc rest p ∙ ap most_seen (sym is);
-}
-
--- what the seats saw, as it is known at the end
-pub all_raised : (seats all : List TallySeatValue) (seen raised : ℕ) → seats ≡ all → All (λ s. s.seen ≤ seen) all → raised ≡ raised_by all → seen ≤ raised → All (λ s. s.seen ≤ raised_by seats) seats
-all_raised seats all seen raised is each sum below =
-    let same : raised ≡ raised_by seats = sum ∙ ap raised_by (sym is) in
-    All-weaker (λ (s : TallySeatValue). s.seen ≤ seen) (λ (s : TallySeatValue). s.seen ≤ raised_by seats) (λ x low. omega arith) seats
-    (All-same (λ (s : TallySeatValue). s.seen ≤ seen) seats all is each)
+pub checks : (seats slots id : ℕ) (me : Sat) → me.0.parts ≡ seats
+    → Allows (IsKept seats) slots id me 0 (λ n. n) (Checked (step slots 0 0 0 none) me)
+checks seats slots id me parts s r _ at _ =
+    let v : Count = me.0 in
+    let same : raised_in (set s.views id v) ≡ raised_in s.views = total-same (λ (u : Count). u.raised) s.views id v v at refl in
+    let mine = r.sound id v at in
+    let wide = r.wide in
+    let whole = total-whole (λ (u : Count). u.parts) (λ (u : Count). u.raised) s.views (λ i u e z. (r.sound i u e).partless z) id v at (r.whole ∙ sym parts) in
+    let seen = mine.seen in
+    let kept : IsKept seats (stepped s 0 (get_or s.words 0 0) id me.1 v keeps) = record {
+      wide = length-set s.words 0 _ ∙ r.wide;
+      whole = total-same (λ (u : Count). u.parts) s.views id v v at refl ∙ r.whole;
+      sound = stepped_sound seats s id v v _ r (omega arith) (record { partless = mine.partless; seen = omega arith });
+      word = get_or-set_same s.words 0 _ 0 (omega arith) ∙ (r.word ∙ ap (λ n. n % 2 ^ 64) (sym same));
+    } in (v, keeps, tt, kept, (refl, omega arith))

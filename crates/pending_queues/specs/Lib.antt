@@ -9,3 +9,6 @@ pub mod Seated
 pub mod Dealt
 pub mod PlainValue
 pub mod PlainKept
+pub mod Delivered
+pub mod Telling
+pub mod Gathered

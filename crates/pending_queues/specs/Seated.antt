@@ -51,6 +51,7 @@ module _ {A K : Type 0} where
   pub record IsSeated (key : K) (index : ℕ) (passes : List (PassValue A K)) (marks : List TallySeatValue) (sizes : List ℕ) (log : List Taken) (taken : List BlockValue) (cleared : ℕ) : Type 0 where
     pub passes_are : AtEach (λ u p. p ≡ pass_of p.lane key (length passes) index (sent_by passes index) taken u) passes
     pub many : length marks ≡ length passes
+    pub one_part : AtEach (λ u m. m.parts ≡ 1) marks
     -- each take raised the exporter's tally
     pub raised : AtEach (λ u m. m.raised ≡ length (taken_from u taken)) marks
     pub sizes_are : sizes ≡ sizes_of (sent_by passes index)

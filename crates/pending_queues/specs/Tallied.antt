@@ -49,3 +49,7 @@ Raised st m found m' = m' ≡ (known m.0.parts (m.0.raised + 1) m.0.seen, m.1)
 -- the seat has seen what the word was. It keeps the greatest that it has seen
 abbrev pub Saw : Step (Unit {0}) → Sat → ℕ → Sat → Type 0
 Saw st m found m' = m' ≡ (known m.0.parts m.0.raised (max m.0.seen found), m.1)
+
+-- nothing changed, and what the seat has seen was raised by it
+abbrev pub Checked : Step (Unit {0}) → Sat → ℕ → Sat → Type 0
+Checked st m found m' = (m' ≡ m) × (m.0.seen ≤ m.0.raised)

@@ -1,5 +1,5 @@
 -- A tally and its seats, as callers see them.
-use Rattle.std.specs.Prelude.{ℕ, List, sum_by, refl}
+use Rattle.std.specs.Prelude.{ℕ, ◌+◌, max, refl}
 use Rattle.std.specs.Coded.{Coded, code_by, coded×, coded_ℕ}
 use Rattle.atomic_table.specs.Seated.{TableId, table_id_coded}
 
@@ -12,6 +12,8 @@ pub record TallyValue : Type 0 where
 pub record TallySeatValue : Type 0 where
   -- the tally that it belongs to
   pub name : TableId
+  -- how many of the tally's parts it has. Each seat that is made has one
+  pub parts : ℕ
   -- how often it raised the tally
   pub raised : ℕ
   -- the greatest count that it has read, or 0
@@ -22,12 +24,13 @@ tally_code = code_by (TableId × ℕ) (coded× table_id_coded coded_ℕ) (λ t. 
 
 abbrev pub tally_seat_code : Coded TallySeatValue
 tally_seat_code =
-    code_by (TableId × (ℕ × ℕ)) (coded× table_id_coded (coded× coded_ℕ coded_ℕ)) (λ s. (s.name, (s.raised, s.seen))) (λ p. record { name = p.0; raised = p.1.0; seen = p.1.1 }) (λ _. refl)
+    code_by (TableId × (ℕ × (ℕ × ℕ))) (coded× table_id_coded (coded× coded_ℕ (coded× coded_ℕ coded_ℕ))) (λ s. (s.name, (s.parts, (s.raised, s.seen))))
+    (λ p. record { name = p.0; parts = p.1.0; raised = p.1.1.0; seen = p.1.1.1 }) (λ _. refl)
 
 -- a seat that has not raised the tally, nor read it
 abbrev pub unraised : TableId → TallySeatValue
-unraised name = record { name = name; raised = 0; seen = 0 }
+unraised name = record { name = name; parts = 1; raised = 0; seen = 0 }
 
--- how often the seats raised their tally
-abbrev pub raised_by : List TallySeatValue → ℕ
-raised_by seats = sum_by (λ (s : TallySeatValue). s.raised) seats
+-- what two seats say together
+abbrev pub both_seats : TallySeatValue → TallySeatValue → TallySeatValue
+both_seats s t = record s { parts = s.parts + t.parts; raised = s.raised + t.raised; seen = max s.seen t.seen }

@@ -2,6 +2,7 @@
 #![tactic(auto)]
 
 mod cargo;
+mod closing;
 mod deliveries;
 mod lane;
 mod lane_pass;
@@ -17,10 +18,12 @@ mod ruled_pending;
 #[cfg(test)]
 mod ruled_tests;
 mod seat;
+mod shares;
 mod tally;
 mod tally_plays;
 #[cfg(test)]
 mod tally_tests;
+mod telling;
 mod view;
 
 pub use cargo::Cargo;

@@ -1,7 +1,7 @@
 ghost use Rattle.std.specs.Prelude.{◌≡◌, ◌<◌, length, IfOk};
 ghost use Rattle.pending_queues.specs.PendingValue.{IsSeatOf};
 
-use crate::{Cargo, PendingSeat, RuledPending};
+use crate::{Cargo, Deliveries, Delivery, PendingSeat, RuledPending};
 use block_pool::Block;
 use std::alloc::{AllocError, Global};
 use std::sync::Wait;
@@ -112,5 +112,50 @@ fn blocks_are_taken_in_order(rt: HostRuntime) -> Result<(), Fail> {
     assert_eq!(rt; take(&rt, &pending, &mut one, 0)?, None);
     assert_eq!(rt; take(&rt, &pending, &mut zero, 0)?, None);
     assert!(rt; zero.index() == 0 && one.index() == 1);
+    let deliveries = close(&rt, rt.alloc(), Pair { pending, zero, one })?;
+    assert_eq!(rt;
+        deliveries.of(0),
+        [
+            delivery(1, Some(1)),
+            delivery(2, Some(0)),
+            delivery(3, Some(1))
+        ]
+        .as_slice()
+    );
+    assert!(rt; deliveries.of(1).is_empty());
+    Ok(())
+}
+
+/// What became of the blocks of both exporters.
+fn close<R: Wait>(rt: &R, alloc: Global, pair: Pair) -> Result<Deliveries, AllocError>
+    requires queues { length pair.pending.lanes ≡ 2 }
+    requires seats { IsSeatOf pair.pending pair.zero × IsSeatOf pair.pending pair.one }
+{
+    let Pair { pending, zero, one } = pair;
+    let mut seats = Vec::with_capacity(alloc, 2)?;
+    seats.push_reserved(one);
+    seats.push_reserved(zero);
+    pending.close(rt, alloc, seats)
+}
+
+fn delivery(objects: usize, taker: Option<u32>) -> Delivery {
+    Delivery { objects, taker }
+}
+
+#[test]
+fn closing_tells_what_is_left(rt: HostRuntime) -> Result<(), Fail> {
+    let Pair {
+        pending,
+        mut zero,
+        mut one,
+    } = make_pair(rt.alloc())?;
+    export(&rt, rt.alloc(), &pending, &mut one, 2)?;
+    export(&rt, rt.alloc(), &pending, &mut one, 3)?;
+    assert!(rt; take(&rt, &pending, &mut zero, 1)?.is_some());
+    let deliveries = close(&rt, rt.alloc(), Pair { pending, zero, one })?;
+    assert_eq!(rt;
+        deliveries.of(1),
+        [delivery(2, Some(0)), delivery(3, None)].as_slice()
+    );
     Ok(())
 }

@@ -1,10 +1,10 @@
 //! A count that threads raise and read, and the seats by which they do.
-ghost use Rattle.std.specs.Prelude.{◌≡◌, ◌+◌, ◌<◌, ◌≤◌, ◌++◌, ◌∷◌, [], length, max, IfOk};
+ghost use Rattle.std.specs.Prelude.{◌≡◌, ◌+◌, ◌<◌, ◌≤◌, [], length, max, IfOk};
 ghost use Rattle.std.specs.List.{All};
 ghost use Rattle.pending_queues.specs.Tallied.{known};
-ghost use Rattle.pending_queues.specs.TallyValue.{unraised, raised_by};
+ghost use Rattle.pending_queues.specs.TallyValue.{unraised, both_seats};
 
-use crate::tally_plays::{Count, Deal, Gather, Raise, Read, Rule};
+use crate::tally_plays::{Check, Count, Deal, Gather, Raise, Read, Rule};
 use atomic_table::{Seat, Table};
 use std::alloc::{AllocError, Allocator, Global};
 use std::marker::Model;
@@ -36,26 +36,16 @@ pub struct TallySeat {
 }
 
 impl Model for TallySeat {
-    ghost use Rattle.std.specs.Prelude.{◌≡◌, []};
+    ghost use Rattle.std.specs.Prelude.{◌≡◌, ◌<◌, []};
     ghost use Rattle.pending_queues.specs.TallyValue.{TallySeatValue, tally_seat_code};
 
     ghost Value = { TallySeatValue };
 
     ghost coded = { tally_seat_code };
 
-    ghost view = { λ s. record { name = s.seat.table_id; raised = s.seat.me.0.raised; seen = s.seat.me.0.seen } };
+    ghost view = { λ s. record { name = s.seat.table_id; parts = s.seat.me.0.parts; raised = s.seat.me.0.raised; seen = s.seat.me.0.seen } };
 
-    ghost invariant = { λ s. (s.seat.me.0.parts ≡ 1) × (s.seat.me.1 ≡ []) };
-}
-
-impl TallySeat {
-    fn into_seat(self) -> Seat<(), Count>
-        ensures name { result.table_id ≡ self.name }
-        ensures count { result.me ≡ (known 1 self.raised self.seen, []) }
-    {
-        let TallySeat { seat } = self;
-        seat
-    }
+    ghost invariant = { λ s. (0 < s.seat.me.0.parts) × (s.seat.me.1 ≡ []) };
 }
 
 /// A seat for each part of the first one.
@@ -76,27 +66,6 @@ fn deal<A: Allocator, B: Allocator>(
         seats.push(TallySeat { seat })?;
     }
     Ok(seats)
-}
-
-/// All that the seats raised and saw, in one seat.
-fn gather<A: Allocator, B: Allocator>(
-    table: &Table<(), Count, usize, Rule, A>,
-    last: TallySeat,
-    mut seats: Vec<TallySeat, B>,
-) -> Seat<(), Count>
-    requires words { 0 < table.now.shared.table_id.words }
-    requires last { last.name ≡ table.now.shared.table_id }
-    requires seats { All (λ s. s.name ≡ table.now.shared.table_id) seats.items }
-    ensures name { result.table_id ≡ table.now.shared.table_id }
-    ensures parts { result.me.0.parts ≡ length (seats.items ++ last ∷ []) }
-    ensures raised { result.me.0.raised ≡ raised_by (seats.items ++ last ∷ []) }
-    ensures seen { All (λ s. s.seen ≤ result.me.0.seen) (seats.items ++ last ∷ []) }
-{
-    let mut all = last.into_seat();
-    while let Some(seat) = seats.pop() {
-        table.shared.join_seat::<Gather>(&mut all, seat.into_seat());
-    }
-    all
 }
 
 impl<A: Allocator + Clone> Tally<A> {
@@ -129,17 +98,22 @@ impl<A: Allocator> Tally<A> {
         self.table.shared.load::<Read>(&mut seat.seat, 0)
     }
 
-    /// Takes all the seats that `new` gave. What any of them has seen was raised.
-    pub fn close<B: Allocator>(self, mut seats: Vec<TallySeat, B>)
-        requires seats { All (λ s. s.name ≡ self.name) seats.items }
-        requires all { length seats.items ≡ self.seats }
-        ensures { All (λ s. s.seen ≤ raised_by seats.items) seats.items }
+    /// What two seats raised and saw goes into one.
+    pub fn gather(&self, seat: &mut TallySeat, other: TallySeat)
+        requires seats { (seat.old.name ≡ self.now.name) × (other.name ≡ self.now.name) }
+        ensures { seat.new ≡ both_seats seat.old other }
     {
-        let Some(last) = seats.pop() else {
-            return;
-        };
-        let Tally { table, seats: _ } = self;
-        let seat = gather(&table, last, seats);
-        table.close_with(seat).free();
+        let TallySeat { seat: other } = other;
+        self.table.shared.join_seat::<Gather>(&mut seat.seat, other);
+    }
+
+    /// Shows that what was seen was raised, where one seat has all parts.
+    pub fn settle(&self, seat: &mut TallySeat)
+        requires seat { seat.old.name ≡ self.now.name }
+        requires all { seat.old.parts ≡ self.now.seats }
+        ensures same { seat.new ≡ seat.old }
+        ensures raised { seat.old.seen ≤ seat.old.raised }
+    {
+        self.table.shared.load::<Check>(&mut seat.seat, 0);
     }
 }

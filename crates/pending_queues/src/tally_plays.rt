@@ -35,6 +35,14 @@ impl Play<(), Count> for Read {
     ghost then = { Saw };
 }
 
+pub struct Check;
+
+impl Play<(), Count> for Check {
+    ghost use Rattle.pending_queues.specs.Tallied.{Checked};
+
+    ghost then = { Checked };
+}
+
 pub struct Deal;
 
 impl Split<Count> for Deal {

@@ -5,4 +5,4 @@ use Rattle.pending_queues.proofs.tally.Tally.read.Goals as goal
 pub load-requires : goal.load-requires
 load-requires g c =
     let name = ap (λ s. s.name) c.seat.view_is ∙ (c.requires.seat ∙ sym (ap (λ t. t.name) c.self.view_is)) in
-    (name, search rules, reads _ _ _ _ c.seat.invariant.0)
+    (name, search rules, reads _ _ _ _)
