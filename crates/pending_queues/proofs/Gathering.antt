@@ -1,25 +1,23 @@
 -- What one seat has, and what seats have together.
-use Rattle.std.proofs.Common.{◌≡◌, ◌≢◌, ◌≤◌, ℕ, zero, suc, ◌+◌, ◌<◌, ◌==◌, max, Option, Some, None, List, [], ◌∷◌, ◌++◌, All, length, map, set, get_or, sym, refl, ap, ◌∙◌, subst, arith, append-nil, append_assoc, length-append}
+use Rattle.std.proofs.Common.{◌≡◌, ◌≢◌, ◌≤◌, ℕ, suc, ◌+◌, ◌<◌, ◌==◌, max, Some, List, [], ◌∷◌, ◌++◌, All, length, map, set, get_or, sym, refl, ap, ◌∙◌, subst, arith, append-nil, length-append}
 use mathlib.Core.Logic.{dite}
 use native.Mathlib.Decide.{ℕ_discrete}
 use Rattle.std.specs.List.{slice_get, sum_by}
 use Rattle.std.proofs.Math.Nat.{le-max_left, le-max_right}
 use Rattle.std.proofs.lemmas.List.{length-map, set-get_or}
-use Rattle.std.proofs.lemmas.List.Elements.{All-cons, All-nil, All-weaker}
+use Rattle.std.proofs.lemmas.List.Elements.{All-cons, All-nil}
 use Rattle.std.proofs.lemmas.List.Sums.{sum_by-cons}
 use Rattle.std.proofs.lemmas.Option.{slice_get_within, slice_get_read, slice_get-get_or}
 use Rattle.crossbeam_queue.specs.SegTies.{SegId}
 use Rattle.block_pool.specs.BlockValue.{BlockValue}
 use Rattle.pending_queues.specs.PassValue.{PassValue, both, one_if}
-use Rattle.pending_queues.specs.PendingValue.{Source, SeatValue, IsSeatOf}
+use Rattle.pending_queues.specs.PendingValue.{Source, SeatValue}
 use Rattle.pending_queues.specs.TallyValue.{TallySeatValue, both_seats}
 use Rattle.pending_queues.specs.Seated.{AtEach, IsSeated, pass_of, sent_by, sent_to, taken_from}
 use Rattle.pending_queues.specs.Gathered.{all_sent_to, all_taken_from, gathered_pass, AreGathered, IsGatheredMark}
 use Rattle.pending_queues.specs.declared.seat.Taken.{Taken}
+use Rattle.pending_queues.proofs.Joining.{inside}
 use Rattle.pending_queues.proofs.Told.{some_at}
-
-inside : {X : Type 0} (x y : X) → Some x ≡ Some y → x ≡ y
-inside x y e = cc
 
 -- lists with the same names are as long
 pub as_long : {V L : Type 0} (f : V → L) (xs ys : List V) (names : List L) → map f xs ≡ names → map f ys ≡ names → length xs ≡ length ys

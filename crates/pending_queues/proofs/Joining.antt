@@ -1,12 +1,12 @@
 -- Two lists joined place by place, from the back.
-use Rattle.std.proofs.Common.{◌≡◌, ◌≢◌, ◌≤◌, ℕ, zero, suc, ◌+◌, ◌<◌, Option, Some, None, List, [], ◌∷◌, ◌++◌, All, length, map, take, set, get_or, sym, refl, ap, ◌∙◌, subst, ⊎_elim, arith, length-append, length-set, option_map}
+use Rattle.std.proofs.Common.{◌≡◌, ◌≢◌, ◌≤◌, ℕ, zero, suc, ◌+◌, ◌<◌, Some, List, [], ◌∷◌, ◌++◌, All, length, map, take, set, get_or, sym, refl, ap, ◌∙◌, subst, ⊎_elim, arith, length-append, option_map}
 use Rattle.std.specs.List.{slice_get}
 use Rattle.std.proofs.Math.Nat.{eq-or-lt_of_le}
 use Rattle.std.proofs.Math.Seq.{take-length}
-use Rattle.std.proofs.lemmas.List.{length-map, take_all}
+use Rattle.std.proofs.lemmas.List.{length-map}
 use Rattle.std.proofs.lemmas.Option.{slice_get_within, slice_get_read, slice_get-map, get_or_from_slice_get}
-use Rattle.pending_queues.proofs.Places.{get-set, get-set_here}
-use Rattle.pending_queues.proofs.Seating.{map-kept, agree}
+use Rattle.pending_queues.proofs.Places.{get-set_here}
+use Rattle.pending_queues.proofs.Seating.{map-kept}
 use Rattle.pending_queues.proofs.Told.{some_at}
 
 abbrev tail : {X : Type 0} → List X → List X
@@ -39,7 +39,7 @@ else_set (x ∷ xs) zero (suc j) v ne = refl
 else_set (x ∷ xs) (suc i) zero v ne = refl
 else_set (x ∷ xs) (suc i) (suc j) v ne = else_set xs i j v (λ e. ne (ap suc e))
 
-inside : {X : Type 0} (x y : X) → Some x ≡ Some y → x ≡ y
+pub inside : {X : Type 0} (x y : X) → Some x ≡ Some y → x ≡ y
 inside x y e = cc
 
 -- what stands at a place has the name that stands there

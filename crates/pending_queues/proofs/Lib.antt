@@ -13,3 +13,4 @@ pub mod Joining
 pub mod Gathering
 pub mod PlainLists
 pub mod PlainSteps
+pub mod Crossing

@@ -1,5 +1,5 @@
 -- What is written down of each block: who is named last.
-use Rattle.std.proofs.Common.{◌≡◌, ◌≢◌, ◌≤◌, ℕ, zero, suc, ◌+◌, ◌<◌, ◌==◌, ◌&&◌, if◌then◌else◌, Bool, true, false, Option, Some, None, List, [], ◌∷◌, ◌++◌, length, map, set, get_or, sym, refl, ap, ◌∙◌, subst, arith, eqb, eq-eqb, ne_eqb, length-set, option_map}
+use Rattle.std.proofs.Common.{◌≡◌, ◌≢◌, ◌≤◌, ℕ, zero, suc, ◌+◌, ◌<◌, ◌==◌, if◌then◌else◌, Bool, true, false, Option, Some, None, List, [], ◌∷◌, map, set, get_or, sym, refl, ap, ◌∙◌, arith, eq-eqb, ne_eqb, option_map}
 use mathlib.Core.Logic.{dite}
 use native.Mathlib.Decide.{ℕ_discrete}
 use Rattle.std.specs.Prelude.{is_some}
@@ -11,7 +11,7 @@ use Rattle.block_pool.specs.BlockValue.{BlockValue}
 use Rattle.pending_queues.specs.Labelled.{is_label, times_at}
 use Rattle.pending_queues.specs.PendingValue.{SeatValue}
 use Rattle.pending_queues.specs.Delivered.{is_taker}
-use Rattle.pending_queues.specs.Telling.{left, with_name, with_taker, with_takers, named}
+use Rattle.pending_queues.specs.Telling.{with_name, with_taker, with_takers, named}
 use Rattle.pending_queues.specs.declared.deliveries.Delivery.{Delivery}
 
 -- the delivery at a position of an exporter's list

@@ -1,19 +1,13 @@
 -- Each step keeps the rule of a tally, and what who gathered all seats knows.
-use Rattle.std.proofs.Common.{◌≡◌, ◌≢◌, ℕ, ◌+◌, ◌%◌, ◌^◌, ◌<◌, ◌≤◌, List, [], ◌∷◌, ◌++◌, set, length, get_or, max, refl, sym, ap, ◌∙◌, subst, ⊎_elim, arith, length-set, length-append, get_or-set_same, Some}
-use Rattle.std.proofs.Math.Nat.{le-max_left, le-max_right}
-use Rattle.std.proofs.lemmas.List.Elements.{All-pop, All-nil, All-cons, All-same, All-weaker}
-use Rattle.std.proofs.lemmas.List.Sums.{sum_by_push}
-use Rattle.std.specs.List.{All}
+use Rattle.std.proofs.Common.{◌≡◌, ◌≢◌, ℕ, ◌+◌, ◌%◌, ◌^◌, ◌<◌, ◌≤◌, List, [], ◌∷◌, ◌++◌, set, get_or, max, refl, sym, ap, ◌∙◌, subst, ⊎_elim, arith, length-set, get_or-set_same}
 use mathlib.Core.Option.{none, some}
 use lib.ListN.{get_elem?}
-use Rattle.atomic_table.specs.Seated.{TableId}
-use Rattle.atomic_table.specs.Table.{State, Me, step, keeps, stepped, Seen, Allows, Splits, Joins}
+use Rattle.atomic_table.specs.Table.{State, Me, step, keeps, stepped, Allows, Splits, Joins}
 use Rattle.atomic_table.proofs.Lists.{at_set, at_snoc}
 use Rattle.views.specs.Total.{total}
 use Rattle.views.proofs.Totals.{total-set, total-same, total-snoc, total-whole}
 use Rattle.pending_queues.specs.declared.tally_plays.Count.{Count}
 use Rattle.pending_queues.specs.Tallied.{known, raised_in, IsSound, IsKept, newcomer, dealt, both, spent, Raised, Saw, Checked}
-use Rattle.pending_queues.specs.TallyValue.{TallySeatValue}
 
 abbrev St : Type 0
 St = State (Unit {0}) Count

@@ -1,5 +1,5 @@
 -- Lists of lists, where one is written to.
-use Rattle.std.proofs.Common.{◌≡◌, ℕ, ◌+◌, ◌<◌, ◌≤◌, List, [], ◌∷◌, ◌++◌, length, map, set, take, drop, get_or, sym, refl, ap, ◌∙◌, arith, Option, Some}
+use Rattle.std.proofs.Common.{◌≡◌, ℕ, ◌+◌, ◌<◌, ◌≤◌, List, [], ◌∷◌, length, map, set, drop, get_or, sym, refl, ap, ◌∙◌, Option, Some}
 use Rattle.std.proofs.lemmas.List.{drop_all, drop_more, map-set, get_or-map}
 use Rattle.block_pool.specs.BlockValue.{BlockValue}
 use Rattle.pending_queues.specs.PendingValue.{SeatValue}

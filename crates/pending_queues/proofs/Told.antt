@@ -1,26 +1,25 @@
 -- What the gathered passes and marks tell of each exported block, and that what is written down says it.
-use Rattle.std.proofs.Common.{◌≡◌, ◌≢◌, ◌≤◌, ℕ, zero, suc, ◌+◌, ◌<◌, ◌==◌, ◌&&◌, if◌then◌else◌, Bool, true, false, Option, Some, None, List, [], ◌∷◌, ◌++◌, All, cond, length, map, replicate, set, get_or, sym, refl, ap, ◌∙◌, subst, arith, nat_lt, eqb, eq-eqb, ne_eqb, option_map, length-set}
+use Rattle.std.proofs.Common.{◌≡◌, ◌≢◌, ◌≤◌, ℕ, zero, suc, ◌<◌, ◌==◌, ◌&&◌, false, Option, Some, None, List, [], ◌∷◌, ◌++◌, All, length, map, replicate, get_or, sym, refl, ap, ◌∙◌, subst, arith, nat_lt, eq-eqb, option_map, length-set}
 use mathlib.Core.Logic.{dite}
 use native.Mathlib.Decide.{ℕ_discrete}
 use Rattle.std.proofs.Math.Decide.{dec_lt}
 use Rattle.std.specs.Prelude.{flat_map, is_some, option_and_then}
-use Rattle.std.specs.List.{slice_get, sum_by, filter}
+use Rattle.std.specs.List.{slice_get}
 use Rattle.std.proofs.lemmas.Bool.{le-ltb}
 use Rattle.std.proofs.lemmas.List.{get_or-set_other, length-map, length-replicate}
 use Rattle.std.proofs.lemmas.List.Sums.{sum_by-append}
-use Rattle.std.proofs.lemmas.Option.{slice_get_within, slice_get-map, slice_get-get_or}
 use Rattle.block_pool.specs.BlockValue.{BlockValue}
 use Rattle.pending_queues.specs.Labelled.{is_label, times_at}
-use Rattle.pending_queues.specs.PassValue.{PassValue, IsWhole, one_if, position_of}
+use Rattle.pending_queues.specs.PassValue.{PassValue, one_if, position_of}
 use Rattle.pending_queues.specs.PendingValue.{SeatValue}
 use Rattle.pending_queues.specs.TallyValue.{TallySeatValue}
 use Rattle.pending_queues.specs.Seated.{AtEach, taken_from, is_from, has_exporter}
 use Rattle.pending_queues.specs.Delivered.{AreDelivered, IsDelivered, is_taker, names_taker}
-use Rattle.pending_queues.specs.Gathered.{all_sent_to, all_taken_from, gathered_pass, AreGathered, IsGatheredMark, IsSettled, IsTold}
-use Rattle.pending_queues.specs.Telling.{left, all_left, with_name, with_taker, with_takers, placed, named}
+use Rattle.pending_queues.specs.Gathered.{all_sent_to, all_taken_from, AreGathered, IsGatheredMark, IsSettled, IsTold}
+use Rattle.pending_queues.specs.Telling.{all_left, with_name, with_taker, with_takers, placed, named}
 use Rattle.pending_queues.specs.declared.deliveries.Delivery.{Delivery}
 use Rattle.pending_queues.proofs.Seating.{filtered}
-use Rattle.pending_queues.proofs.Naming.{on_bool, look, taken_by, here_set, times-cons, one_at, none_here, seat_takers, look_named, all_times, times_by, few_times, one_named, someone, no_one, labels_of}
+use Rattle.pending_queues.proofs.Naming.{on_bool, taken_by, here_set, times-cons, one_at, none_here, seat_takers, look_named, all_times, times_by, few_times, one_named, someone, no_one, labels_of}
 use Rattle.pending_queues.proofs.Unique.{count_of, own_times, own_sent, own_placed, length-placed, senders-count, numbered-count}
 
 -- a label that isn't the exporter's is none at any position

@@ -1,13 +1,11 @@
 -- One seat has each number, so what is summed over seats with that number is that seat's.
-use Rattle.std.proofs.Common.{◌≡◌, ◌≢◌, ◌≤◌, ℕ, zero, suc, ◌+◌, ◌<◌, ◌==◌, if◌then◌else◌, Bool, true, false, Option, Some, None, List, [], ◌∷◌, ◌++◌, length, map, set, get_or, sym, refl, ap, ◌∙◌, subst, arith, eqb, eq-eqb, ne_eqb, length-set, append-nil}
+use Rattle.std.proofs.Common.{◌≡◌, ◌≢◌, ℕ, zero, suc, ◌+◌, ◌<◌, ◌==◌, if◌then◌else◌, List, [], ◌∷◌, ◌++◌, length, set, get_or, sym, refl, ap, ◌∙◌, arith, eq-eqb, ne_eqb, length-set, append-nil}
 use mathlib.Core.Logic.{dite}
 use native.Mathlib.Decide.{ℕ_discrete}
-use Rattle.std.specs.Prelude.{flat_map}
-use Rattle.std.specs.List.{slice_get, sum_by}
+use Rattle.std.specs.List.{sum_by}
 use Rattle.std.proofs.lemmas.List.{get_or-set_other, get_or-set_same}
 use Rattle.std.proofs.lemmas.List.Sums.{sum_by-cons}
 use Rattle.views.specs.Total.{total}
-use Rattle.block_pool.specs.BlockValue.{BlockValue}
 use Rattle.pending_queues.specs.Labelled.{times_at}
 use Rattle.pending_queues.specs.PendingValue.{SeatValue}
 use Rattle.pending_queues.specs.PassValue.{one_if}

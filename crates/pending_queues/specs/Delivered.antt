@@ -1,7 +1,6 @@
 -- What closing the queues tells of each exported block.
-use Rattle.std.specs.Prelude.{◌≡◌, ◌≤◌, ℕ, ◌+◌, ◌<◌, ◌==◌, Bool, if◌then◌else◌, List, [], ◌∷◌, All, length, map, nat_lt, nat_eq, is_some, option_and_then, slice_get, slice_index_or, Option, Some, None}
+use Rattle.std.specs.Prelude.{◌≡◌, ◌≤◌, ℕ, ◌<◌, ◌==◌, if◌then◌else◌, List, [], All, length, map, nat_lt, is_some, option_and_then, slice_get, slice_index_or, Option, Some, None}
 use Rattle.std.specs.List.{sum_by}
-use Rattle.block_pool.specs.BlockValue.{BlockValue}
 use Rattle.pending_queues.specs.Labelled.{times_at}
 use Rattle.pending_queues.specs.PassValue.{position_of}
 use Rattle.pending_queues.specs.PendingValue.{SeatValue}

@@ -71,7 +71,7 @@ impl<C: Cargo, A: Allocator> RuledPending<C, A> {
         };
         let mut shares = self.gather(seats, last);
         settle_passes(rt, &self.lanes, &mut shares.passes);
-        settle_marks(&self.tallies, &mut shares.marks, self.lanes.len());
+        settle_marks(&self.tallies, &mut shares.marks);
     }
 }
 

@@ -24,6 +24,10 @@ mod tally_plays;
 #[cfg(test)]
 mod tally_tests;
 mod telling;
+#[cfg(test)]
+mod test_blocks;
+#[cfg(test)]
+mod thread_tests;
 mod view;
 
 pub use cargo::Cargo;

@@ -1,36 +1,9 @@
 ghost use Rattle.std.specs.Prelude.{◌≡◌, ◌<◌, ◌≤◌, length, IfOk};
 
-use crate::{Cargo, Deliveries, Delivery, PlainPending, PlainSeat};
-use block_pool::Block;
+use crate::test_blocks::{OfWords, block_of};
+use crate::{Deliveries, Delivery, PlainPending, PlainSeat};
 use std::alloc::Global;
 use std::test::Fail;
-
-/// Blocks of as many words as the key says.
-struct OfWords;
-
-impl Cargo for OfWords {
-    type Key = usize;
-
-    ghost use Rattle.std.specs.Prelude.{◌≡◌};
-
-    ghost fits = { λ words b. b.words ≡ words };
-}
-
-/// A block of so many objects, of which the first is scanned.
-fn block_of(alloc: Global, objects: usize) -> Result<Block, Fail>
-    ensures { IfOk result (λ b. b.words ≡ 16) }
-{
-    let mut block = Block::new(alloc, 16)?;
-    for _ in 0..objects {
-        if block.fits(2) {
-            block.push_new(1, 0);
-        }
-    }
-    if block.front() < block.len() {
-        block.advance_front();
-    }
-    Ok(block)
-}
 
 /// Exports a block of so many objects.
 fn export(

@@ -1,38 +1,11 @@
 ghost use Rattle.std.specs.Prelude.{◌≡◌, ◌<◌, length, IfOk};
 ghost use Rattle.pending_queues.specs.PendingValue.{IsSeatOf};
 
-use crate::{Cargo, Deliveries, Delivery, PendingSeat, RuledPending};
-use block_pool::Block;
+use crate::test_blocks::{OfWords, block_of};
+use crate::{Deliveries, Delivery, PendingSeat, RuledPending};
 use std::alloc::{AllocError, Global};
 use std::sync::Wait;
 use std::test::Fail;
-
-/// Blocks of as many words as the key says.
-struct OfWords;
-
-impl Cargo for OfWords {
-    type Key = usize;
-
-    ghost use Rattle.std.specs.Prelude.{◌≡◌};
-
-    ghost fits = { λ words b. b.words ≡ words };
-}
-
-/// A block of so many objects, at most 3, of which the first is scanned.
-fn block_of(alloc: Global, objects: usize) -> Result<Block, AllocError>
-    ensures { IfOk result (λ b. b.words ≡ 16) }
-{
-    let mut block = Block::new(alloc, 16)?;
-    for _ in 0..objects.min(3) {
-        if block.fits(2) {
-            block.push_new(1, 0);
-        }
-    }
-    if block.front() < block.len() {
-        block.advance_front();
-    }
-    Ok(block)
-}
 
 /// Exports a block of so many objects.
 fn export<R: Wait>(

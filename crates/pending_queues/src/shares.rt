@@ -73,17 +73,12 @@ pub(crate) fn settle_passes<C: Cargo, A: Allocator, R: Wait>(
 }
 
 /// Shows what marks tell that have all parts of their tallies.
-pub(crate) fn settle_marks<A: Allocator>(
-    tallies: &Vec<Tally<A>, A>,
-    marks: &mut Vec<TallySeat, A>,
-    count: usize,
-)
+pub(crate) fn settle_marks<A: Allocator>(tallies: &Vec<Tally<A>, A>, marks: &mut Vec<TallySeat, A>)
     requires tallies { map (λ m. m.name) marks.old.items ≡ map (λ t. t.name) tallies.now.items }
-    requires seats { All (λ t. t.seats ≡ count) tallies.now.items }
-    requires parts { All (λ m. m.parts ≡ count) marks.old.items }
+    requires seats { All (λ t. t.seats ≡ length tallies.now.items) tallies.now.items }
+    requires parts { All (λ m. m.parts ≡ length tallies.now.items) marks.old.items }
     ensures { AtEach (λ u m. m.seen ≤ m.raised) marks.old.items }
 {
-    let _ = count;
     for number in 0..tallies.len() {
         tallies[number].settle(&mut marks[number]);
     }

@@ -1,7 +1,7 @@
-use Rattle.std.proofs.Common.{rules, arith, ◌≡◌, ◌<◌, ◌∙◌, map, refl, ap, sym, get_or, length}
+use Rattle.std.proofs.Common.{◌∙◌, refl, ap, sym, get_or}
 use Rattle.std.proofs.Math.ListN.{get_or-map}
 use Rattle.pending_queues.specs.TallyValue.{both_seats}
-use Rattle.pending_queues.proofs.Joining.{stands, next, name_there, all_there}
+use Rattle.pending_queues.proofs.Joining.{stands, next, name_there}
 use Rattle.pending_queues.proofs.shares.gather_marks.Goals as goal
 
 pub gather-requires : goal.gather-requires

@@ -1,4 +1,4 @@
-use Rattle.std.proofs.Common.{◌≡◌, map, refl}
+use Rattle.std.proofs.Common.{map, refl}
 use Rattle.std.specs.Prelude.{vec_len}
 use Rattle.pending_queues.specs.TallyValue.{both_seats}
 use Rattle.pending_queues.proofs.Joining.{Halfway}

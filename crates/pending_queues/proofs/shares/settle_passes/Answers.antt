@@ -1,4 +1,4 @@
-use Rattle.std.proofs.Common.{rules, arith, ◌≡◌, ◌<◌, ◌≤◌, ◌+◌, ◌∙◌, length, map, ap, sym}
+use Rattle.std.proofs.Common.{arith, ◌≡◌, ◌∙◌, length, ap, sym}
 use Rattle.std.proofs.lemmas.List.{length-map}
 use Rattle.std.proofs.lemmas.Option.{slice_get_within}
 use Rattle.pending_queues.specs.Gathered.{IsSettled}

@@ -1,4 +1,4 @@
-use Rattle.std.proofs.Common.{◌≡◌, ◌<◌, ◌≤◌, ℕ, Some}
+use Rattle.std.proofs.Common.{◌≡◌, ◌<◌, ℕ, Some}
 use Rattle.std.specs.List.{slice_get}
 use Rattle.pending_queues.specs.PassValue.{PassValue}
 use Rattle.pending_queues.specs.Gathered.{IsSettled}

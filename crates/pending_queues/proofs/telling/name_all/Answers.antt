@@ -1,6 +1,6 @@
-use Rattle.std.proofs.Common.{rules, ◌≡◌, ◌∙◌, ap, map}
+use Rattle.std.proofs.Common.{◌∙◌, ap, map}
 use Rattle.pending_queues.specs.Telling.{with_takers}
-use Rattle.pending_queues.proofs.TellingLists.{named_next, named_end}
+use Rattle.pending_queues.proofs.TellingLists.{named_next}
 use Rattle.pending_queues.proofs.telling.name_all.Goals as goal
 
 pub loop-seat-preserved : goal.loop-seat-preserved

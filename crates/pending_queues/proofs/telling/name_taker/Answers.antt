@@ -1,4 +1,4 @@
-use Rattle.std.proofs.Common.{rules, arith, ◌≡◌}
+use Rattle.std.proofs.Common.{rules}
 use Rattle.pending_queues.specs.Telling.{with_name}
 use Rattle.pending_queues.proofs.TellingLists.{items_set}
 use Rattle.pending_queues.proofs.telling.name_taker.Goals as goal

@@ -1,6 +1,6 @@
-use Rattle.std.proofs.Common.{rules, ◌≡◌, ◌∙◌, ap, map, set, length}
+use Rattle.std.proofs.Common.{◌∙◌, ap, map, set}
 use Rattle.pending_queues.specs.Telling.{all_left}
-use Rattle.pending_queues.proofs.TellingLists.{placed_next, placed_end}
+use Rattle.pending_queues.proofs.TellingLists.{placed_next}
 use Rattle.pending_queues.proofs.telling.tell_all.Goals as goal
 
 pub loop-seat-preserved : goal.loop-seat-preserved

@@ -1,4 +1,4 @@
-use Rattle.std.proofs.Common.{rules, arith, ◌≡◌, ◌<◌, ◌∙◌, [], ℕ, All, List, length, map, replicate, ap, sym, subst}
+use Rattle.std.proofs.Common.{arith, ◌≡◌, ◌<◌, ◌∙◌, [], All, List, length, map, replicate, ap, sym, subst}
 use Rattle.std.proofs.lemmas.List.{length-map, length-replicate}
 use Rattle.pending_queues.specs.declared.deliveries.Delivery.{Delivery}
 use Rattle.pending_queues.specs.Telling.{placed, named}

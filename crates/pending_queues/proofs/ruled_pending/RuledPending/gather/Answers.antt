@@ -1,4 +1,4 @@
-use Rattle.std.proofs.Common.{rules, arith, ◌≡◌, ◌<◌, ◌∙◌, ◌++◌, ◌∷◌, [], All, List, length, map, ap, sym, subst, append_assoc, Some}
+use Rattle.std.proofs.Common.{rules, arith, ◌≡◌, ◌∙◌, ◌++◌, ◌∷◌, [], length, ap, sym, subst, append_assoc, Some}
 use Rattle.std.proofs.lemmas.List.Elements.{All-pop}
 use Rattle.pending_queues.specs.PendingValue.{IsSeatOf}
 use Rattle.pending_queues.specs.Seated.{AtEach}

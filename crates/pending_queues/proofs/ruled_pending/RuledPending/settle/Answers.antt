@@ -1,4 +1,4 @@
-use Rattle.std.proofs.Common.{rules, arith, ◌≡◌, ◌<◌, ◌+◌, ◌∙◌, ◌++◌, ◌∷◌, [], ℕ, All, List, length, map, ap, sym, subst, Some, length-append}
+use Rattle.std.proofs.Common.{arith, ◌≡◌, ◌∙◌, ◌++◌, ◌∷◌, [], length, ap, sym, subst, Some, length-append}
 use Rattle.std.proofs.lemmas.List.{length-map}
 use Rattle.std.proofs.lemmas.List.Elements.{All-pop}
 use Rattle.pending_queues.specs.PendingValue.{IsSeatOf}
@@ -23,10 +23,10 @@ pub settle_marks-requires : goal.settle_marks-requires
 settle_marks-requires g c =
     let e = c.gather-shares.ensures in
     let all : length (c.pop.new.self.items ++ c.in-Some.last ∷ []) ≡ length c.args.self.now.lanes = ap length (sym c.in-Some.ensures.items) ∙ c.requires.all in
-    let count : c.len.result ≡ length c.args.self.now.lanes = c.len.ensures ∙ c.self.inside.lanes.ok.0 ∙ ap (λ x. length x.lanes) c.self.view_is in
+    let count : length c.self.inside.tallies.items ≡ length c.args.self.now.lanes = c.self.invariant.0 ∙ ap (λ x. length x.lanes) c.self.view_is in
     record {
       tallies = e.tallies ∙ sym (ap (λ x. x.tallies) c.self.view_is);
-      seats = λ k d lt. c.self.invariant.1 k d lt ∙ (ap (λ x. length x.lanes) c.self.view_is ∙ sym count);
+      seats = λ k d lt. c.self.invariant.1 k d lt ∙ sym c.self.invariant.0;
       parts = mark_parts _ _ _ e.marks (all ∙ sym count);
     }
 

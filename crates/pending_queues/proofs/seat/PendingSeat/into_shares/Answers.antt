@@ -1,4 +1,3 @@
-use Rattle.std.proofs.Common.{rules, ◌≡◌, ap}
 use Rattle.pending_queues.proofs.Gathering.{one_passes, one_marks}
 use Rattle.pending_queues.proofs.seat.PendingSeat.into_shares.Goals as goal
 

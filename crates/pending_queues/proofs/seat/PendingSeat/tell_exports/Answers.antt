@@ -1,4 +1,4 @@
-use Rattle.std.proofs.Common.{rules, ◌≡◌, ◌∙◌, ap, map, set, length}
+use Rattle.std.proofs.Common.{◌∙◌, ap, map, set}
 use Rattle.std.proofs.lemmas.List.{map-set}
 use Rattle.pending_queues.specs.Telling.{left, all_left}
 use Rattle.pending_queues.proofs.TellingLists.{left_sizes}
