@@ -1,6 +1,6 @@
 -- One field of a copy, and then one copy, is scanned.
 use Rattle.std.proofs.Common.{◌≡◌, ◌≢◌, ℕ, ◌+◌, ◌<◌, ◌≤◌, ◌++◌, ◌∷◌, [], List, length, set, get_or, take, Option, Some, None, sym, ap, ◌∙◌, arith}
-use Rattle.std.proofs.lemmas.List.{get_or-take, length-append, length-take, take_all, take-take}
+use Rattle.std.proofs.lemmas.List.{get_or_default, get_or-take, length-append, length-take, take_all, take-take}
 use Rattle.model.specs.Graph.{Object, IsClosed}
 use Rattle.model.specs.Live.{Live}
 use Rattle.layout.specs.declared.place.Place.{Place}
@@ -19,7 +19,7 @@ use Rattle.std.proofs.lemmas.List.Elements.{All-get_or}
 use Rattle.collector.proofs.BlockCopies.{with_raw}
 use Rattle.collector.proofs.Forwarding.{length-copies_won}
 use Rattle.collector.proofs.Positions.{at_grown, more_grown, at_set, more_set, at_next, at_last}
-use Rattle.collector.proofs.Scanning.{get_or-any, in_won, pointer_count, field_is, nil_done, pointer_done, object_done}
+use Rattle.collector.proofs.Scanning.{in_won, pointer_count, field_is, nil_done, pointer_done, object_done}
 use Rattle.collector.proofs.Targets.{target_live, target_word, nil_field}
 
 -- the word of a place isn't that of nil
@@ -45,20 +45,20 @@ module _ (heap : HeapValue) (g : ℕ) (places : List (Option Place)) (blocks : L
   pub pointers_at : (d : BlockValue) (r : Raw) → length (get_or (get_or blocks b d).objects k r).pointers ≡ length next.pointers
   pointers_at d r =
       pointer_count heap g places blocks won scanned fields b k (get_or blocks b d) (get_or (get_or blocks b d).objects k r) h at more
-      (get_or-any blocks b d (get_or blocks b d) at.in_blocks) (get_or-any (get_or blocks b d).objects k r (get_or (get_or blocks b d).objects k r) (more d))
+      (get_or_default blocks b d (get_or blocks b d) at.in_blocks) (get_or_default (get_or blocks b d).objects k r (get_or (get_or blocks b d).objects k r) (more d))
 
   pub still_to_do : length scanned < length won
   still_to_do =
       let d = empty_block 0 in let r = new_object 0 0 in
       in_won heap g places blocks won scanned fields b k (get_or blocks b d) (get_or (get_or blocks b d).objects k r) h at more
-      (get_or-any blocks b d (get_or blocks b d) at.in_blocks) (get_or-any (get_or blocks b d).objects k r (get_or (get_or blocks b d).objects k r) (more d))
+      (get_or_default blocks b d (get_or blocks b d) at.in_blocks) (get_or_default (get_or blocks b d).objects k r (get_or (get_or blocks b d).objects k r) (more d))
 
   pub word_is : (word : ℕ) → fields < length next.pointers → IsWordAt blocks b k fields word → target_of_word word ≡ get_or next.pointers fields None
   word_is word lt is =
       let d = empty_block 0 in let r = new_object 0 0 in
       ap target_of_word (is d r)
       ∙ field_is heap g places blocks won scanned fields b k (get_or blocks b d) (get_or (get_or blocks b d).objects k r) h at more
-      (get_or-any blocks b d (get_or blocks b d) at.in_blocks) (get_or-any (get_or blocks b d).objects k r (get_or (get_or blocks b d).objects k r) (more d)) lt
+      (get_or_default blocks b d (get_or blocks b d) at.in_blocks) (get_or_default (get_or blocks b d).objects k r (get_or (get_or blocks b d).objects k r) (more d)) lt
 
   -- what the pointer leads to is live
   pub leads_to_live : (word : ℕ) (target : Place) → IsClosed heap.graph → IsPlainHeap heap → fields < length next.pointers → IsWordAt blocks b k fields word → place_word target ≡ word → Live heap.graph g (place_word target)
@@ -73,7 +73,7 @@ module _ (heap : HeapValue) (g : ℕ) (places : List (Option Place)) (blocks : L
       let nil : get_or next.pointers fields None ≡ None = nil_field heap g word (get_or next.pointers fields None) are (word_is word lt is) none (λ target leads. target_live heap g places blocks won scanned fields h closed plain still_to_do fields target lt leads) in
       record {
         copied = nil_done heap g places blocks won scanned fields b k (get_or blocks b d) (get_or (get_or blocks b d).objects k r) h at more
-            (get_or-any blocks b d (get_or blocks b d) at.in_blocks) (get_or-any (get_or blocks b d).objects k r (get_or (get_or blocks b d).objects k r) (more d)) lt nil;
+            (get_or_default blocks b d (get_or blocks b d) at.in_blocks) (get_or_default (get_or blocks b d).objects k r (get_or (get_or blocks b d).objects k r) (more d)) lt nil;
         at = at;
         more = more;
         kept = take_all (length won) won (omega arith);
@@ -107,10 +107,10 @@ module _ (heap : HeapValue) (g : ℕ) (places : List (Option Place)) (blocks : L
   same_count d r = pointers_at heap g places' blocks' won' scanned fields b k f.copied at' more' d r ∙ ap (λ (o : Object). length o.pointers) same_next
 
   block_is : block' ≡ get_or blocks' b block'
-  block_is = get_or-any blocks' b (empty_block 0) block' at'.in_blocks
+  block_is = get_or_default blocks' b (empty_block 0) block' at'.in_blocks
 
   raw_is : raw' ≡ get_or block'.objects k raw'
-  raw_is = get_or-any block'.objects k (new_object 0 0) raw' (more' (empty_block 0))
+  raw_is = get_or_default block'.objects k (new_object 0 0) raw' (more' (empty_block 0))
 
   pub scans_pointer : (blocks'' : List BlockValue) → fields < length now.pointers → get_or now.pointers fields None ≡ Some (place_word target)
       → ((block : BlockValue) (raw : Raw) → block ≡ get_or blocks' b block → raw ≡ get_or block.objects k raw → blocks'' ≡ set blocks' b (with_raw block k (with_pointer_word raw fields (place_word place))))
@@ -133,7 +133,7 @@ scans_object heap g places blocks old_won won scanned fields b k place s all is 
     let d = empty_block 0 in let r = new_object 0 0 in
     record {
       copied = rw (is d) (object_done heap g places blocks won scanned fields b k (get_or blocks b d) (get_or (get_or blocks b d).objects k r) s.copied s.at s.more
-          (get_or-any blocks b d (get_or blocks b d) s.at.in_blocks) (get_or-any (get_or blocks b d).objects k r (get_or (get_or blocks b d).objects k r) (s.more d)) all);
+          (get_or_default blocks b d (get_or blocks b d) s.at.in_blocks) (get_or_default (get_or blocks b d).objects k r (get_or (get_or blocks b d).objects k r) (s.more d)) all);
       at = at_next blocks b k (length scanned) (length (scanned ++ place ∷ [])) s.at s.more (length-append scanned (place ∷ []));
       stays = s.stays;
     }

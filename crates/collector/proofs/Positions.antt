@@ -1,13 +1,12 @@
 -- Where the scan point stands.
 use Rattle.std.proofs.Common.{◌≡◌, ℕ, ◌+◌, ◌<◌, ◌≤◌, ◌++◌, [], ◌∷◌, List, length, set, get_or, take, sym, ap, ◌∙◌, arith}
-use Rattle.std.proofs.lemmas.List.{length-set, length-append, get_or-set_same, take-set, take_all, take_more}
+use Rattle.std.proofs.lemmas.List.{get_or_default, length-set, length-append, get_or-set_same, take-set, take_all, take_more}
 use Rattle.layout.specs.Object.{Raw}
 use Rattle.layout.specs.Place.{small_word}
 use Rattle.block_pool.specs.BlockValue.{BlockValue}
 use Rattle.heap.specs.BlockObjects.{block_objects, copies_of}
 use Rattle.collector.specs.Copied.{IsAt, HasOrdinal, Grows}
 use Rattle.collector.proofs.BlockCopies.{with_raw, length-objects_from}
-use Rattle.collector.proofs.Scanning.{get_or-any}
 
 module _ (blocks blocks' : List BlockValue) (grows : Grows blocks blocks') (b k : ℕ) where
   pub at_grown : (s : ℕ) → IsAt blocks b k s → IsAt blocks' b k s
@@ -26,7 +25,7 @@ module _ (blocks : List BlockValue) (b k : ℕ) (block : BlockValue) (raw : Raw)
   same_count : (d : BlockValue) → length (get_or (set blocks b (with_raw block k raw)) b d).objects ≡ length (get_or blocks b d).objects
   same_count d =
       ap (λ (c : BlockValue). length c.objects) (get_or-set_same blocks b (with_raw block k raw) d lt)
-      ∙ length-set block.objects k raw ∙ ap (λ (c : BlockValue). length c.objects) (is ∙ get_or-any blocks b block d lt)
+      ∙ length-set block.objects k raw ∙ ap (λ (c : BlockValue). length c.objects) (is ∙ get_or_default blocks b block d lt)
 
   pub more_set : HasOrdinal blocks b k → HasOrdinal (set blocks b (with_raw block k raw)) b k
   more_set h = λ d. let was = h d in omega (arith, was, same_count d)

@@ -27,11 +27,6 @@ length-split f zero xs = refl
 length-split f (suc n) [] = refl
 length-split f (suc n) (x ∷ xs) = ap suc (length-split f n xs)
 
-pub get_or-any : {X : Type 0} (xs : List X) (i : ℕ) (d e : X) → i < length xs → get_or xs i d ≡ get_or xs i e
-get_or-any [] i d e lt = absurd (omega arith)
-get_or-any (x ∷ xs) zero d e lt = refl
-get_or-any (x ∷ xs) (suc i) d e lt = get_or-any xs i d e (omega arith)
-
 module _ (heap : HeapValue) (g : ℕ) (places : List (Option Place)) (blocks : List BlockValue) (won : List (ℕ × ℕ)) (scanned : List ℕ) (fields b k : ℕ) (block : BlockValue) (raw : Raw)
     (h : HasCopied heap g places blocks won scanned fields) (at : IsAt blocks b k (length scanned)) (more : HasOrdinal blocks b k)
     (block_is : block ≡ get_or blocks b block) (raw_is : raw ≡ get_or block.objects k raw) where

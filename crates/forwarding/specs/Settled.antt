@@ -1,5 +1,5 @@
 -- What settling answers: the place of each name that was won.
-use Rattle.std.specs.Prelude.{◌≡◌, ◌≤◌, ℕ, ◌+◌, ◌==◌, if◌then◌else◌, List, [], ◌∷◌, ◌++◌, All, Option, Some, None}
+use Rattle.std.specs.Prelude.{◌≡◌, ◌≤◌, ℕ, ◌+◌, ◌==◌, if◌then◌else◌, List, [], ◌∷◌, All, flat_map, Option, Some, None}
 use Rattle.layout.specs.declared.place.Place.{Place}
 
 -- names with their places
@@ -22,8 +22,7 @@ ones (Some x) = 1
 
 -- the pairs of all passes, one pass after another
 abbrev pub all_pairs : {P : Type 0} → (P → Pairs) → List P → Pairs
-all_pairs pairs_of [] = []
-all_pairs pairs_of (p ∷ ps) = pairs_of p ++ all_pairs pairs_of ps
+all_pairs pairs_of passes = flat_map pairs_of passes
 
 -- each place that is known is the one that f gives its name
 abbrev pub KnowsOnly : (ℕ → Option Place) → (ℕ → Option Place) → Type 0

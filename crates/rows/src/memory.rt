@@ -11,13 +11,16 @@ use std::test::Fail;
 use trace_driver::{CountedReader, Fault, RunConfig, run};
 
 /// Lines of a trace, and what each prints. The first collection fills more than one block.
-const LINES: [(&[u8], &[u8]); 12] = [
+const LINES: [(&[u8], &[u8]); 16] = [
     (b"new a 0 0 3\n", b""),
     (b"new b 0 1 2\n", b""),
     (b"new c 0 3 0\n", b""),
     (b"new d 0 0 3\n", b""),
     (b"new e 0 0 0\n", b""),
     (b"new f 0 0 3\n", b""),
+    (b"set c 0 a\n", b""),
+    (b"set c 2 c\n", b""),
+    (b"put d 1 7\n", b""),
     (b"drop b\n", b""),
     (b"collect 0\n", b"collected 0: 5 kept, 1 freed\n"),
     (
@@ -30,6 +33,22 @@ const LINES: [(&[u8], &[u8]); 12] = [
         b"census\n",
         b"gen 0 step 0: 6 objects 21 words\nlarge: 0 objects 0 words\nroots: 6\nremembered: 0\n",
     ),
+    (
+        b"heap\n",
+        b"root a #1
+root a-longer-name.of_32-bytes...... #2
+root c #3
+root d #4
+root e #5
+root f #6
+#1 gen 0 step 0 ptrs [] words [0 0 0]
+#2 gen 0 step 0 ptrs [] words [0 0 0]
+#3 gen 0 step 0 ptrs [#1 nil #3] words []
+#4 gen 0 step 0 ptrs [] words [0 7 0]
+#5 gen 0 step 0 ptrs [] words []
+#6 gen 0 step 0 ptrs [] words [0 0 0]
+",
+    ),
 ];
 
 /// More lines than the trace has.
@@ -38,9 +57,14 @@ const ALL_LINES: u128 = 100;
 /// More requests than a run makes.
 const MANY: u64 = 1000;
 
+/// The lines of the trace. No other function names the constant, since a check writes it out wherever it is named.
+fn lines() -> &'static [(&'static [u8], &'static [u8])] {
+    &LINES
+}
+
 fn input_of_lines(alloc: Global) -> Result<Vec<u8>, Fail> {
     let mut input = Vec::new(alloc);
-    for (line, _) in LINES {
+    for (line, _) in lines() {
         input.extend_from_slice(line)?;
     }
     Ok(input)
@@ -49,7 +73,7 @@ fn input_of_lines(alloc: Global) -> Result<Vec<u8>, Fail> {
 /// What the lines before this one print. Lines are counted from 1.
 fn output_before(alloc: Global, number: u128) -> Result<Vec<u8>, Fail> {
     let mut output = Vec::new(alloc);
-    for (before, (_, printed)) in LINES.iter().enumerate() {
+    for (before, (_, printed)) in lines().iter().enumerate() {
         if (before as u128) + 1 < number {
             output.extend_from_slice(printed)?;
         }
