@@ -14,7 +14,8 @@ use Rattle.std.specs.Prelude.{if◌then◌else◌}
 use mathlib.Core.Logic.{dite}
 use native.Mathlib.Decide.{ℕ_discrete}
 use Rattle.atomic_table.specs.Seated.{TableId}
-use Rattle.block_pool.specs.Drawn.{times, one_if}
+use Rattle.views.specs.Total.{one_if}
+use Rattle.block_pool.specs.Drawn.{times}
 use Rattle.block_pool.specs.ClaimsValue.{Source, SeatValue, IsSeatOf, all_drawn, any_out}
 use Rattle.block_pool.proofs.DrawLemmas.{times-take, IsEnd}
 use Rattle.block_pool.specs.declared.claim_plays.Share.{Share}

@@ -14,10 +14,6 @@ abbrev pub times : ℕ → List ℕ → ℕ
 times x [] = 0
 times x (y ∷ ys) = (if y == x then 1 else 0) + times x ys
 
-abbrev pub one_if : Bool → ℕ
-one_if true = 1
-one_if false = 0
-
 -- how many numbers were drawn
 abbrev pub drawn_in : List Share → ℕ
 drawn_in = total (λ (v : Share). length v.drawn)

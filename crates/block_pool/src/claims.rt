@@ -2,7 +2,8 @@
 ghost use Rattle.std.specs.Prelude.{◌≡◌, ◌<◌, ◌≤◌, ◌^◌, ◌++◌, ◌∷◌, [], ℕ, true, false, length, take, nat_eq, IfOk, IfSome, None};
 ghost use Rattle.std.specs.List.{All, Contains, IsDistinct};
 ghost use Rattle.std.specs.Option.{MatchOption};
-ghost use Rattle.block_pool.specs.Drawn.{share, times, one_if};
+ghost use Rattle.views.specs.Total.{one_if};
+ghost use Rattle.block_pool.specs.Drawn.{share, times};
 ghost use Rattle.block_pool.specs.ClaimsValue.{Source, unused, IsSeatOf, all_drawn, any_out};
 
 use crate::claim_plays::{Deal, Draw, Gather, Plan, Rule, Share};
@@ -40,7 +41,7 @@ pub struct ClaimSeat {
 
 impl Model for ClaimSeat {
     ghost use Rattle.std.specs.Prelude.{◌≡◌, ◌≤◌, [], length};
-    ghost use Rattle.block_pool.specs.Drawn.{one_if};
+    ghost use Rattle.views.specs.Total.{one_if};
     ghost use Rattle.block_pool.specs.ClaimsValue.{SeatValue, seat_code};
 
     ghost Value = { SeatValue };

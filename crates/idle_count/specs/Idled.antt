@@ -1,16 +1,13 @@
 -- The rule of the idle count, and what a step on it tells its seat.
-use Rattle.std.specs.Prelude.{◌≡◌, ◌≢◌, ℕ, ◌+◌, ◌-◌, ◌<◌, ◌≤◌, Bool, true, false, cond, List, length, slice_index, max, ◌==◌}
+use Rattle.std.specs.Prelude.{◌≡◌, ◌≢◌, ℕ, ◌+◌, ◌-◌, ◌<◌, ◌≤◌, Bool, true, false, List, length, slice_index, max, ◌==◌}
 use mathlib.Core.Option.{some}
 use lib.ListN.{get_elem?}
 use Rattle.atomic_table.specs.Table.{State, Me, Step}
-use Rattle.views.specs.Total.{total}
+use Rattle.views.specs.Total.{total, one_if}
 use Rattle.idle_count.specs.declared.idle_plays.Share.{Share}
 
 abbrev pub share : ℕ → ℕ → ℕ → ℕ → ℕ → Share
 share seats parts idles seen steps = record { seats = seats; parts = parts; idles = idles; seen = seen; steps = steps }
-
-abbrev pub one_if : Bool → ℕ
-one_if b = cond b 1 0
 
 -- how many seats are idle
 abbrev pub idles_in : List Share → ℕ

@@ -20,4 +20,3 @@ pub mod Text
 pub mod Commands
 pub mod Rows
 pub mod Laws
-pub mod Stands

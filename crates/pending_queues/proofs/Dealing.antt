@@ -8,7 +8,8 @@ use Rattle.std.proofs.lemmas.List.Elements.{All-append, All-cons, All-nil, All-p
 use Rattle.atomic_table.specs.Seated.{TableId}
 use Rattle.crossbeam_queue.specs.SegTies.{SegId}
 use Rattle.block_pool.specs.BlockValue.{BlockValue}
-use Rattle.pending_queues.specs.PassValue.{PassValue, one_if, first_pass, after_deal, dealt}
+use Rattle.views.specs.Total.{one_if}
+use Rattle.pending_queues.specs.PassValue.{PassValue, first_pass, after_deal, dealt}
 use Rattle.pending_queues.specs.TallyValue.{TallySeatValue, unraised}
 use Rattle.pending_queues.specs.Seated.{AtEach, IsSeated, pass_of, sent_by}
 use Rattle.pending_queues.specs.Dealt.{root_of, AreRoots, AreNewPasses, AreHeaps}

@@ -10,7 +10,8 @@ use Rattle.std.proofs.lemmas.List.Sums.{sum_by-cons}
 use Rattle.std.proofs.lemmas.Option.{slice_get_within, slice_get_read, slice_get-get_or}
 use Rattle.crossbeam_queue.specs.SegTies.{SegId}
 use Rattle.block_pool.specs.BlockValue.{BlockValue}
-use Rattle.pending_queues.specs.PassValue.{PassValue, both, one_if}
+use Rattle.views.specs.Total.{one_if}
+use Rattle.pending_queues.specs.PassValue.{PassValue, both}
 use Rattle.pending_queues.specs.PendingValue.{Source, SeatValue}
 use Rattle.pending_queues.specs.TallyValue.{TallySeatValue, both_seats}
 use Rattle.pending_queues.specs.Seated.{AtEach, IsSeated, pass_of, sent_by, sent_to, taken_from}

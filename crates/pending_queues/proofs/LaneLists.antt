@@ -7,11 +7,11 @@ use mathlib.Core.Option.{some, some-injective, some-ne-none}
 use mathlib.Core.Logic.{dite}
 use native.Mathlib.Decide.{ℕ_discrete}
 use lib.ListN.{get_elem?}
-use Rattle.views.specs.Total.{total}
+use Rattle.views.specs.Total.{total, one_if}
 use Rattle.views.proofs.Totals.{total-set, total-snoc, total-at}
 use Rattle.block_pool.specs.BlockValue.{BlockValue}
 use Rattle.pending_queues.specs.Labelled.{is_label, times_at}
-use Rattle.pending_queues.specs.PassValue.{position_of, one_if}
+use Rattle.pending_queues.specs.PassValue.{position_of}
 use Rattle.pending_queues.specs.LaneRule.{StandsIn}
 
 module _ {A : Type 0} where

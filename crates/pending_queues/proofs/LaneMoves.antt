@@ -8,12 +8,12 @@ use native.Mathlib.Decide.{ℕ_discrete}
 use lib.ListN.{get_elem?}
 use Rattle.crossbeam_queue.specs.Fifo.{Pushes, Pops, Forks, Merges, Learns}
 use Rattle.crossbeam_queue.proofs.Lists.{at_set, at_snoc}
-use Rattle.views.specs.Total.{total}
+use Rattle.views.specs.Total.{total, one_if}
 use Rattle.views.proofs.Totals.{total-set, total-snoc, total-same, total-none, total-whole}
 use Rattle.block_pool.specs.BlockValue.{BlockValue}
 use Rattle.pending_queues.specs.declared.view.View.{View}
 use Rattle.pending_queues.specs.Labelled.{times_at}
-use Rattle.pending_queues.specs.PassValue.{Meets, position_on, position_of, one_if}
+use Rattle.pending_queues.specs.PassValue.{Meets, position_on, position_of}
 use Rattle.pending_queues.specs.LaneRule.{StandsIn, parts_of, exporter_of, about_in, MeetsIn, opening, spent, named, less_one, part_of, kept, handed, gathered, Sent, TookIn, Settled, FitsIn, IsKept}
 use Rattle.pending_queues.proofs.LaneLists.{get_longer, get_middle, get_snoc, stand_grown, stand_more, times_append, times_one, none_below, one_more, total-fork, total-merge, total-two}
 

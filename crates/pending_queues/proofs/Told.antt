@@ -9,8 +9,9 @@ use Rattle.std.proofs.lemmas.Bool.{le-ltb}
 use Rattle.std.proofs.lemmas.List.{get_or-set_other, length-map, length-replicate}
 use Rattle.std.proofs.lemmas.List.Sums.{sum_by-append}
 use Rattle.block_pool.specs.BlockValue.{BlockValue}
+use Rattle.views.specs.Total.{one_if}
 use Rattle.pending_queues.specs.Labelled.{is_label, times_at}
-use Rattle.pending_queues.specs.PassValue.{PassValue, one_if, position_of}
+use Rattle.pending_queues.specs.PassValue.{PassValue, position_of}
 use Rattle.pending_queues.specs.PendingValue.{SeatValue}
 use Rattle.pending_queues.specs.TallyValue.{TallySeatValue}
 use Rattle.pending_queues.specs.Seated.{AtEach, taken_from, is_from, has_exporter}

@@ -5,10 +5,9 @@ use native.Mathlib.Decide.{ℕ_discrete}
 use Rattle.std.specs.List.{sum_by}
 use Rattle.std.proofs.lemmas.List.{get_or-set_other, get_or-set_same}
 use Rattle.std.proofs.lemmas.List.Sums.{sum_by-cons}
-use Rattle.views.specs.Total.{total}
+use Rattle.views.specs.Total.{total, one_if}
 use Rattle.pending_queues.specs.Labelled.{times_at}
 use Rattle.pending_queues.specs.PendingValue.{SeatValue}
-use Rattle.pending_queues.specs.PassValue.{one_if}
 use Rattle.pending_queues.specs.Seated.{sent_to}
 use Rattle.pending_queues.specs.Delivered.{seats_numbered}
 use Rattle.pending_queues.specs.Gathered.{all_sent_to}

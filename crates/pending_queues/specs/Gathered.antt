@@ -3,7 +3,8 @@ use Rattle.std.specs.Prelude.{◌≡◌, ℕ, ◌≤◌, ◌==◌, List, All, le
 use Rattle.std.specs.List.{sum_by}
 use Rattle.crossbeam_queue.specs.SegTies.{SegId}
 use Rattle.block_pool.specs.BlockValue.{BlockValue}
-use Rattle.pending_queues.specs.PassValue.{PassValue, IsWhole, one_if, position_of}
+use Rattle.views.specs.Total.{one_if}
+use Rattle.pending_queues.specs.PassValue.{PassValue, IsWhole, position_of}
 use Rattle.pending_queues.specs.PendingValue.{SeatValue}
 use Rattle.pending_queues.specs.TallyValue.{TallySeatValue}
 use Rattle.pending_queues.specs.Labelled.{times_at}

@@ -5,10 +5,10 @@ use mathlib.Core.Bool.{true≢false}
 use mathlib.Core.Path.{sym}
 use lib.ListN.{get_elem?}
 use Rattle.crossbeam_queue.specs.SegTies.{SegId}
-use Rattle.views.specs.Total.{total}
+use Rattle.views.specs.Total.{total, one_if}
 use Rattle.block_pool.specs.BlockValue.{BlockValue}
 use Rattle.pending_queues.specs.Labelled.{times_at}
-use Rattle.pending_queues.specs.PassValue.{About, PassValue, Meets, position_of, one_if}
+use Rattle.pending_queues.specs.PassValue.{About, PassValue, Meets, position_of}
 use Rattle.pending_queues.specs.declared.view.View.{View}
 
 -- the block is in the list at its position

@@ -2,6 +2,7 @@
 use Rattle.std.specs.Prelude.{◌≡◌, ℕ, ◌+◌, ◌-◌, ◌<◌, Bool, List, [], ◌∷◌, ◌++◌, All, length, nat_lt, slice_get, Option, Some, None, if◌then◌else◌}
 use Rattle.crossbeam_queue.specs.SegTies.{SegId}
 use Rattle.block_pool.specs.BlockValue.{BlockValue}
+use Rattle.views.specs.Total.{one_if}
 use Rattle.pending_queues.specs.Labelled.{times_at}
 
 -- what a queue is about: the key, its exporter, and how many seats there are
@@ -30,9 +31,6 @@ position_on (Some label) = label.1
 
 abbrev pub position_of : BlockValue → ℕ
 position_of block = position_on block.sent
-
-abbrev pub one_if : Bool → ℕ
-one_if b = if b then 1 else 0
 
 -- the block has the exporter's label at this position, and meets the fact with the key
 pub record Meets {K : Type 0} (fits : K → BlockValue → Type 0) (about : About K) (position : ℕ) (block : BlockValue) : Type 0 where

@@ -3,7 +3,8 @@ use Rattle.std.specs.Prelude.{◌≡◌, ℕ, ◌<◌, ◌≤◌, ◌==◌, if�
 use Rattle.std.specs.List.{filter}
 use Rattle.crossbeam_queue.specs.SegTies.{SegId}
 use Rattle.block_pool.specs.BlockValue.{BlockValue}
-use Rattle.pending_queues.specs.PassValue.{PassValue, one_if}
+use Rattle.views.specs.Total.{one_if}
+use Rattle.pending_queues.specs.PassValue.{PassValue}
 use Rattle.pending_queues.specs.TallyValue.{TallySeatValue}
 use Rattle.pending_queues.specs.declared.seat.Taken.{Taken}
 

@@ -1,6 +1,7 @@
 //! One exporter's queue, under its rule.
 ghost use Rattle.std.specs.Prelude.{◌≡◌, ◌<◌, ◌+◌, ◌∷◌, ◌++◌, [], true, length, IsTrue, IfOk, Some, MatchOption, MatchResult};
-ghost use Rattle.pending_queues.specs.PassValue.{first_pass, after_deal, dealt, both, one_if, Meets, Took, IsWhole};
+ghost use Rattle.views.specs.Total.{one_if};
+ghost use Rattle.pending_queues.specs.PassValue.{first_pass, after_deal, dealt, both, Meets, Took, IsWhole};
 
 use crate::cargo::Cargo;
 use crate::lane_pass::LanePass;

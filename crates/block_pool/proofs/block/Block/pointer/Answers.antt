@@ -1,4 +1,4 @@
-use Rattle.std.proofs.Common.{◌≡◌, ◌+◌, ap, arith, sym, ◌∙◌}
+use Rattle.std.proofs.Common.{◌+◌, ap, arith, sym, ◌∙◌}
 use Rattle.std.proofs.lemmas.List.{get_or_read}
 use Rattle.block_pool.proofs.WriteLemmas.{pointer_rewritten}
 use Rattle.block_pool.proofs.ReadLemmas.{HasPointers, has_pointers}

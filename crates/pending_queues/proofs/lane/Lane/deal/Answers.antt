@@ -1,5 +1,5 @@
 use Rattle.std.proofs.Common.{ap, sym, ◌∙◌, arith}
-use Rattle.pending_queues.specs.PassValue.{one_if}
+use Rattle.views.specs.Total.{one_if}
 use Rattle.pending_queues.proofs.LaneMoves.{cuts, hands}
 use Rattle.pending_queues.proofs.lane.Lane.deal.Goals as goal
 
