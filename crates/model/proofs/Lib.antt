@@ -1,19 +1,14 @@
 -- Lemmas on maps with numbers as keys, on graphs and on what a trace means.
 pub mod NatMap
 pub mod SlotMap
-pub mod EntryMap
 pub mod LiveLemmas
 pub mod ReachedList
-pub mod Weight
 pub mod RowProofs
 pub mod Has
 pub mod Same
 pub mod Rising
 pub mod SpreadLemmas
 pub mod TargetLemmas
-pub mod PlainLemmas
-pub mod NameLemmas
-pub mod CollectLemmas
 pub mod Among
 pub mod OldSlotsExact
 pub mod DestCount

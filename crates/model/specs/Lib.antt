@@ -13,9 +13,6 @@ pub mod Config
 pub mod Room
 pub mod Census
 pub mod Store
-pub mod StoreCode
-pub mod Table
-pub mod Plain
 pub mod Text
 pub mod Commands
 pub mod Rows

@@ -1,7 +1,0 @@
-use Rattle.std.proofs.Common.{◌≡◌, map}
-use Rattle.model.specs.Destination.{numbers_from}
-use Rattle.model.specs.Plain.{steps_within}
-use Rattle.model.proofs.store.Store.rows.Given as goal
-
-abbrev pub invariant-loop-name : goal.invariant-loop-name
-invariant-loop-name g l = map (λ r. r.items) l.rows.items ≡ map (steps_within l.self l.limit) (numbers_from 0 l.name)

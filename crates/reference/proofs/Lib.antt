@@ -1,0 +1,4 @@
+-- Lemmas on the plain program.
+pub mod PlainLemmas
+pub mod CollectLemmas
+pub mod NameLemmas
