@@ -5,5 +5,3 @@ pub mod PoolLemmas
 pub mod ObjectLemmas
 pub mod WriteLemmas
 pub mod ReadLemmas
-pub mod DrawLemmas
-pub mod ClaimLemmas

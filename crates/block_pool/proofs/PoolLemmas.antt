@@ -6,18 +6,8 @@ use Rattle.std.proofs.lemmas.Bool.{ne_eqb, eq-eqb, lt-ltb, le-ltb, cases_eq, cas
 use Rattle.std.proofs.lemmas.List.{get_or-set_same, get_or-set_other, length-set, get_or_default, take_more, get_or_past, length-replicate, length-take, length-drop, append-nil, get_or-take, get_or-drop}
 use Rattle.std.proofs.lemmas.List.Elements.{Contains-append_left, Contains-append_right, Contains-append_cases}
 use Rattle.std.proofs.lemmas.List.FromFn.{length-range_with_len}
+use Rattle.claims.proofs.Containing.{Contains-first, Contains-later, Contains-cons_cases}
 use Rattle.block_pool.specs.PoolValue.{set_from, without, insert_rising, NoneSetBelow, IsPool}
-
--- membership in a list with a first element
-pub Contains-first : {X : Type 0} (x : X) (xs : List X) → Contains (x ∷ xs) x
-Contains-first x xs = (0, omega arith, refl)
-
-pub Contains-later : {X : Type 0} (y x : X) (xs : List X) → Contains xs x → Contains (y ∷ xs) x
-Contains-later y x xs (k, h, e) = (suc k, omega arith, e)
-
-pub Contains-cons_cases : {X : Type 0} (y x : X) (xs : List X) → Contains (y ∷ xs) x → (y ≡ x) ⊎ Contains xs x
-Contains-cons_cases y x xs (zero, h, e) = inl e
-Contains-cons_cases y x xs (suc k, h, e) = inr (k, omega arith, e)
 
 -- a number is there exactly where its flag is set
 pub set_from-has : (first : ℕ) (bs : List Bool) (k : ℕ) → get_or bs k false ≡ true → Contains (set_from first bs) (first + k)

@@ -1,6 +1,6 @@
--- What a block, a pool and claims are, how objects lie in the words of a block, and how seats draw.
+-- What a block and a pool are, and how objects lie in the words of a block.
+pub use Rattle.claims.specs.Drawn
+pub use Rattle.claims.specs.ClaimsValue
 pub mod BlockValue
 pub mod Words
 pub mod PoolValue
-pub mod Drawn
-pub mod ClaimsValue

@@ -2,13 +2,7 @@
 #![tactic(auto)]
 
 mod block;
-mod claim_plays;
-#[cfg(test)]
-mod claim_tests;
-mod claims;
 mod pool;
-#[cfg(test)]
-mod tests;
 mod words;
 
 pub use block::Block;

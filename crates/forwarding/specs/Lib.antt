@@ -1,10 +1,8 @@
--- Cells that are set once, and what they answer in the end.
-pub mod Learned
-pub mod Settled
-pub mod Kept
-pub mod Words
-pub mod Plain
-pub mod Noted
-pub mod Boxed
-pub mod Gathered
-pub mod BoxSettled
+-- What cells of each kind tell their callers.
+pub use Rattle.cells.specs.Learned
+pub use Rattle.cells.specs.Settled
+pub use Rattle.cells.specs.Known
+pub use Rattle.plain_cells.specs.Plain
+pub use Rattle.word_cells.specs.Words
+pub use Rattle.box_cells.specs.Noted
+pub use Rattle.box_cells.specs.BoxSettled

@@ -5,16 +5,8 @@
 mod cause;
 mod idle;
 mod idle_plays;
-#[cfg(test)]
-mod idle_tests;
 mod polled;
-#[cfg(test)]
-mod thread_tests;
 mod verdict;
-#[cfg(test)]
-mod verdict_tests;
-#[cfg(test)]
-mod verdict_thread_tests;
 
 pub use cause::Cause;
 pub use idle::{Idle, IdleSeat};

@@ -4,8 +4,6 @@
 mod header;
 mod object;
 mod place;
-#[cfg(test)]
-mod tests;
 
 pub use header::{Header, MOST_FIELDS, TooBig, is_large, size};
 pub use object::ObjectRef;

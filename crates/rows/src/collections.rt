@@ -1,22 +1,33 @@
 //! Collections of a heap through its own calls, where memory and blocks run out too.
 use collector::{CollectError, collect_one};
-use heap::{AllocateError, Config, Heap, MakeError, NoRoot, OpenError, RootId, Sizes, StepId};
+use heap::{
+    AllocateError, Config, Heap, MakeError, NoRoot, OpenError, Report, RootId, Sizes, StepId,
+};
 use heap_text::{Counted, write_census, write_collection};
+use layout::Place;
 use refusing::Refusing;
 use std::alloc::{Allocator, Global};
 use std::process::Abort;
 use std::test::Fail;
 use trace_driver::{CountedReader, RunConfig, run_one};
 
-fn config_of(block_words: u64, nursery_blocks: u64, blocks: u64) -> Result<Config, Fail> {
-    Ok(Config::new(Sizes {
+pub(crate) fn config_of(
+    block_words: u64,
+    nursery_blocks: u64,
+    blocks: u64,
+) -> Result<Config, Fail> {
+    let sizes = Sizes {
         block_words,
         blocks,
         mutators: 1,
         nursery_blocks,
         generations: 1,
         steps: 1,
-    })?)
+    };
+    match Config::new(sizes) {
+        Ok(config) => Ok(config),
+        Err(_) => Err(Fail::from("bad sizes")),
+    }
 }
 
 /// The lines of a heap's census.
@@ -58,25 +69,45 @@ fn requests_of_six_objects(alloc: Global) -> Result<u64, Fail> {
     Ok(refusing.asked())
 }
 
-/// Collects, and where that is refused once more. Says whether it was refused.
-fn is_refused(rt: &impl Abort, alloc: Global, refusing: &Refusing<Global>) -> Result<bool, Fail> {
-    let (mut heap, last) = six_objects(refusing)?;
-    assert_eq!(rt; census_of(alloc, &heap)?.as_slice(), BEFORE);
+/// Asserts that a heap of six objects is as before its collection.
+fn assert_before<A: Allocator + Clone>(
+    rt: &impl Abort,
+    alloc: Global,
+    heap: &Heap<A>,
+) -> Result<(), Fail> {
+    assert_eq!(rt; census_of(alloc, heap)?.as_slice(), BEFORE);
+    Ok(())
+}
+
+/// Collects six objects, and where that is refused once more. Says whether it was refused.
+fn collect_twice<'a>(
+    rt: &impl Abort,
+    alloc: Global,
+    refusing: &'a Refusing<Global>,
+    heap: &mut Heap<&'a Refusing<Global>>,
+    last: RootId,
+) -> Result<bool, Fail> {
     let place = heap.target(last);
-    let refused = match collect_one(refusing, &mut heap, 0) {
-        Ok(report) => {
-            assert_eq!(rt; (report.kept, report.freed), (5, 1));
-            false
+    match collected(refusing, heap) {
+        Ok(counts) => {
+            assert_eq!(rt; counts, (5, 1));
+            Ok(false)
         }
         Err(error) => {
             assert_eq!(rt; error, CollectError::NoMemory);
-            assert_eq!(rt; census_of(alloc, &heap)?.as_slice(), BEFORE);
+            assert_before(rt, alloc, heap)?;
             assert!(rt; heap.target(last) == place);
-            let report = collect_one(refusing, &mut heap, 0)?;
-            assert_eq!(rt; (report.kept, report.freed), (5, 1));
-            true
+            assert_eq!(rt; collected(refusing, heap), Ok((5, 1)));
+            Ok(true)
         }
-    };
+    }
+}
+
+/// Collects, and where that is refused once more. Says whether it was refused.
+fn is_refused(rt: &impl Abort, alloc: Global, refusing: &Refusing<Global>) -> Result<bool, Fail> {
+    let (mut heap, last) = six_objects(refusing)?;
+    assert_before(rt, alloc, &heap)?;
+    let refused = collect_twice(rt, alloc, refusing, &mut heap, last)?;
     assert_eq!(rt; census_of(alloc, &heap)?.as_slice(), AFTER);
     Ok(refused)
 }
@@ -114,35 +145,84 @@ fn census_where_blocks_run_out(rt: HostRuntime) -> Result<(), Fail> {
     Ok(())
 }
 
+/// Collects, and tells how many objects were kept and freed.
+fn collected<A: Allocator + Clone>(
+    alloc: A,
+    heap: &mut Heap<A>,
+) -> Result<(u64, u64), CollectError> {
+    let report = collect_one(alloc, heap, 0)?;
+    Ok((report.kept, report.freed))
+}
+
+/// How many pieces a collection tells of: its generation, objects, slots and free blocks.
+fn opened(alloc: Global, heap: &Heap<Global>) -> Result<(u8, u32, usize, usize), OpenError> {
+    let collection = heap.open_collection(alloc, 0)?;
+    Ok((
+        collection.generation(),
+        collection.cells(),
+        collection.slots().len(),
+        collection.free().len(),
+    ))
+}
+
+#[test]
+fn a_collection_opens(rt: HostRuntime) -> Result<(), Fail> {
+    let (heap, _) = six_objects(rt.alloc())?;
+    assert_eq!(rt; opened(rt.alloc(), &heap), Ok((0, 6, 5, 10)));
+    Ok(())
+}
+
+/// Whether the one worker of a report won and scanned five objects, one of them at this place.
+fn has_five_with(report: &Report<Global>, place: Place) -> bool {
+    let Some(worker) = report.workers.first() else {
+        return false;
+    };
+    worker.won().len() == 5 && worker.scanned().len() == 5 && worker.scanned().contains(&place)
+}
+
+/// Whether the object there has one nil pointer and two zero words, and stands in the first step.
+fn is_last_object(heap: &Heap<Global>, place: Place) -> bool {
+    let Some(object) = heap.object(place) else {
+        return false;
+    };
+    object.pointers == [0].as_slice() && object.words == [0, 0].as_slice()
+}
+
+fn stands_in_first_step(heap: &Heap<Global>, place: Place) -> bool {
+    let first = StepId {
+        generation: 0,
+        step: 0,
+    };
+    heap.step_of(place) == Some(first)
+}
+
+fn is_empty_at(heap: &Heap<Global>, place: Place) -> bool {
+    heap.object(place).is_none() && heap.step_of(place).is_none()
+}
+
+/// Asserts what a collection leaves of the last of six objects, which stood at this place.
+fn assert_moved(
+    rt: &impl Abort,
+    heap: &Heap<Global>,
+    last: RootId,
+    old_place: Place,
+    report: &Report<Global>,
+) -> Result<(), Fail> {
+    let place = heap.target(last).ok_or("no target")?;
+    assert!(rt; place != old_place && has_five_with(report, place));
+    assert!(rt; is_last_object(heap, place) && stands_in_first_step(heap, place));
+    assert!(rt; is_empty_at(heap, old_place));
+    Ok(())
+}
+
 #[test]
 fn objects_move(rt: HostRuntime) -> Result<(), Fail> {
     let (mut heap, last) = six_objects(rt.alloc())?;
-    let collection = heap.open_collection(rt.alloc(), 0)?;
-    assert_eq!(rt; (collection.generation(), collection.cells()), (0, 6));
-    assert_eq!(rt;
-        (collection.slots().len(), collection.free().len()),
-        (5, 10)
-    );
     let old_place = heap.target(last).ok_or("no target")?;
     let report = collect_one(rt.alloc(), &mut heap, 0)?;
     assert_eq!(rt; (report.kept, report.freed), (5, 1));
     assert_eq!(rt; (report.workers.len(), report.deliveries.len()), (1, 0));
-    let worker = &report.workers[0];
-    assert_eq!(rt; (worker.won().len(), worker.scanned().len()), (5, 5));
-    let place = heap.target(last).ok_or("no target")?;
-    assert!(rt; place != old_place && worker.scanned().contains(&place));
-    let object = heap.object(place).ok_or("no object")?;
-    assert_eq!(rt;
-        (object.pointers, object.words),
-        ([0].as_slice(), [0, 0].as_slice())
-    );
-    let stands = StepId {
-        generation: 0,
-        step: 0,
-    };
-    assert_eq!(rt; heap.step_of(place), Some(stands));
-    assert!(rt; heap.object(old_place).is_none() && heap.step_of(old_place).is_none());
-    Ok(())
+    assert_moved(&rt, &heap, last, old_place, &report)
 }
 
 #[test]

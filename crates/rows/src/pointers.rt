@@ -1,7 +1,7 @@
 //! Worked traces with pointers and plain words, and the order in which a collection copies.
 use crate::program::{BLOCKS_OF_64, ONE_GENERATION, assert_run};
 use collector::collect_one;
-use heap::{Config, FieldError, Heap, RootId, Sizes, StoreError};
+use heap::{FieldError, Heap, RootId, StoreError};
 use layout::Place;
 use std::alloc::Global;
 use std::process::Abort;
@@ -142,14 +142,7 @@ fn faults_of_fields(rt: HostRuntime) {
 
 /// A heap of blocks of 16 words.
 fn small_heap(alloc: Global) -> Result<Heap<Global>, Fail> {
-    let config = Config::new(Sizes {
-        block_words: 16,
-        blocks: 40,
-        mutators: 1,
-        nursery_blocks: 8,
-        generations: 1,
-        steps: 1,
-    })?;
+    let config = crate::collections::config_of(16, 8, 40)?;
     Ok(Heap::new(alloc, config)?)
 }
 
@@ -191,9 +184,13 @@ fn add_tree(heap: &mut Heap<Global>) -> Result<RootId, Fail> {
     Ok(top)
 }
 
+fn first_word(object: layout::ObjectRef<'_>) -> Option<u64> {
+    object.words.first().copied()
+}
+
 /// The mark of the object at that place.
 fn mark_at(heap: &Heap<Global>, place: Place) -> Option<u64> {
-    heap.object(place)?.words.first().copied()
+    first_word(heap.object(place)?)
 }
 
 #[test]

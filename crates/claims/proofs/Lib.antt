@@ -1,0 +1,4 @@
+-- Each draw keeps the rule, and what gathered seats have drawn.
+pub mod Containing
+pub mod DrawLemmas
+pub mod ClaimLemmas

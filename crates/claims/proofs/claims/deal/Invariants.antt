@@ -1,0 +1,15 @@
+use Rattle.std.proofs.Common.{◌≡◌, ◌+◌, [], length}
+use Rattle.std.specs.List.{All}
+use Rattle.claims.specs.ClaimsValue.{unused}
+use Rattle.claims.proofs.claims.deal.Given as goal
+
+abbrev pub invariant-loop : goal.invariant-loop
+invariant-loop g l = record {
+  name : l.first.table_id ≡ l.table.shared.table_id;
+  free : l.first.me.0.free ≡ l.table.shared.key.free.items;
+  parts : l.first.me.0.parts + l.counter ≡ l.count;
+  drawn : l.first.me.0.drawn ≡ [];
+  outs : l.first.me.0.outs ≡ 0;
+  made : length l.seats.items ≡ l.counter;
+  fresh : All (λ s. s ≡ unused (record { name = l.table.shared.table_id; free = l.table.shared.key.free.items })) l.seats.items;
+}

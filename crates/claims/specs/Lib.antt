@@ -1,0 +1,3 @@
+-- Claims and their seats as contracts see them.
+pub mod Drawn
+pub mod ClaimsValue

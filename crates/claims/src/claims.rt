@@ -1,0 +1,176 @@
+//! The draw counter over a free list, and the seats that draw.
+ghost use Rattle.std.specs.Prelude.{◌≡◌, ◌<◌, ◌≤◌, ◌^◌, ◌++◌, ◌∷◌, [], ℕ, true, false, length, take, nat_eq, IfOk, IfSome, None};
+ghost use Rattle.std.specs.List.{All, Contains, IsDistinct};
+ghost use Rattle.std.specs.Option.{MatchOption};
+ghost use Rattle.views.specs.Total.{one_if};
+ghost use Rattle.claims.specs.Drawn.{share, times};
+ghost use Rattle.claims.specs.ClaimsValue.{Source, unused, IsSeatOf, all_drawn, any_out};
+
+use crate::claim_plays::{Deal, Draw, Gather, Plan, Rule, Share};
+use atomic_table::{Seat, Table};
+use std::alloc::{AllocError, Allocator, Global};
+use std::marker::Model;
+
+/// A counter over a free list, by which the threads of a collection draw numbers.
+#[derive(Drop)]
+pub struct Claims<A: Allocator = Global> {
+    table: Table<(), Share, Plan<A>, Rule, A>,
+    plan: Plan<A>,
+}
+
+impl<A: Allocator> Model for Claims<A> {
+    ghost use Rattle.std.specs.Prelude.{◌≡◌, ◌<◌, ◌^◌, length, nat_eq};
+    ghost use Rattle.std.specs.List.{IsDistinct};
+    ghost use Rattle.claims.specs.ClaimsValue.{ClaimsValue, claims_code};
+
+    ghost Value = { ClaimsValue };
+
+    ghost coded = { claims_code };
+
+    ghost view = { λ c. record { source = record { name = c.table.shared.table_id; free = c.plan.free.items }; seats = c.plan.seats } };
+
+    ghost invariant = { λ c. (c.table.shared.key ≡ c.plan) × (c.table.shared.table_id.words ≡ 1) × (c.table.shared.table_id.slots ≡ 0) × (c.plan.seats < 2 ^ 32) × (length c.plan.free.items < 2 ^ 32) × IsDistinct nat_eq c.plan.free.items };
+}
+
+/// A thread's right to draw, and what it has drawn. Its only byte says whether it found none left.
+#[derive(Drop)]
+pub struct ClaimSeat {
+    seat: Seat<(), Share>,
+    out: bool,
+}
+
+impl Model for ClaimSeat {
+    ghost use Rattle.std.specs.Prelude.{◌≡◌, ◌≤◌, [], length};
+    ghost use Rattle.views.specs.Total.{one_if};
+    ghost use Rattle.claims.specs.ClaimsValue.{SeatValue, seat_code};
+
+    ghost Value = { SeatValue };
+
+    ghost coded = { seat_code };
+
+    ghost view = { λ s. record { source = record { name = s.seat.table_id; free = s.seat.me.0.free }; drawn = s.seat.me.0.drawn; out = s.out } };
+
+    ghost invariant = { λ s. (s.seat.me.0.parts ≡ 1) × (s.seat.me.0.outs ≡ one_if s.out) × (length s.seat.me.0.drawn ≤ length s.seat.me.0.free) × (s.seat.me.1 ≡ []) };
+}
+
+impl ClaimSeat {
+    fn into_seat(self) -> Seat<(), Share>
+        ensures name { result.table_id ≡ self.source.name }
+        ensures share { result.me ≡ (share self.source.free 1 self.drawn (one_if self.out), []) }
+    {
+        let ClaimSeat { seat, out: _ } = self;
+        seat
+    }
+}
+
+/// A seat for each part of the first one.
+fn deal<A: Allocator, B: Allocator>(
+    table: &Table<(), Share, Plan<A>, Rule, A>,
+    mut first: Seat<(), Share>,
+    mut seats: Vec<ClaimSeat, B>,
+    count: u32,
+) -> Result<Vec<ClaimSeat, B>, AllocError>
+    requires table { (first.table_id ≡ table.now.shared.table_id) × (0 < table.now.shared.table_id.words) }
+    requires parts { first.me ≡ (share table.now.shared.key.free.items count [] 0, []) }
+    requires seats { seats.items ≡ [] }
+    ensures count { IfOk result (λ all. length all.items ≡ count) }
+    ensures seats { IfOk result (λ all. All (λ s. s ≡ unused (record { name = table.now.shared.table_id; free = table.now.shared.key.free.items })) all.items) }
+{
+    for _ in 0..count {
+        let seat = table.shared.split_seat::<Deal>(&mut first);
+        seats.push(ClaimSeat { seat, out: false })?;
+    }
+    Ok(seats)
+}
+
+/// All that the seats drew, in one seat.
+fn gather<A: Allocator, B: Allocator>(
+    table: &Table<(), Share, Plan<A>, Rule, A>,
+    last: ClaimSeat,
+    mut seats: Vec<ClaimSeat, B>,
+) -> Seat<(), Share>
+    requires words { 0 < table.now.shared.table_id.words }
+    requires last { last.source.name ≡ table.now.shared.table_id }
+    requires seats { All (λ s. s.source.name ≡ table.now.shared.table_id) seats.items }
+    ensures name { result.table_id ≡ table.now.shared.table_id }
+    ensures parts { result.me.0.parts ≡ length (seats.items ++ last ∷ []) }
+    ensures drawn { result.me.0.drawn ≡ all_drawn (seats.items ++ last ∷ []) }
+    ensures outs { any_out (seats.items ++ last ∷ []) ≡ true → 0 < result.me.0.outs }
+{
+    let mut all = last.into_seat();
+    while let Some(seat) = seats.pop() {
+        table.shared.join_seat::<Gather>(&mut all, seat.into_seat());
+    }
+    all
+}
+
+impl<A: Allocator + Clone> Claims<A> {
+    /// Claims over a free list of fewer than 2^32 numbers, each standing in it once, and so many seats, with which nothing
+    /// was drawn. An error says that memory ran out.
+    pub fn new(
+        alloc: A,
+        free: Vec<u32, A>,
+        seats: u32,
+    ) -> Result<(Claims<A>, Vec<ClaimSeat, A>), AllocError>
+        requires once { IsDistinct nat_eq free.items }
+        requires few { length free.items < 2 ^ 32 }
+        ensures free { IfOk result (λ made. made.0.source.free ≡ free.items) }
+        ensures count { IfOk result (λ made. (made.0.seats ≡ seats) × (length made.1.items ≡ seats)) }
+        ensures seats { IfOk result (λ made. All (λ s. s ≡ unused made.0.source) made.1.items) }
+    {
+        let made = Vec::with_capacity(alloc.clone()?, seats as usize)?;
+        let plan = Plan { free, seats };
+        let (table, first) = Table::of_words(alloc, &[0], &plan)?;
+        let made = deal(&table, first, made, seats)?;
+        Ok((Claims { table, plan }, made))
+    }
+}
+
+impl<A: Allocator> Claims<A> {
+    /// The next number of the free list, or None where all were drawn. A seat that got None gets it from then on.
+    /// It is one step on the counter, or none, and takes no memory.
+    pub fn draw(&self, seat: &mut ClaimSeat) -> Option<u32>
+        requires seat { IsSeatOf self.now.source seat.old }
+        ensures seat { IsSeatOf self.now.source seat.new }
+        ensures drawn { MatchOption result (seat.new ≡ record seat.old { out = true }) (λ n. (seat.new ≡ record seat.old { drawn = seat.old.drawn ++ n ∷ [] }) × Contains self.now.source.free n) }
+        ensures fresh { IfSome result (λ n. ¬ Contains seat.old.drawn n) }
+        ensures few { length seat.new.drawn ≤ length self.now.source.free }
+        ensures out { seat.old.out ≡ true → result ≡ None }
+    {
+        if seat.out {
+            return None;
+        }
+        let at = self.table.shared.fetch_add::<Draw>(&mut seat.seat, 0, 1);
+        let number = self.plan.free.get(at as usize).copied();
+        seat.out = number.is_none();
+        number
+    }
+
+    /// How many numbers were drawn. It takes all the seats that `new` gave.
+    pub fn close<B: Allocator>(self, mut seats: Vec<ClaimSeat, B>) -> u32
+        requires seats { All (IsSeatOf self.source) seats.items }
+        requires all { length seats.items ≡ self.seats }
+
+        // They are that many numbers of the free list, from the first on.
+        ensures count { length (all_drawn seats.items) ≡ result }
+        ensures most { result ≤ length self.source.free }
+        ensures first { (x : ℕ) → times x (all_drawn seats.items) ≡ times x (take result self.source.free) }
+
+        // So each was drawn by one seat, once.
+        ensures once { IsDistinct nat_eq (all_drawn seats.items) }
+        ensures members { All (Contains self.source.free) (all_drawn seats.items) }
+
+        // A seat found none only where all were drawn.
+        ensures used_up { any_out seats.items ≡ true → result ≡ length self.source.free }
+    {
+        let Some(last) = seats.pop() else {
+            return 0;
+        };
+        let Claims { table, plan } = self;
+        let seat = gather(&table, last, seats);
+        let closed = table.close_with(seat);
+        let drawn = closed.word(0);
+        closed.free();
+        drawn.min(plan.free.len() as u64) as u32
+    }
+}

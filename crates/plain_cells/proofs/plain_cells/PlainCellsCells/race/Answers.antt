@@ -1,0 +1,15 @@
+use Rattle.std.proofs.Common.{rules, arith}
+use Rattle.plain_cells.proofs.PlainKeeps.{room_for, winner_fits}
+use Rattle.plain_cells.proofs.plain_cells.PlainCellsCells.race.Goals as goal
+
+pub push_reserved-requires : goal.push_reserved-requires
+push_reserved-requires g c =
+    let fit = rw (← c.self.view_is, ← c.pass.view_is) at c.requires.pass in
+    let r = room_for _ _ c.args.name fit (search rules) (rw (← c.self.view_is) at c.requires.name) in
+    let many = fit.many in
+    let room = c.pass.invariant in omega arith
+
+pub returns-in-None-clause-pass : goal.returns-in-None-clause-pass
+returns-in-None-clause-pass g c =
+    let fit = rw (← c.self.view_is, ← c.pass.view_is) at c.requires.pass in
+    rw c.push_reserved.ensures.items (winner_fits _ _ _ _ _ _ _ _ fit (search rules) (rw (← c.self.view_is) at c.requires.name))

@@ -1,0 +1,4 @@
+-- Plain cells as contracts see them.
+pub use Rattle.cells.specs.Learned
+pub use Rattle.cells.specs.Settled
+pub mod Plain

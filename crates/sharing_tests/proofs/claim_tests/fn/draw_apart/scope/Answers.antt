@@ -1,0 +1,12 @@
+use Rattle.std.proofs.Common.{rules, ap, ◌≡◌, sym, subst}
+use Rattle.std.specs.List.{All}
+use Rattle.std.proofs.lemmas.List.Elements.{All-rest, All-push}
+use Rattle.block_pool.specs.ClaimsValue.{IsSeatOf}
+use Rattle.sharing_tests.proofs.claim_tests.fn.draw_apart.scope.Goals as goal
+
+pub loop-seat-preserved : goal.loop-seat-preserved
+loop-seat-preserved g c = record {
+  many = search rules;
+  rest = All-rest (IsSeatOf c.captures.claims.now.source) c.in-Some.seat _ _ c.in-Some.ensures.steps.0 c.loop-seat.invariant.rest;
+  made = subst (All (λ h. h.promise.0.now ≡ c.captures.claims.now)) (sym c.in_ok-push.ensures.items) (All-push (λ h. h.promise.0.now ≡ c.captures.claims.now) _ _ c.loop-seat.invariant.made (ap (λ p. p.0.now) c.in_ok-spawn_with.ensures.ok));
+}

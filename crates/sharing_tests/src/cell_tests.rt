@@ -1,0 +1,147 @@
+ghost use Rattle.std.specs.Prelude.{◌≡◌, ◌<◌};
+ghost use Rattle.plain_cells.specs.Plain.{IsFit, Differ};
+
+use forwarding::{
+    Cells, Forwards, Outcome, PlainCells, PlainPass, SettleError, WordCells, WordPass,
+    look_then_race, settled,
+};
+use layout::Place;
+use std::alloc::{AllocError, Global};
+use std::test::Fail;
+
+/// Two passes race for name 1, which nobody won. Whether the first place stays.
+fn first_place_stays<C: Cells>(
+    cells: &mut C,
+    zero: &mut C::Pass,
+    one: &mut C::Pass,
+    a: Place,
+    b: Place,
+) -> Result<bool, AllocError>
+    requires name { 1 < C.limit cells.old }
+    requires fits { C.fits cells.old zero.old × C.fits cells.old one.old }
+    requires apart { C.apart zero.old one.old × C.apart one.old zero.old }
+    ensures fits { C.fits cells.new zero.new × C.fits cells.new one.new }
+    ensures home_of_zero { (other : C) → C.at_home other zero.old → C.at_home other zero.new }
+    ensures home_of_one { (other : C) → C.at_home other one.old → C.at_home other one.new }
+    ensures apart { C.apart zero.new one.new × C.apart one.new zero.new }
+{
+    let nothing = cells.look(zero, 1);
+    let won = cells.race(zero, 1, a)?;
+    let lost = cells.race(one, 1, b)?;
+    let seen = cells.look(zero, 1);
+    Ok(nothing.is_none() && won == Outcome::Won && lost == Outcome::Lost(a) && seen == Some(a))
+}
+
+/// The same for word cells that are shared.
+fn first_word_stays(
+    cells: &WordCells,
+    zero: &mut WordPass,
+    one: &mut WordPass,
+    a: Place,
+    b: Place,
+) -> Result<bool, AllocError>
+    requires name { 1 < cells.now.count }
+    requires passes { (zero.old.id ≡ cells.now.id) × (one.old.id ≡ cells.now.id) }
+    ensures { (zero.new.id ≡ cells.now.id) × (one.new.id ≡ cells.now.id) }
+{
+    let mut shared = cells;
+    first_place_stays(&mut shared, zero, one, a, b)
+}
+
+/// The places that two passes of word cells settle on.
+fn settle_words(
+    alloc: Global,
+    cells: WordCells,
+    zero: WordPass,
+    one: WordPass,
+) -> Result<Forwards, SettleError>
+    requires all { cells.passes ≡ 2 }
+    requires passes { (zero.id ≡ cells.id) × (one.id ≡ cells.id) }
+{
+    let Ok(mut passes) = Vec::with_capacity(alloc, 2) else {
+        return Err(SettleError::NoMemory);
+    };
+    passes.push_reserved(zero);
+    passes.push_reserved(one);
+    cells.settle(alloc, passes)
+}
+
+/// The places that two passes of plain cells settle on.
+fn settle_plain(
+    alloc: Global,
+    cells: PlainCells,
+    zero: PlainPass,
+    one: PlainPass,
+) -> Result<Forwards, SettleError>
+    requires all { cells.passes ≡ 2 }
+    requires fits { IsFit cells zero × IsFit cells one }
+    requires apart { Differ zero one }
+{
+    let Ok(mut passes) = Vec::with_capacity(alloc, 2) else {
+        return Err(SettleError::NoMemory);
+    };
+    passes.push_reserved(zero);
+    passes.push_reserved(one);
+    cells.settle(alloc, passes)
+}
+
+#[test]
+fn two_passes_race_for_a_word(rt: HostRuntime) -> Result<(), Fail> {
+    let (a, b) = (Place::small(0, 4), Place::large(65534));
+    let (cells, mut passes) = WordCells::new(rt.alloc(), 2, 2)?;
+    let mut one = passes.pop().ok_or("no pass")?;
+    let mut zero = passes.pop().ok_or("no pass")?;
+    let stays = first_word_stays(&cells, &mut zero, &mut one, a, b)?;
+    assert!(rt; stays);
+    let Ok(forwards) = settle_words(rt.alloc(), cells, zero, one) else {
+        return Err(Fail::from("not settled"));
+    };
+    assert!(rt; forwards.place(0).is_none() && forwards.place(1) == Some(a));
+    assert!(rt; forwards.place(2).is_none());
+    assert!(rt; forwards.as_slice().len() == 2);
+    Ok(())
+}
+
+#[test]
+fn two_passes_race_for_a_plain_cell(rt: HostRuntime) -> Result<(), Fail> {
+    let (a, b) = (Place::large(3), Place::small(65533, 511));
+    let (mut cells, mut passes) = PlainCells::new(rt.alloc(), 2, 2)?;
+    let mut one = passes.pop().ok_or("no pass")?;
+    let mut zero = passes.pop().ok_or("no pass")?;
+    let stays = first_place_stays(&mut cells, &mut zero, &mut one, a, b)?;
+    assert!(rt; stays);
+    let Ok(forwards) = settle_plain(rt.alloc(), cells, zero, one) else {
+        return Err(Fail::from("not settled"));
+    };
+    let places = forwards.into_places();
+    assert!(rt; places.as_slice() == [None, Some(a)].as_slice());
+    Ok(())
+}
+
+#[test]
+fn a_later_place_is_not_taken(rt: HostRuntime) -> Result<(), Fail> {
+    let (a, b) = (Place::small(7, 0), Place::small(8, 2));
+    let (words, mut passes) = WordCells::new(rt.alloc(), 1, 1)?;
+    let mut pass = passes.pop().ok_or("no pass")?;
+    let mut shared = &words;
+    assert_eq!(rt; look_then_race(&mut shared, &mut pass, 0, a)?, a);
+    assert_eq!(rt; look_then_race(&mut shared, &mut pass, 0, b)?, a);
+    assert_eq!(rt; words.count(), 1);
+
+    let (mut plain, mut passes) = PlainCells::new(rt.alloc(), 1, 1)?;
+    let mut pass = passes.pop().ok_or("no pass")?;
+    assert_eq!(rt; look_then_race(&mut plain, &mut pass, 0, b)?, b);
+    assert_eq!(rt; look_then_race(&mut plain, &mut pass, 0, a)?, b);
+    assert_eq!(rt; plain.count(), 1);
+    Ok(())
+}
+
+#[test]
+fn settled_pairs(rt: HostRuntime) {
+    let (a, b) = (Place::small(1, 1), Place::large(1));
+    assert!(rt; settled(&[(0, a)], &[(0, a)]));
+    assert!(rt; !settled(&[(0, b)], &[(0, a)]));
+    assert!(rt; settled(&[], &[]));
+    assert!(rt; settled(&[(2, b), (1, a)], &[(1, a), (0, b), (2, b)]));
+    assert!(rt; !settled(&[(1, a), (2, a)], &[(1, a), (2, b)]));
+}

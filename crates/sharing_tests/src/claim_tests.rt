@@ -1,0 +1,191 @@
+ghost use Rattle.std.specs.Prelude.{◌≡◌, ◌<◌, ◌≤◌, ◌^◌, ◌++◌, ◌∷◌, [], ℕ, length, nat_eq, vec_len, IfOk};
+ghost use Rattle.std.specs.List.{All, IsDistinct};
+ghost use Rattle.block_pool.specs.ClaimsValue.{IsSeatOf};
+
+use block_pool::{ClaimSeat, Claims, Pool};
+use std::alloc::{AllocError, Global};
+use std::sync::Wait;
+use std::test::Fail;
+use std::thread;
+use std::thread::{Promise, Threads};
+
+/// The free numbers of a pool, of which the first so many are granted.
+fn free_list(alloc: Global, granted: usize, limit: u32) -> Result<Vec<u32>, Fail>
+    requires { limit ≤ 65535 }
+    ensures once { IfOk result (λ free. IsDistinct nat_eq free.items) }
+    ensures few { IfOk result (λ free. length free.items < 2 ^ 32) }
+{
+    let mut pool = Pool::new(alloc, limit)?;
+    pool.grant(alloc, granted).map_err(|_| "not granted")?;
+    let (_count, _limit) = (pool.free_count(), pool.limit());
+    let free = pool.free_numbers(alloc)?;
+    Ok(free)
+}
+
+/// A draw by one of the seats.
+fn draw_by(claims: &Claims, seats: &mut [ClaimSeat], at: usize) -> Option<u32>
+    requires seats { All (IsSeatOf claims.now.source) seats.old }
+    requires at { at < length seats.old }
+    ensures seats { All (IsSeatOf claims.now.source) seats.new }
+    ensures count { length seats.new ≡ length seats.old }
+{
+    claims.draw(&mut seats[at])
+}
+
+#[test]
+fn numbers_are_drawn_in_order(rt: HostRuntime) -> Result<(), Fail> {
+    let (claims, mut seats) = Claims::new(rt.alloc(), free_list(rt.alloc(), 4, 7)?, 1)?;
+    assert_eq!(rt; draw_by(&claims, &mut seats, 0), Some(4));
+    assert_eq!(rt; draw_by(&claims, &mut seats, 0), Some(5));
+    assert_eq!(rt; draw_by(&claims, &mut seats, 0), Some(6));
+    assert_eq!(rt; draw_by(&claims, &mut seats, 0), None);
+    assert_eq!(rt; draw_by(&claims, &mut seats, 0), None);
+    assert_eq!(rt; claims.close(seats), 3);
+    Ok(())
+}
+
+#[test]
+fn two_seats_take_turns(rt: HostRuntime) -> Result<(), Fail> {
+    let (claims, mut seats) = Claims::new(rt.alloc(), free_list(rt.alloc(), 10, 15)?, 2)?;
+    assert_eq!(rt; draw_by(&claims, &mut seats, 0), Some(10));
+    assert_eq!(rt; draw_by(&claims, &mut seats, 1), Some(11));
+    assert_eq!(rt; draw_by(&claims, &mut seats, 1), Some(12));
+    assert_eq!(rt; draw_by(&claims, &mut seats, 0), Some(13));
+    assert_eq!(rt; claims.close(seats), 4);
+    Ok(())
+}
+
+#[test]
+fn an_empty_free_list_gives_none(rt: HostRuntime) -> Result<(), Fail> {
+    let (claims, mut seats) = Claims::new(rt.alloc(), free_list(rt.alloc(), 3, 3)?, 1)?;
+    assert_eq!(rt; draw_by(&claims, &mut seats, 0), None);
+    assert_eq!(rt; draw_by(&claims, &mut seats, 0), None);
+    assert_eq!(rt; claims.close(seats), 0);
+    Ok(())
+}
+
+#[test]
+fn claims_may_have_no_seats(rt: HostRuntime) -> Result<(), Fail> {
+    let (claims, seats) = Claims::new(rt.alloc(), free_list(rt.alloc(), 0, 2)?, 0)?;
+    assert_eq!(rt; seats.len(), 0);
+    assert_eq!(rt; claims.close(seats), 0);
+    Ok(())
+}
+
+/// What one thread gives back.
+#[derive(Drop)]
+struct Done {
+    seat: ClaimSeat,
+    numbers: Vec<u32>,
+}
+
+/// Draws until none is left, at most once more than there are numbers.
+fn draw_all(
+    alloc: Global,
+    claims: &Claims,
+    mut seat: ClaimSeat,
+    count: u32,
+) -> Result<Done, AllocError>
+    requires { IsSeatOf claims.now.source seat }
+    ensures { IfOk result (λ done. IsSeatOf claims.now.source done.seat) }
+{
+    let mut numbers = Vec::new(alloc);
+    for _ in 0..count {
+        let Some(number) = claims.draw(&mut seat) else {
+            break;
+        };
+        numbers.push(number)?;
+    }
+    Ok(Done { seat, numbers })
+}
+
+/// What a thread gives back is of these claims.
+#[derive(Clone, Copy)]
+struct OfClaims<'a>(&'a Claims);
+
+impl<'a> Promise<Result<Done, AllocError>> for OfClaims<'a> {
+    ghost kept_by = { λ p r. IfOk r (λ d. IsSeatOf p.0.now.source d.seat) };
+}
+
+/// Each seat draws in a thread of its own.
+fn draw_apart<R: Threads + Wait>(
+    rt: &R,
+    alloc: Global,
+    claims: &Claims,
+    seats: Vec<ClaimSeat>,
+    count: u32,
+) -> Result<Vec<Result<Done, AllocError>>, AllocError>
+    requires { All (IsSeatOf claims.now.source) seats.items }
+    ensures { IfOk result (λ all. (vec_len all ≡ vec_len seats) × All (λ r. IfOk r (λ d. IsSeatOf claims.now.source d.seat)) all.items) }
+{
+    thread::scope(
+        thread::scope_env(),
+        rt,
+        |scope| -> Result<Vec<Result<Done, AllocError>>, AllocError>
+            requires { All (IsSeatOf claims.now.source) seats.items }
+            ensures { IfOk result (λ all. (vec_len all ≡ vec_len seats) × All (λ r. IfOk r (λ d. IsSeatOf claims.entry.now.source d.seat)) all.items) }
+        {
+            let mut handles = Vec::with_capacity(alloc, seats.len())?;
+            for seat in seats {
+                handles.push(scope.spawn_with(OfClaims(claims), move || {
+                    draw_all(alloc, claims, seat, count)
+                })?)?;
+            }
+            Ok(thread::join_promised(rt, handles)?)
+        },
+    )
+}
+
+/// What all threads gave back.
+#[derive(Drop)]
+struct Joined {
+    seats: Vec<ClaimSeat>,
+    numbers: Vec<u32>,
+    /// Whether no seat draws one more.
+    all_out: bool,
+}
+
+/// The seats, each after one more draw, and all numbers that they drew in their threads.
+fn bring_together(
+    alloc: Global,
+    claims: &Claims,
+    results: Vec<Result<Done, AllocError>>,
+) -> Result<Joined, AllocError>
+    requires { All (λ r. IfOk r (λ d. IsSeatOf claims.now.source d.seat)) results.items }
+    ensures { IfOk result (λ all. All (IsSeatOf claims.now.source) all.seats.items × (vec_len all.seats ≡ vec_len results)) }
+{
+    let mut seats = Vec::new(alloc);
+    let mut numbers = Vec::new(alloc);
+    let mut all_out = true;
+    for done in results {
+        let Done {
+            mut seat,
+            numbers: drawn,
+        } = done?;
+        if claims.draw(&mut seat).is_some() {
+            all_out = false;
+        }
+        seats.push(seat)?;
+        numbers.extend(drawn)?;
+    }
+    Ok(Joined {
+        seats,
+        numbers,
+        all_out,
+    })
+}
+
+#[test]
+fn eight_threads_draw_a_thousand_numbers(rt: HostRuntime) -> Result<(), Fail> {
+    let (claims, seats) = Claims::new(rt.alloc(), free_list(rt.alloc(), 0, 1000)?, 8)?;
+    let results = draw_apart(&rt, rt.alloc(), &claims, seats, 1001)?;
+    let Joined {
+        seats,
+        mut numbers,
+        all_out,
+    } = bring_together(rt.alloc(), &claims, results)?;
+    numbers.sort()?;
+    assert!(rt; all_out && numbers == free_list(rt.alloc(), 0, 1000)?);
+    assert_eq!(rt; claims.close(seats), 1000);
+    Ok(())
+}

@@ -1,0 +1,19 @@
+use Rattle.std.proofs.Common.{ap, sym, subst, ◌∙◌, ◌≡◌}
+use Rattle.atomic_table.specs.Table.{State, Seen}
+use Rattle.word_cells.specs.declared.plays.Mind.{Mind}
+use Rattle.word_cells.specs.declared.plays.Plan.{Plan}
+use Rattle.word_cells.specs.Kept.{IsKept}
+use Rattle.cells.specs.Known.{known_in}
+use Rattle.word_cells.specs.Words.{WordsValue, WordPassValue}
+use Rattle.word_cells.proofs.Read.{settles}
+use Rattle.cells.proofs.Agreeing.{agrees}
+use Rattle.word_cells.proofs.word_cells.WordCells.settle.Goals as goal
+
+pub returns-clause-settled : goal.returns-clause-settled
+returns-clause-settled g c =
+    let f = c.close_with-closed.ensures.values.2 in
+    let final : (s : State (Unit {0}) Mind) × Seen (IsKept c.self.inside.plan) c.gather-seat.result.id c.gather-seat.result.me.0 s × (s.words ≡ _) = (f.0, subst (λ (plan : Plan). Seen (IsKept plan) c.gather-seat.result.id c.gather-seat.result.me.0 f.0) c.self.invariant.keyed f.1, f.2) in
+    rw (← c.self.view_is, c.of.ensures) (settles _ _ _ _ _ _ final (record { many = c.read_places-places.ensures.many; shown = c.read_places-places.ensures.shown }) (c.gather-seat.ensures.seat.1 ∙ (c.requires.all ∙ sym (ap (λ (v : WordsValue). v.passes) c.self.view_is))) c.gather-seat.ensures.known c.gather-seat.ensures.won)
+
+pub returns-clause-agree : goal.returns-clause-agree
+returns-clause-agree g c = agrees (λ (p : WordPassValue). known_in p.known) _ _ (returns-clause-settled g c).known_settled
