@@ -6,8 +6,6 @@ mod fronts;
 pub use fronts::is_front_in_lines;
 
 #[cfg(test)]
-mod collections;
-#[cfg(test)]
 mod faults;
 #[cfg(test)]
 mod memory;
@@ -17,5 +15,7 @@ mod pointers;
 mod program;
 #[cfg(test)]
 mod reads_and_writes;
+#[cfg(test)]
+mod texts;
 #[cfg(test)]
 mod worked;

@@ -1,34 +1,15 @@
 //! Collections of a heap through its own calls, where memory and blocks run out too.
+use crate::heaps::{collected, config_of};
 use collector::{CollectError, collect_one};
 use heap::{
-    AllocateError, Config, Heap, MakeError, NoRoot, OpenError, Report, RootId, Sizes, StepId,
+    AllocateError, Heap, MakeError, NoRoot, OpenError, Report, RootId, StepId,
 };
-use heap_text::{Counted, write_census, write_collection};
+use heap_text::{Counted, write_census};
 use layout::Place;
 use refusing::Refusing;
 use std::alloc::{Allocator, Global};
 use std::process::Abort;
 use std::test::Fail;
-use trace_driver::{CountedReader, RunConfig, run_one};
-
-pub(crate) fn config_of(
-    block_words: u64,
-    nursery_blocks: u64,
-    blocks: u64,
-) -> Result<Config, Fail> {
-    let sizes = Sizes {
-        block_words,
-        blocks,
-        mutators: 1,
-        nursery_blocks,
-        generations: 1,
-        steps: 1,
-    };
-    match Config::new(sizes) {
-        Ok(config) => Ok(config),
-        Err(_) => Err(Fail::from("bad sizes")),
-    }
-}
 
 /// The lines of a heap's census.
 fn census_of<A: Allocator + Clone>(alloc: Global, heap: &Heap<A>) -> Result<Vec<u8>, Fail> {
@@ -145,15 +126,6 @@ fn census_where_blocks_run_out(rt: HostRuntime) -> Result<(), Fail> {
     Ok(())
 }
 
-/// Collects, and tells how many objects were kept and freed.
-fn collected<A: Allocator + Clone>(
-    alloc: A,
-    heap: &mut Heap<A>,
-) -> Result<(u64, u64), CollectError> {
-    let report = collect_one(alloc, heap, 0)?;
-    Ok((report.kept, report.freed))
-}
-
 /// How many pieces a collection tells of: its generation, objects, slots and free blocks.
 fn opened(alloc: Global, heap: &Heap<Global>) -> Result<(u8, u32, usize, usize), OpenError> {
     let collection = heap.open_collection(alloc, 0)?;
@@ -251,26 +223,5 @@ fn refusals_of_the_heap(rt: HostRuntime) -> Result<(), Fail> {
     assert_eq!(rt; opened.err(), Some(OpenError::NoGeneration));
     let refusal = collect_one(rt.alloc(), &mut heap, 1).err();
     assert_eq!(rt; refusal, Some(CollectError::NoGeneration));
-    Ok(())
-}
-
-#[test]
-fn texts_and_runs(rt: HostRuntime) -> Result<(), Fail> {
-    let mut writer = Counted {
-        inner: Vec::new(rt.alloc()),
-        failed_writes: 0,
-    };
-    write_collection(rt.alloc(), 3, u64::MAX, 10, &mut writer)?;
-    let mut reader = CountedReader {
-        inner: b"new a 0 0 0\ncollect 0\n".as_slice(),
-        failed_reads: 0,
-    };
-    let config = RunConfig::new(config_of(16, 1, 2)?, 1)?;
-    let result = run_one(rt.alloc(), &mut reader, &mut writer, config);
-    assert_eq!(rt; result, Ok(()));
-    assert_eq!(rt;
-        writer.inner.as_slice(),
-        b"collected 3: 18446744073709551615 kept, 10 freed\ncollected 0: 1 kept, 0 freed\n".as_slice()
-    );
     Ok(())
 }

@@ -1,0 +1,9 @@
+//! Tests of the heap and its collections by their own calls, where memory and blocks run out too.
+#![tactic(auto)]
+
+#[cfg(test)]
+mod collections;
+#[cfg(test)]
+mod heaps;
+#[cfg(test)]
+mod pointers;

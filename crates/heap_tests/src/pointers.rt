@@ -1,0 +1,143 @@
+//! The fields of objects, and the order in which a collection copies what they lead to.
+use crate::heaps::{collected, config_of};
+use collector::collect_one;
+use heap::{FieldError, Heap, RootId, StoreError, WorkerReport};
+use layout::Place;
+use std::alloc::Global;
+use std::process::Abort;
+use std::test::Fail;
+
+/// A heap of blocks of 16 words.
+fn small_heap(alloc: Global) -> Result<Heap<Global>, Fail> {
+    let config = config_of(16, 8, 40)?;
+    Ok(Heap::new(alloc, config)?)
+}
+
+/// A new object of two pointers, marked by its plain word.
+fn marked(heap: &mut Heap<Global>, mark: u64) -> Result<RootId, Fail> {
+    let root = heap.allocate(0, 2, 1)?;
+    heap.put(root, 0, mark)?;
+    Ok(root)
+}
+
+/// Lets a field of `parent` lead to a new marked object, which leads to `top` and has no root.
+fn add_child(
+    heap: &mut Heap<Global>,
+    top: RootId,
+    parent: RootId,
+    field: u64,
+    mark: u64,
+) -> Result<(), Fail> {
+    let child = marked(heap, mark)?;
+    heap.store(parent, field, Some(child))?;
+    heap.store(child, 1, Some(top))?;
+    Ok(heap.release(child)?)
+}
+
+/// A tree of seven objects, marked breadth first, of which `top` alone has a root, and a dead object.
+fn add_tree(heap: &mut Heap<Global>) -> Result<RootId, Fail> {
+    let top = marked(heap, 0)?;
+    let left = marked(heap, 1)?;
+    let right = marked(heap, 2)?;
+    heap.store(top, 0, Some(left))?;
+    heap.store(top, 1, Some(right))?;
+    for (parent, field, mark) in [(left, 0, 3), (left, 1, 4), (right, 0, 5), (right, 1, 6)] {
+        add_child(heap, top, parent, field, mark)?;
+    }
+    let dead = marked(heap, 100)?;
+    for root in [dead, left, right] {
+        heap.release(root)?;
+    }
+    Ok(top)
+}
+
+fn first_word(object: layout::ObjectRef<'_>) -> Option<u64> {
+    object.words.first().copied()
+}
+
+/// The mark of the object at that place.
+fn mark_at(heap: &Heap<Global>, place: Place) -> Option<u64> {
+    first_word(heap.object(place)?)
+}
+
+/// Asserts that the worker scanned what it won, in that order, and that the marks there rise from 0.
+fn assert_in_order(rt: &impl Abort, heap: &Heap<Global>, worker: &WorkerReport<Global>) {
+    for (mark, scanned) in worker.scanned().iter().enumerate() {
+        assert_eq!(rt; mark_at(heap, *scanned), Some(mark as u64));
+        assert!(rt;
+            worker
+                .won()
+                .get(mark)
+                .is_some_and(|won| won.place == *scanned)
+        );
+    }
+}
+
+#[test]
+fn breadth_first(rt: HostRuntime) -> Result<(), Fail> {
+    let mut heap = small_heap(rt.alloc())?;
+    let top = add_tree(&mut heap)?;
+    let report = collect_one(rt.alloc(), &mut heap, 0)?;
+    assert_eq!(rt; (report.kept, report.freed), (7, 1));
+    let worker = report.workers.first().ok_or("no worker")?;
+    assert_eq!(rt; (worker.won().len(), worker.scanned().len()), (7, 7));
+    assert_in_order(&rt, &heap, worker);
+    assert_eq!(rt; heap.get(top, 0), Ok(0));
+    Ok(())
+}
+
+/// Adds the next object of a chain, which leads to it alone.
+fn add_link(
+    heap: &mut Heap<Global>,
+    first: RootId,
+    last: RootId,
+    mark: u64,
+) -> Result<RootId, Fail> {
+    let next = marked(heap, mark)?;
+    heap.store(last, 1, Some(next))?;
+    if last != first {
+        heap.release(last)?;
+    }
+    Ok(next)
+}
+
+/// A chain of 32 objects, of which the first alone has a root. The last leads back to it.
+fn add_chain(heap: &mut Heap<Global>) -> Result<RootId, Fail> {
+    let first = marked(heap, 0)?;
+    let mut last = first;
+    for mark in 1..32 {
+        last = add_link(heap, first, last, mark)?;
+    }
+    heap.store(last, 0, Some(first))?;
+    heap.release(last)?;
+    Ok(first)
+}
+
+#[test]
+fn a_chain_over_many_blocks(rt: HostRuntime) -> Result<(), Fail> {
+    let mut heap = small_heap(rt.alloc())?;
+    let first = add_chain(&mut heap)?;
+    for _turn in 0..3 {
+        assert_eq!(rt; collected(rt.alloc(), &mut heap), Ok((32, 0)));
+    }
+    heap.store(first, 1, None)?;
+    assert_eq!(rt; collected(rt.alloc(), &mut heap), Ok((1, 31)));
+    Ok(())
+}
+
+#[test]
+fn refused_fields(rt: HostRuntime) -> Result<(), Fail> {
+    let mut heap = small_heap(rt.alloc())?;
+    let root = marked(&mut heap, 6)?;
+    let gone = marked(&mut heap, 7)?;
+    heap.release(gone)?;
+    assert_eq!(rt; heap.store(root, 2, Some(gone)), Err(StoreError::BadField));
+    assert_eq!(rt; heap.store(root, 1, Some(gone)), Err(StoreError::NoRoot));
+    assert_eq!(rt; heap.store(gone, 2, Some(root)), Err(StoreError::NoRoot));
+    assert_eq!(rt; heap.put(root, 1, 0), Err(FieldError::BadField));
+    assert_eq!(rt; heap.put(gone, 0, 0), Err(FieldError::NoRoot));
+    assert_eq!(rt; heap.get(root, 1), Err(FieldError::BadField));
+    assert_eq!(rt; heap.get(gone, 0), Err(FieldError::NoRoot));
+    assert_eq!(rt; heap.get(root, 0), Ok(6));
+    Ok(())
+}
