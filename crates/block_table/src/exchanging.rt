@@ -44,11 +44,7 @@ fn put_block<A: Allocator>(table: &mut [Option<Block<A>>], block: Block<A>)
 }
 
 /// Drops the blocks of the area, and gives them back to the pool.
-fn drop_area<A: Allocator>(
-    table: &mut [Option<Block<A>>],
-    pool: &mut Pool<A>,
-    area: &[u32],
-)
+fn drop_area<A: Allocator>(table: &mut [Option<Block<A>>], pool: &mut Pool<A>, area: &[u32])
     requires in_table { (n : ℕ) → has area.now n ≡ true → n < length table.old }
     requires in_pool { (n : ℕ) → has area.now n ≡ true → n < pool.old.limit }
     requires not_free { (n : ℕ) → has area.now n ≡ true → has pool.old.free n ≡ false }

@@ -1,31 +1,22 @@
 -- A heap as its blocks and roots show it.
-use Rattle.std.proofs.Common.{◌≡◌, ℕ, ◌-◌, ◌*◌, Bool, true, false, cond, List, [], ◌∷◌, ◌++◌, length, map, filter, replicate, Option, Some, None, sum_by, refl, sym, ap, subst, ◌∙◌, arith}
-use Rattle.std.proofs.lemmas.List.{append-nil}
-use Rattle.std.specs.Prelude.{nat_le, IsSome, is_some}
-use Rattle.std.specs.List.{list_any}
-use Rattle.std.specs.Option.{option_map, option_map_or}
-use Rattle.std.specs.Ordering.{nat_cmp, eq_by_cmp}
-use Rattle.std.specs.Cmp.{unsigned_tied}
-use Rattle.std.specs.FinMap.{FinMap, get, empty, entries, keys, contains_key-keys}
+use Rattle.std.proofs.Common.{◌≡◌, ℕ, ◌-◌, ◌*◌, cond, List, [], ◌∷◌, length, map, filter, replicate, Option, sum_by, refl, sym, ap, ◌∙◌, arith}
+use Rattle.std.specs.Prelude.{is_some}
+use Rattle.std.specs.Option.{option_map}
+use Rattle.std.specs.FinMap.{empty}
 use Rattle.model.specs.Config.{Config}
-use Rattle.model.specs.Graph.{Graph, Object, object_at, size_of, is_large, IsClosed}
-use Rattle.model.specs.Live.{IsYoung}
-use Rattle.model.specs.Reached.{has}
+use Rattle.model.specs.Graph.{Object, size_of, is_large, IsClosed}
 use Rattle.model.specs.Census.{Census, StepCount, census_of, points_younger, step_count}
 use Rattle.model.specs.Destination.{all_steps, numbers_from}
 use Rattle.model.specs.Room.{full_room}
 use Rattle.model.specs.Slots.{slots_from}
-use Rattle.model.specs.OldSlots.{is_young_name, old_slots}
-use Rattle.model.proofs.Has.{has_head, has_tail}
 use Rattle.layout.specs.declared.place.Place.{Place}
 use Rattle.layout.specs.Place.{place_word}
 use Rattle.steps.specs.ConfigRange.{IsInRange}
 use Rattle.heap_data.specs.HeapValue.{HeapValue, empty_heap, nursery_count}
 use Rattle.heap.specs.HeapView.{heap_of, LeadsToObjects}
-use Rattle.heap_data.specs.Plain.{IsPlain, ArePlain}
+use Rattle.heap_data.specs.Plain.{ArePlain}
 use Rattle.heap.specs.Roots.{roots_map}
 use Rattle.heap_space.specs.Space.{SpaceValue, empty_space}
-use Rattle.heap_data.specs.CollectionValue.{young_names, slots_of, root_slot, field_slot_of}
 use Rattle.heap_data.proofs.PlainObjects.{all_small, none_large, none_remembered}
 use Rattle.heap.proofs.RootMap.{get-roots}
 

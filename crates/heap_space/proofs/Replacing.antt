@@ -1,5 +1,5 @@
 -- What there is after blocks took the place of all that was there.
-use Rattle.std.proofs.Common.{◌≡◌, ℕ, suc, ◌-◌, ◌<◌, ◌≤◌, Bool, true, false, cond, ◌||◌, ◌&&◌, not, List, [], ◌∷◌, length, max, Option, Some, None, sum_by, refl, sym, ap, subst, ◌∙◌, arith, ⊎_elim, ◌⊎◌, inl, inr}
+use Rattle.std.proofs.Common.{◌≡◌, ℕ, ◌-◌, ◌<◌, ◌≤◌, Bool, true, false, cond, ◌||◌, ◌&&◌, not, List, [], length, max, Option, Some, None, sum_by, refl, sym, ap, subst, ◌∙◌, arith, ⊎_elim, ◌⊎◌, inl, inr}
 use Rattle.std.proofs.lemmas.Bool.{cases_lt, true≢false, cases_Bool}
 use Rattle.std.proofs.lemmas.Bool.Decides.{nat_tests}
 use Rattle.std.specs.Prelude.{is_some, nat_eq, nat_lt, All}
@@ -10,13 +10,12 @@ use Rattle.std.specs.FinMap.{find, get}
 use Rattle.model.specs.Config.{Config}
 use Rattle.model.specs.Reached.{has}
 use Rattle.model.specs.Room.{Room}
-use Rattle.model.proofs.Has.{has_none}
 use Rattle.model.proofs.NatMap.{same_nat_map}
-use Rattle.block_pool.specs.BlockValue.{BlockValue, used_of}
+use Rattle.block_pool.specs.BlockValue.{BlockValue}
 use Rattle.block_pool.specs.PoolValue.{PoolValue}
 use Rattle.layout.specs.Object.{raw_size}
 use Rattle.heap_data.specs.BlockObjects.{copies_of}
-use Rattle.block_table.specs.Installed.{is_installed_at, installed}
+use Rattle.block_table.specs.Installed.{installed}
 use Rattle.block_table.specs.Table.{slot_at, slot_objects, cleared, slot_words, IsHeapBlock}
 use Rattle.heap_space.specs.Space.{IsSoundSpace, space_of, room_of, CanReplace, IsReplaced}
 use Rattle.block_table.proofs.TableLemmas.{TableFits, word_cases, find-at, find-first}
