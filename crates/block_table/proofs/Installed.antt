@@ -1,24 +1,22 @@
 -- The objects of blocks put into a heap are those that the blocks brought.
-use Rattle.std.proofs.Common.{◌≡◌, ◌≢◌, ℕ, zero, suc, ◌<◌, ◌≤◌, Bool, true, false, List, [], ◌∷◌, length, map, Some, None, refl, sym, ap, subst, ◌∙◌, arith, ⊎_elim, ◌⊎◌, inl, inr}
+use Rattle.std.proofs.Common.{◌≡◌, ◌≢◌, ℕ, zero, suc, ◌<◌, ◌≤◌, Bool, true, false, List, [], ◌∷◌, length, map, Some, None, refl, sym, ap, subst, ◌∙◌, arith, ⊎_elim, ◌⊎◌, inl, inr, cond, ◌&&◌, ◌||◌}
 use Rattle.std.proofs.lemmas.Bool.{cases_eq, true≢false}
 use Rattle.std.proofs.lemmas.Bool.Decides.{nat_tests}
 use Rattle.std.proofs.lemmas.List.Elements.{All-head, All-tail}
-use Rattle.std.proofs.Common.{cond, ◌&&◌, ◌||◌}
-use Rattle.model.proofs.Has.{has_none}
 use Rattle.std.specs.Prelude.{nat_eq, nat_lt, All}
 use Rattle.std.specs.List.{IsDistinct}
 use Rattle.std.specs.Ordering.{nat_cmp}
 use Rattle.std.specs.FinMap.{find}
+use Rattle.model.proofs.Has.{has_none, has_head, has_tail}
 use Rattle.model.specs.Reached.{has}
 use Rattle.model.proofs.Same.{distinct_absent}
-use Rattle.model.proofs.Has.{has_head, has_tail}
+use Rattle.model.proofs.Finds.{find_in_first, find_in_second, find_below, find_above}
 use Rattle.layout.specs.Object.{Raw}
 use Rattle.layout.specs.Place.{small_word}
 use Rattle.block_pool.specs.BlockValue.{BlockValue, used_of}
 use Rattle.heap_data.specs.BlockObjects.{block_objects, objects_from, copies_of}
 use Rattle.block_table.specs.Table.{slot_objects}
 use Rattle.block_table.specs.Installed.{is_installed_at, installed}
-use Rattle.model.proofs.Finds.{find_in_first, find_in_second, find_below, find_above}
 use Rattle.block_table.proofs.TableLemmas.{IsWordOf, slot_objects-within}
 
 -- each block takes at most so many words

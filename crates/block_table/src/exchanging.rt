@@ -1,5 +1,5 @@
 //! How a collection changes the table of blocks.
-ghost use Rattle.std.specs.Prelude.{◌≡◌, ℕ, ◌+◌, ◌<◌, ◌≤◌, None, Some, slice_set, true, false, length, nat_eq, nat_lt, vec_len, map, slice_index_or, vec_capacity, OnOk, OnErr, IfOk, max, All, ◌||◌, ◌&&◌, not, is_some, if◌then◌else◌, take};
+ghost use Rattle.std.specs.Prelude.{◌≡◌, ℕ, ◌+◌, ◌<◌, ◌≤◌, None, Some, slice_set, true, false, length, nat_eq, nat_lt, vec_len, map, slice_index_or, vec_capacity, OnOk, max, All, ◌||◌, ◌&&◌, not, is_some, if◌then◌else◌};
 ghost use Rattle.std.specs.List.{IsDistinct};
 ghost use Rattle.model.specs.Reached.{has};
 ghost use Rattle.block_table.specs.Table.{cleared};

@@ -1,10 +1,9 @@
 //! The table of a heap's blocks, by number.
-ghost use Rattle.std.specs.Prelude.{◌≡◌, ◌≢◌, ℕ, ◌+◌, ◌<◌, ◌≤◌, ◌↔◌, Some, None, length, IsTrue, IsSome, IfOk, IfSome, IfNone, sum_by, slice_get, slice_index, slice_set, vec_len, slice_index_or};
-ghost use Rattle.layout.specs.Header.{size_of};
+ghost use Rattle.std.specs.Prelude.{◌≡◌, ◌≢◌, ℕ, ◌+◌, ◌<◌, ◌≤◌, Some, None, length, IfOk, IfSome, IfNone, sum_by, slice_get, slice_index, slice_set, slice_index_or};
 ghost use Rattle.layout.specs.Object.{Raw};
 ghost use Rattle.layout.specs.ObjectRef.{raw_of};
-ghost use Rattle.block_pool.specs.BlockValue.{BlockValue, used_of, offset_of, new_object, with_pointer_word, with_plain_word};
-ghost use Rattle.block_table.specs.Table.{with_more, slot_len, slot_words, objects_before};
+ghost use Rattle.block_pool.specs.BlockValue.{BlockValue, offset_of, with_pointer_word, with_plain_word};
+ghost use Rattle.block_table.specs.Table.{slot_len, slot_words, objects_before};
 
 use block_pool::Block;
 use heap_data::StepCount;

@@ -1,5 +1,5 @@
 //! The counts of a heap.
-ghost use Rattle.std.specs.Prelude.{◌≡◌, ◌<◌, ◌++◌, ◌∷◌, [], map, length};
+ghost use Rattle.std.specs.Prelude.{◌≡◌, ◌<◌, ◌∷◌, [], map};
 ghost use Rattle.heap_data.specs.CensusView.{step_value};
 
 use arrayvec::ArrayVec;

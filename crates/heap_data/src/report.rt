@@ -1,5 +1,5 @@
 //! What the workers of a collection report.
-ghost use Rattle.std.specs.Prelude.{◌≡◌, map, length};
+ghost use Rattle.std.specs.Prelude.{◌≡◌, map};
 ghost use Rattle.heap_data.specs.ReportView.{won_value};
 ghost use Rattle.layout.specs.Place.{place_word};
 

@@ -1,5 +1,5 @@
 //! The blocks of a heap: those of the nursery, and those that collections filled.
-ghost use Rattle.std.specs.Prelude.{◌≡◌, ℕ, ◌+◌, ◌/◌, ◌<◌, ◌≤◌, ◌↔◌, Some, None, Err, length, map, filter, slice_index, sum_by, IsTrue, IsNone, IsSome, IfOk, IfSome, IfNone, OnOk, OnErr, MatchOption, IsSomeAnd, slice_index_or, slice_set};
+ghost use Rattle.std.specs.Prelude.{◌≡◌, ℕ, ◌+◌, ◌/◌, ◌<◌, ◌≤◌, ◌↔◌, Some, None, Err, length, slice_index, sum_by, IsTrue, IsSome, IfOk, IfSome, IfNone, OnOk, OnErr, MatchOption, IsSomeAnd, slice_set};
 ghost use Rattle.std.specs.FinMap.{keys, values, get, insert};
 ghost use Rattle.std.specs.Option.{option_map};
 ghost use Rattle.model.specs.Graph.{size_of, Object, with_pointer};

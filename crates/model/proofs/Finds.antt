@@ -1,13 +1,12 @@
 -- A look-up in lists of entries, joined or within bounds.
-use Rattle.std.proofs.Common.{◌≡◌, ◌≢◌, ℕ, ◌<◌, ◌≤◌, Bool, true, false, cond, List, [], ◌∷◌, ◌++◌, Option, Some, None, refl, ap, ◌∙◌, arith}
+use Rattle.std.proofs.Common.{◌≡◌, ◌≢◌, ℕ, ◌<◌, ◌≤◌, Bool, true, false, cond, List, [], ◌∷◌, ◌++◌, Option, Some, None, refl, ap, ◌∙◌, arith, sym, subst, ⊎_elim}
 use Rattle.std.specs.Ordering.{nat_cmp, eq_by_cmp}
 use Rattle.std.specs.FinMap.{find}
-use Rattle.model.proofs.NatMap.{find_other}
-use Rattle.model.proofs.Options.{some_not_none}
 use Rattle.std.proofs.lemmas.Bool.{cases_eq}
 use Rattle.std.proofs.lemmas.List.Elements.{All-head, All-tail}
 use Rattle.std.specs.Prelude.{All}
-use Rattle.std.proofs.Common.{sym, subst, ⊎_elim}
+use Rattle.model.proofs.NatMap.{find_other}
+use Rattle.model.proofs.Options.{some_not_none}
 
 -- the first of two answers
 abbrev pub or_else : {X : Type 0} → Option X → Option X → Option X

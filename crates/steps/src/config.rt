@@ -1,5 +1,5 @@
 //! The sizes of a heap.
-ghost use Rattle.std.specs.Prelude.{◌≡◌, ◌≤◌, ◌%◌, ◌↔◌, IsOk, IfOk};
+ghost use Rattle.std.specs.Prelude.{◌≡◌, ◌%◌, ◌↔◌, IsOk, IfOk};
 ghost use Rattle.steps.specs.ConfigRange.{IsInRange, sizes_of};
 
 use std::marker::Model;
