@@ -25,8 +25,8 @@ use Rattle.heap.specs.Words.{IsShownAs, target_of_word}
 use Rattle.heap.specs.BlockObjects.{object_of, copies_of}
 use Rattle.heap.specs.ReportValue.{renaming_of}
 use Rattle.heap.specs.CollectionValue.{young_names}
-use Rattle.heap.proofs.Names.{same_index, keys-filter_rise}
-use Rattle.heap.proofs.WonNames.{find-renaming}
+use Rattle.model.proofs.RisingKeys.{same_index, keys-filter_rise}
+use Rattle.heap_data.proofs.WonNames.{find-renaming}
 use Rattle.collector.specs.Copied.{HasCopied, Forwards, AddsCopy, IsLiveNumber, LeadToPlaces, object_named, numbered_object, copies_won}
 use Rattle.collector.proofs.BlockCopies.{Grows-same}
 use Rattle.collector.proofs.Finds.{find-push_same, find-push_other, find-push_found, absent_from_none}

@@ -8,7 +8,7 @@ use Rattle.std.specs.List.{IsDistinct}
 use Rattle.std.specs.Option.{option_map}
 use Rattle.layout.specs.Place.{place_word}
 use Rattle.heap.specs.SlotView.{slot_value}
-use Rattle.heap.specs.declared.collection.Slot.{Slot}
+use Rattle.heap_data.specs.declared.collection.Slot.{Slot}
 use Rattle.std.specs.Ordering.{nat_cmp}
 use Rattle.std.specs.FinMap.{find, entries, get-entries}
 use Rattle.model.specs.Graph.{Object, object_at, IsClosed}
@@ -23,7 +23,7 @@ use Rattle.heap.specs.Plain.{IsPlainHeap}
 use Rattle.heap.specs.CollectionValue.{CollectionValue, SlotValue, IsOpened, root_slot, field_slot_of, target_of_slot, young_names}
 use Rattle.collector.specs.Copied.{HasCopied, HasDone, HasRooted, StaysWon, IsWon}
 use Rattle.collector.proofs.Finds.{some_is, some_not_none}
-use Rattle.heap.proofs.Names.{find_entry, entries-rise}
+use Rattle.model.proofs.RisingKeys.{find_entry, entries-rise}
 
 root_targets : (es : List (ℕ × ℕ)) → map target_of_slot (map (λ e. root_slot e.0 e.1) es ++ []) ≡ map (λ e. e.1) es
 root_targets [] = refl

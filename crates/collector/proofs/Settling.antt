@@ -25,9 +25,10 @@ use Rattle.heap.specs.SettledValue.{IsSettled}
 use Rattle.heap.specs.BlockObjects.{copies_of}
 use Rattle.collector.specs.Copied.{AreBlockNumbers, IsCopyBlock, HasScanned, HavePlaces, LeadToPlaces, IsWon, IsLiveNumber, object_named, numbered_object}
 use Rattle.collector.proofs.Forwarding.{with_pointers, copies_won-all}
-use Rattle.heap.proofs.Names.{same_index, keys-filter_rise, distinct_from_rise}
+use Rattle.model.proofs.RisingKeys.{same_index, keys-filter_rise, distinct_from_rise}
 use Rattle.collector.proofs.WonFinds.{find-by_place, won_at, one_number, by_place}
-use Rattle.heap.proofs.WonNames.{find_all, won_as, WonAs, find-renaming}
+use Rattle.model.proofs.Finds.{find_all}
+use Rattle.heap_data.proofs.WonNames.{won_as, WonAs, find-renaming}
 use Rattle.collector.proofs.Numbers.{numbers-rise, were_free, blocks-rise, found_in, numbers_of}
 use Rattle.collector.proofs.Rising.{BlocksRise, copies_of-rise}
 use Rattle.collector.proofs.Copied.{made}

@@ -7,7 +7,7 @@ use Rattle.layout.specs.declared.place.Place.{Place}
 use Rattle.layout.specs.Place.{place_word}
 use Rattle.heap.specs.HeapView.{heap_of}
 use Rattle.heap.specs.Roots.{roots_map}
-use Rattle.heap.specs.Space.{SpaceValue, SpaceAllocates}
+use Rattle.heap_space.specs.Space.{SpaceValue, SpaceAllocates}
 use Rattle.heap.specs.Commands.{Allocates}
 use Rattle.heap.proofs.RootMap.{get-roots}
 

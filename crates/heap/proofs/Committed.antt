@@ -19,25 +19,25 @@ use Rattle.layout.specs.Object.{Raw}
 use Rattle.layout.specs.declared.place.Place.{Place}
 use Rattle.layout.specs.Place.{small_word}
 use Rattle.block_pool.specs.BlockValue.{BlockValue}
-use Rattle.heap.specs.ConfigRange.{IsInRange}
-use Rattle.heap.specs.HeapValue.{nursery_count}
+use Rattle.steps.specs.ConfigRange.{IsInRange}
+use Rattle.heap_data.specs.HeapValue.{nursery_count}
 use Rattle.heap.specs.HeapView.{heap_of}
-use Rattle.heap.specs.Plain.{IsPlain}
+use Rattle.heap_data.specs.Plain.{IsPlain}
 use Rattle.heap.specs.Roots.{roots_map, root_word, renamed_word}
-use Rattle.heap.specs.Space.{SpaceValue, IsReplaced}
-use Rattle.heap.specs.BlockObjects.{object_of, objects_from}
-use Rattle.heap.specs.Installed.{installed}
-use Rattle.heap.specs.Table.{slot_objects}
-use Rattle.heap.specs.ReportValue.{renaming_of}
-use Rattle.heap.specs.CollectionValue.{CollectionValue, young_names}
-use Rattle.heap.specs.SettledValue.{IsSettled}
-use Rattle.heap.specs.CollectedHeap.{CollectedHeap, IsIn, HoldsObject, IsFreeBlock, IsRemembered}
-use Rattle.heap.proofs.CensusLemmas.{not_large_plain, points_plain}
-use Rattle.heap.proofs.Installed.{numbers_of, EachFits, find-copies}
-use Rattle.heap.proofs.Replacing.{all_numbers, installed-some}
+use Rattle.heap_space.specs.Space.{SpaceValue, IsReplaced}
+use Rattle.heap_data.specs.BlockObjects.{object_of, objects_from}
+use Rattle.block_table.specs.Installed.{installed}
+use Rattle.block_table.specs.Table.{slot_objects}
+use Rattle.heap_data.specs.ReportValue.{renaming_of}
+use Rattle.heap_data.specs.CollectionValue.{CollectionValue, young_names}
+use Rattle.heap_data.specs.SettledValue.{IsSettled}
+use Rattle.heap_data.specs.CollectedHeap.{CollectedHeap, IsIn, HoldsObject, IsFreeBlock, IsRemembered}
+use Rattle.heap_data.proofs.PlainObjects.{not_large_plain, points_plain}
+use Rattle.block_table.proofs.Installed.{numbers_of, EachFits, find-copies}
+use Rattle.block_table.proofs.Installed.{all_numbers, installed-some}
 use Rattle.heap.proofs.RootMap.{get-roots}
-use Rattle.heap.proofs.TableLemmas.{IsWordOf}
-use Rattle.heap.proofs.WonNames.{some_not_none}
+use Rattle.block_table.proofs.TableLemmas.{IsWordOf}
+use Rattle.model.proofs.Options.{some_not_none}
 
 find_pairs : (f : ℕ → ℕ) (es : List (ℕ × ℕ)) (n : ℕ) → find nat_cmp n (map {B = ℕ × ℕ} (λ e. (e.0, f e.1)) es) ≡ option_map f (find nat_cmp n es)
 find_pairs f [] n = refl

@@ -1,32 +1,23 @@
 -- A heap as its blocks and roots show it.
-use Rattle.std.proofs.Common.{◌≡◌, ℕ, ◌-◌, ◌*◌, Bool, true, false, cond, List, [], ◌∷◌, ◌++◌, length, map, filter, replicate, Option, Some, None, sum_by, refl, sym, ap, subst, ◌∙◌, arith}
-use Rattle.std.proofs.lemmas.List.{append-nil}
-use Rattle.std.specs.Prelude.{nat_le, IsSome, is_some}
-use Rattle.std.specs.List.{list_any}
-use Rattle.std.specs.Option.{option_map, option_map_or}
-use Rattle.std.specs.Ordering.{nat_cmp, eq_by_cmp}
-use Rattle.std.specs.Cmp.{unsigned_tied}
-use Rattle.std.specs.FinMap.{FinMap, get, empty, entries, keys, contains_key-keys}
+use Rattle.std.proofs.Common.{◌≡◌, ℕ, ◌-◌, ◌*◌, cond, List, [], ◌∷◌, length, map, filter, replicate, Option, sum_by, refl, sym, ap, ◌∙◌, arith}
+use Rattle.std.specs.Prelude.{is_some}
+use Rattle.std.specs.Option.{option_map}
+use Rattle.std.specs.FinMap.{empty}
 use Rattle.model.specs.Config.{Config}
-use Rattle.model.specs.Graph.{Graph, Object, object_at, size_of, is_large, IsClosed}
-use Rattle.model.specs.Live.{IsYoung}
-use Rattle.model.specs.Reached.{has}
+use Rattle.model.specs.Graph.{Object, size_of, is_large, IsClosed}
 use Rattle.model.specs.Census.{Census, StepCount, census_of, points_younger, step_count}
 use Rattle.model.specs.Destination.{all_steps, numbers_from}
 use Rattle.model.specs.Room.{full_room}
 use Rattle.model.specs.Slots.{slots_from}
-use Rattle.model.specs.OldSlots.{is_young_name, old_slots}
-use Rattle.model.proofs.Has.{has_head, has_tail}
 use Rattle.layout.specs.declared.place.Place.{Place}
 use Rattle.layout.specs.Place.{place_word}
-use Rattle.heap.specs.ConfigRange.{IsInRange}
-use Rattle.heap.specs.HeapValue.{HeapValue, empty_heap, nursery_count}
+use Rattle.steps.specs.ConfigRange.{IsInRange}
+use Rattle.heap_data.specs.HeapValue.{HeapValue, empty_heap, nursery_count}
 use Rattle.heap.specs.HeapView.{heap_of, LeadsToObjects}
-use Rattle.heap.specs.Plain.{IsPlain, ArePlain}
+use Rattle.heap_data.specs.Plain.{ArePlain}
 use Rattle.heap.specs.Roots.{roots_map}
-use Rattle.heap.specs.Space.{SpaceValue, empty_space}
-use Rattle.heap.specs.CollectionValue.{young_names, slots_of, root_slot, field_slot_of}
-use Rattle.heap.proofs.CensusLemmas.{all_small, none_large, none_remembered}
+use Rattle.heap_space.specs.Space.{SpaceValue, empty_space}
+use Rattle.heap_data.proofs.PlainObjects.{all_small, none_large, none_remembered}
 use Rattle.heap.proofs.RootMap.{get-roots}
 
 empty_roots : roots_map [] ≡ empty
@@ -58,49 +49,8 @@ census_is config object objects roots count words one plain is_count is_words =
     ∙ ap (λ os. let c : Census = record { steps = record { generation = 0; step = 0; objects = count; words = words } ∷ []; large_objects = length os; large_words = sum_by size_of os; roots = roots; remembered = sum_by (λ x. cond (points_younger object x) 1 0) objects } in c) large
     ∙ ap (λ n. let c : Census = record { steps = record { generation = 0; step = 0; objects = count; words = words } ∷ []; large_objects = 0; large_words = 0; roots = roots; remembered = n } in c) young
 
--- a key of the map has a value
-any-tied : (q : ℕ) (xs : List ℕ) → list_any (eq_by_cmp nat_cmp q) xs ≡ has xs q
-any-tied q [] = refl
-any-tied q (x ∷ xs) = rw (unsigned_tied q x, any-tied q xs) refl
-
-pub has_key : {X : Type 0} (m : FinMap nat_cmp X) (q : ℕ) → has (keys m) q ≡ true → IsSome (get m q)
-has_key m q h = contains_key-keys m q ∙ any-tied q (keys m) ∙ h
-
-pub key_has : {X : Type 0} (m : FinMap nat_cmp X) (q : ℕ) → IsSome (get m q) → has (keys m) q ≡ true
-key_has m q h = sym (any-tied q (keys m)) ∙ sym (contains_key-keys m q) ∙ h
-
-filter_has : (p : ℕ → Bool) (xs : List ℕ) → ((q : ℕ) → has xs q ≡ true → p q ≡ true) → filter p xs ≡ xs
-filter_has p [] each = refl
-filter_has p (x ∷ xs) each = rw (each x (has_head x xs)) (ap (λ ys. x ∷ ys) (filter_has p xs (λ q h. each q (has_tail x xs q h))))
-
--- where every object is of generation 0, all are collected
-pub young_all : (graph : Graph) → ((name : ℕ) (o : Object) → object_at graph name ≡ Some o → o.generation ≡ 0) → young_names graph 0 ≡ keys graph.objects
-young_all graph first = filter_has (is_young_name graph 0) (keys graph.objects) (λ q h. go q (object_at graph q) refl (has_key graph.objects q h))
-  where
-    go : (q : ℕ) (o : Option Object) → object_at graph q ≡ o → IsSome (object_at graph q) → option_map_or (λ x. nat_le x.generation 0) (object_at graph q) false ≡ true
-    go q None is some = let some' : IsSome {T = Object} None = subst (λ x. IsSome x) is some in absurd (cc)
-    go q (Some x) is some = ap (λ y. option_map_or (λ x. nat_le x.generation 0) y false) is ∙ ap (λ n. nat_le n 0) (first q x is)
-
--- a young name is there
-pub young_there : (graph : Graph) (g name : ℕ) → IsYoung graph g name → IsSome (object_at graph name)
-young_there graph g name young = ap is_some young.there
-
--- with one generation there is no older object
-pub slots_are : (heap : HeapValue) → heap.config.shape.generations ≡ 1 → slots_of heap 0 ≡ map (λ e. root_slot e.0 e.1) (entries heap.graph.roots)
-slots_are heap one =
-    let none : old_slots heap.graph heap.config.shape.generations 0 ≡ [] = rw one refl in
-    ap (λ os. map (λ e. root_slot e.0 e.1) (entries heap.graph.roots) ++ map field_slot_of os) none ∙ append-nil (map (λ e. root_slot e.0 e.1) (entries heap.graph.roots))
-
 -- each root leads to an object
 pub leads_is : (space : SpaceValue) (slots : List (Option Place)) → IsClosed (heap_of space slots).graph → LeadsToObjects space slots
 leads_is space slots closed root place is =
     let there = closed.roots root (place_word place) (get-roots slots root ∙ ap (option_map place_word) is) in
     ap is_some there.1
-
--- where every object is of generation 0, each one is young
-pub first_young : (objects : FinMap nat_cmp Object) (roots : FinMap nat_cmp ℕ) (name : ℕ) (g : ℕ) (block_words : ℕ) → ((q : ℕ) (o : Object) → get objects q ≡ Some o → IsPlain block_words o) → IsSome (get objects name) → IsYoung (record { objects = objects; roots = roots }) g name
-first_young objects roots name g block_words plain some = go (get objects name) refl some
-  where
-    go : (o : Option Object) → get objects name ≡ o → IsSome o → IsYoung (record { objects = objects; roots = roots }) g name
-    go None is h = absurd (cc)
-    go (Some o) is h = record { object = o; there = is; young = omega (arith, (plain name o is).generation) }

@@ -16,16 +16,16 @@ use Rattle.model.proofs.NatMap.{find_same, find_other}
 use Rattle.model.proofs.Same.{IsDistinct-map}
 use Rattle.layout.specs.declared.place.Place.{Place}
 use Rattle.block_pool.specs.BlockValue.{BlockValue}
-use Rattle.heap.specs.ConfigRange.{IsInRange}
+use Rattle.steps.specs.ConfigRange.{IsInRange}
 use Rattle.heap.specs.HeapView.{heap_of}
-use Rattle.heap.specs.Plain.{IsPlain}
-use Rattle.heap.specs.Space.{SpaceValue}
-use Rattle.heap.specs.ReportValue.{WorkerLists, all_won, renaming_of}
-use Rattle.heap.specs.CollectionValue.{CollectionValue, young_names}
-use Rattle.heap.specs.SettledValue.{IsSettled}
-use Rattle.heap.proofs.CensusLemmas.{length-map}
+use Rattle.heap_data.specs.Plain.{IsPlain}
+use Rattle.heap_space.specs.Space.{SpaceValue}
+use Rattle.heap_data.specs.ReportValue.{WorkerLists, all_won, renaming_of}
+use Rattle.heap_data.specs.CollectionValue.{CollectionValue, young_names}
+use Rattle.heap_data.specs.SettledValue.{IsSettled}
+use Rattle.std.proofs.lemmas.List.{length-map}
 use Rattle.heap.proofs.SettledLemmas.{named_once, numbers_named}
-use Rattle.heap.proofs.WonNames.{some_not_none}
+use Rattle.model.proofs.Options.{some_not_none}
 
 abbrev first_of : List (ℕ × ℕ) → List ℕ
 first_of es = map (λ e. e.0) es
@@ -71,7 +71,7 @@ module _ (space : SpaceValue) (slots : List (Option Place)) (collection : Collec
   pub won_within : sum_by (λ (w : WorkerLists). length w.won) workers ≤ collection.cells
   won_within =
       let few = length-le_from_distinct_below (first_of (all_won workers)) collection.cells settled.once (λ q h. has_all (λ n. n < collection.cells) (all_won workers) q settled.numbers h) in
-      omega (arith, won_is, length-map (λ (e : ℕ × ℕ). e.0) (all_won workers), few)
+      omega (arith, won_is, length-map (all_won workers) (λ (e : ℕ × ℕ). e.0), few)
 
   pub kept_count : LiveCount (heap_of space slots).graph collection.generation (sum_by (λ (w : WorkerLists). length w.won) workers)
   kept_count = record {
@@ -84,6 +84,6 @@ module _ (space : SpaceValue) (slots : List (Option Place)) (collection : Collec
       all = λ name live. let at = settled.renaming.all_live name live in find_has (renaming_of (young_names (heap_of space slots).graph collection.generation) (all_won workers)) name at.0 at.1;
     };
     count = won_is
-        ∙ sym (length-map (slice_index (young_names (heap_of space slots).graph collection.generation)) (first_of (all_won workers)) ∙ length-map (λ (e : ℕ × ℕ). e.0) (all_won workers))
+        ∙ sym (length-map (first_of (all_won workers)) (slice_index (young_names (heap_of space slots).graph collection.generation)) ∙ length-map (all_won workers) (λ (e : ℕ × ℕ). e.0))
         ∙ ap length (sym (names-renaming (young_names (heap_of space slots).graph collection.generation) (all_won workers)));
   }

@@ -1,22 +1,5 @@
--- The blocks of a heap against the graph that they hold.
-pub mod Finds
-pub mod TableLemmas
-pub mod TableMap
+-- The heap's roots and its commands.
 pub mod RootMap
-pub mod BlockFinds
-pub mod Numbering
-pub mod CensusLemmas
-pub mod Installed
-pub mod Steps
-pub mod Areas
-pub mod Installing
-pub mod Sound
-pub mod Replacing
-pub mod Located
-pub mod Changed
-pub mod FieldWrites
-pub mod Places
-pub mod Empty
 pub mod HeapLemmas
 pub mod Allocating
 pub mod Storing
@@ -24,10 +7,6 @@ pub mod RootSlots
 pub mod OpenedHeap
 pub mod Rewriting
 pub mod RenamedRoots
-pub mod Names
-pub mod WonNames
-pub mod PlainBlocks
 pub mod SettledLemmas
-pub mod CanCommit
 pub mod Committed
 pub mod KeptCount

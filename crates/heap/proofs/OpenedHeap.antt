@@ -5,13 +5,13 @@ use Rattle.std.specs.FinMap.{get, keys, entries}
 use Rattle.model.specs.Graph.{Object}
 use Rattle.layout.specs.declared.place.Place.{Place}
 use Rattle.layout.specs.Place.{small_word}
-use Rattle.heap.specs.ConfigRange.{IsInRange}
+use Rattle.steps.specs.ConfigRange.{IsInRange}
 use Rattle.heap.specs.HeapView.{heap_of}
-use Rattle.heap.specs.Plain.{IsPlain, IsPlainHeap}
+use Rattle.heap_data.specs.Plain.{IsPlain, IsPlainHeap}
 use Rattle.heap.specs.Roots.{roots_map}
-use Rattle.heap.specs.Space.{SpaceValue}
-use Rattle.heap.specs.CollectionValue.{CollectionValue, IsOpened, young_names, rank_below, root_slot, SlotValue}
-use Rattle.heap.proofs.HeapLemmas.{young_all, young_there, slots_are}
+use Rattle.heap_space.specs.Space.{SpaceValue}
+use Rattle.heap_data.specs.CollectionValue.{CollectionValue, IsOpened, young_names, rank_below, root_slot, SlotValue}
+use Rattle.heap_data.proofs.Young.{young_all, young_there, slots_are}
 
 pub opened_is : (space : SpaceValue) (slots : List (Option Place)) (collection : CollectionValue) (made : List SlotValue) → IsInRange space.config
     → ((name : ℕ) (o : Object) → get space.objects name ≡ Some o → IsPlain space.config.block_words o)

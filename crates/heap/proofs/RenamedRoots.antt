@@ -3,7 +3,7 @@ use Rattle.std.proofs.Common.{◌≡◌, ℕ, zero, suc, ◌<◌, length, get_or
 use Rattle.std.proofs.lemmas.List.{append_assoc, map-append}
 use Rattle.std.specs.Prelude.{slice_index, slice_index_or, IsSome, nat_eq}
 use Rattle.std.specs.List.{IsDistinct}
-use Rattle.heap.proofs.Names.{distinct_from_rise, keys-rise, entries-rise}
+use Rattle.model.proofs.RisingKeys.{distinct_from_rise, keys-rise, entries-rise}
 use Rattle.std.specs.FinMap.{entries}
 use Rattle.slab.specs.Slab.{entries_from}
 use Rattle.layout.specs.declared.place.Place.{Place}

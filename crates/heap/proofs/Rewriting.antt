@@ -11,8 +11,8 @@ use Rattle.model.specs.Reached.{has}
 use Rattle.model.proofs.Has.{has_head, has_tail}
 use Rattle.model.proofs.NatMap.{find_same, find_other}
 use Rattle.heap.specs.Roots.{renamed_word}
-use Rattle.heap.proofs.Finds.{find-append, or_else}
-use Rattle.heap.proofs.Areas.{once_at}
+use Rattle.model.proofs.Finds.{find-append, or_else}
+use Rattle.block_table.proofs.Areas.{once_at}
 
 module _ {X : Type 0} (key : X → ℕ) (word : X → ℕ) where
   abbrev pub pairs_for : List X → List (ℕ × ℕ)

@@ -5,10 +5,10 @@ use Rattle.std.specs.FinMap.{entries}
 use Rattle.slab.specs.Slab.{entries_from}
 use Rattle.layout.specs.declared.place.Place.{Place}
 use Rattle.layout.specs.Place.{place_word}
-use Rattle.heap.specs.CollectionValue.{SlotValue, root_slot}
+use Rattle.heap_data.specs.CollectionValue.{SlotValue, root_slot}
 use Rattle.heap.specs.Roots.{roots_map}
-use Rattle.heap.specs.SlotView.{slot_value}
-use Rattle.heap.specs.declared.collection.Slot.{Slot}
+use Rattle.heap_data.specs.SlotView.{slot_value}
+use Rattle.heap_data.specs.declared.collection.Slot.{Slot}
 use Rattle.heap.proofs.RootMap.{entries-roots, pair_words}
 
 -- the slots of roots with their places

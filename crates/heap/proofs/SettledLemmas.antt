@@ -14,23 +14,24 @@ use Rattle.model.proofs.LiveLemmas.{Live-young}
 use Rattle.layout.specs.declared.place.Place.{Place}
 use Rattle.layout.specs.Place.{place_word, small_word}
 use Rattle.block_pool.specs.BlockValue.{BlockValue}
-use Rattle.heap.specs.ConfigRange.{IsInRange}
+use Rattle.steps.specs.ConfigRange.{IsInRange}
 use Rattle.heap.specs.HeapView.{heap_of, LeadsToObjects}
-use Rattle.heap.specs.Plain.{IsPlain}
+use Rattle.heap_data.specs.Plain.{IsPlain}
 use Rattle.heap.specs.Roots.{roots_map}
-use Rattle.heap.specs.Space.{SpaceValue}
-use Rattle.heap.specs.BlockObjects.{copies_of}
-use Rattle.heap.specs.ReportValue.{renaming_of}
-use Rattle.heap.specs.CollectionValue.{CollectionValue, young_names, rank_below}
-use Rattle.heap.specs.SettledValue.{IsSettled}
-use Rattle.heap.proofs.CensusLemmas.{not_large_plain}
-use Rattle.heap.proofs.HeapLemmas.{young_all, first_young}
-use Rattle.heap.proofs.Names.{same_index, keys-filter_rise}
-use Rattle.heap.proofs.PlainBlocks.{moved_plain}
+use Rattle.heap_space.specs.Space.{SpaceValue}
+use Rattle.heap_data.specs.BlockObjects.{copies_of}
+use Rattle.heap_data.specs.ReportValue.{renaming_of}
+use Rattle.heap_data.specs.CollectionValue.{CollectionValue, young_names, rank_below}
+use Rattle.heap_data.specs.SettledValue.{IsSettled}
+use Rattle.heap_data.proofs.PlainObjects.{not_large_plain, moved_plain}
+use Rattle.heap_data.proofs.Young.{young_all, first_young}
+use Rattle.model.proofs.RisingKeys.{same_index, keys-filter_rise}
 use Rattle.heap.proofs.RootMap.{get-roots}
 use Rattle.heap.proofs.RenamedRoots.{IsNewWord}
-use Rattle.heap.proofs.Steps.{in_list}
-use Rattle.heap.proofs.WonNames.{won_as, find_all, find-renaming, some_is, some_not_none}
+use Rattle.block_table.proofs.TableSteps.{in_list}
+use Rattle.heap_data.proofs.WonNames.{won_as, find-renaming}
+use Rattle.model.proofs.Finds.{find_all}
+use Rattle.model.proofs.Options.{some_is, some_not_none}
 
 some_place : (o : Option Place) (w : ℕ) → option_map place_word o ≡ Some w → IsSome o
 some_place None w e = absurd (some_not_none (sym e))

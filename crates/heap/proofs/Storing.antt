@@ -8,7 +8,7 @@ use Rattle.layout.specs.declared.place.Place.{Place}
 use Rattle.layout.specs.Place.{place_word}
 use Rattle.heap.specs.Commands.{value_at}
 use Rattle.heap.specs.HeapView.{heap_of}
-use Rattle.heap.specs.Space.{SpaceValue}
+use Rattle.heap_space.specs.Space.{SpaceValue}
 
 -- the object that a root leads to
 pub record Held (graph : Graph) (root name : ℕ) : Type 0 where

@@ -4,7 +4,7 @@ use Rattle.std.specs.FinMap.{values, len}
 use Rattle.model.specs.Graph.{Graph, Object, object_at, root_at, with_object, with_root, fresh_object}
 use Rattle.model.specs.Room.{Room, room_after}
 use Rattle.model.specs.Census.{Census, census_of}
-use Rattle.heap.specs.HeapValue.{HeapValue}
+use Rattle.heap_data.specs.HeapValue.{HeapValue}
 
 -- today an object may take at most a quarter of a block
 abbrev pub is_too_big : HeapValue → ℕ → ℕ → Bool

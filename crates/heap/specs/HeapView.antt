@@ -3,9 +3,9 @@ use Rattle.std.specs.Prelude.{◌≡◌, ℕ, List, [], ◌∷◌, Option, Some,
 use Rattle.std.specs.FinMap.{get, empty}
 use Rattle.layout.specs.declared.place.Place.{Place}
 use Rattle.layout.specs.Place.{place_word}
-use Rattle.heap.specs.HeapValue.{HeapValue}
+use Rattle.heap_data.specs.HeapValue.{HeapValue}
 use Rattle.heap.specs.Roots.{roots_map}
-use Rattle.heap.specs.Space.{SpaceValue}
+use Rattle.heap_space.specs.Space.{SpaceValue}
 
 abbrev pub heap_of : SpaceValue → List (Option Place) → HeapValue
 heap_of space slots =

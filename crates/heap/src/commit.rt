@@ -5,14 +5,14 @@ ghost use Rattle.std.specs.List.{IsDistinct};
 ghost use Rattle.std.specs.FinMap.{get, keys, entries};
 ghost use Rattle.layout.specs.Place.{place_word, small_word};
 ghost use Rattle.block_pool.specs.BlockValue.{used_of};
-ghost use Rattle.heap.specs.CollectionValue.{rank_below};
+ghost use Rattle.heap_data.specs.CollectionValue.{rank_below};
 ghost use Rattle.heap.specs.HeapView.{LeadsToObjects};
 ghost use Rattle.heap.specs.RootView.{root_pair};
 ghost use Rattle.heap.specs.Roots.{roots_map, root_word, renamed_word};
 
-use crate::report::WorkerReport;
-use crate::space::Space;
 use block_pool::Block;
+use heap_data::WorkerReport;
+use heap_space::Space;
 use layout::Place;
 use slab::Slab;
 use std::alloc::{AllocError, Allocator};

@@ -1,35 +1,32 @@
 //! The heap.
-ghost use Rattle.std.specs.Prelude.{◌≡◌, ℕ, ◌*◌, ◌+◌, ◌<◌, ◌≤◌, ◌↔◌, Some, None, false, IsTrue, IsSome, IsOk, IfOk, IfSome, IfNone, OnOk, OnErr, option_copied};
+ghost use Rattle.std.specs.Prelude.{◌≡◌, ◌+◌, ◌<◌, ◌≤◌, ◌↔◌, Some, None, false, IsTrue, IsSome, IsOk, IfOk, OnOk, OnErr};
 ghost use Rattle.std.specs.Option.{option_map};
 ghost use Rattle.model.specs.Graph.{root_at, without_root, with_pointer};
 ghost use Rattle.layout.specs.Place.{place_word};
-ghost use Rattle.heap.specs.HeapValue.{empty_heap, nursery_count};
+ghost use Rattle.heap_data.specs.HeapValue.{empty_heap, nursery_count};
 ghost use Rattle.heap.specs.Commands.{Allocates, is_too_big, room_for, heap_census, Changes, HasPointer, HasPlain, IsValue, value_at, rooted_object};
 ghost use Rattle.std.specs.Prelude.{MatchOption, IsSomeAnd, IsNone, ◌⊎◌, slice_get, slice_set, slice_index, length, Err};
 ghost use Rattle.model.specs.Graph.{IsClosed, object_at};
 ghost use Rattle.model.specs.Live.{IsYoung};
 ghost use Rattle.model.specs.LiveCount.{LiveCount};
 ghost use Rattle.layout.specs.ObjectRef.{raw_of};
-ghost use Rattle.heap.specs.Words.{IsShownAs};
-ghost use Rattle.heap.specs.Plain.{IsPlainHeap, NamesArePlaces};
-ghost use Rattle.heap.specs.StepPairs.{step_pair, stands_at};
-ghost use Rattle.heap.specs.CollectionValue.{IsOpened, AreFreeBlocks, young_names};
-ghost use Rattle.heap.specs.ReportValue.{all_won, renaming_of};
-ghost use Rattle.heap.specs.SettledValue.{IsSettled};
-ghost use Rattle.heap.specs.CollectedHeap.{CollectedHeap};
+ghost use Rattle.heap_data.specs.Words.{IsShownAs};
+ghost use Rattle.heap_data.specs.Plain.{IsPlainHeap, NamesArePlaces};
+ghost use Rattle.steps.specs.StepPairs.{step_pair, stands_at};
+ghost use Rattle.heap_data.specs.CollectionValue.{IsOpened, AreFreeBlocks, young_names};
+ghost use Rattle.heap_data.specs.ReportValue.{all_won, renaming_of};
+ghost use Rattle.heap_data.specs.SettledValue.{IsSettled};
+ghost use Rattle.heap_data.specs.CollectedHeap.{CollectedHeap};
 
-use crate::census::Census;
-use crate::collection::{Collection, Settled};
 use crate::commit::{all_fit, count_won, renamed_roots, write_roots};
-use crate::config::Config;
 use crate::opening::opened;
-use crate::report::Report;
-use crate::root::{RootId, StepId};
-use crate::space::Space;
+use heap_data::{Census, Collection, Report, RootId, Settled};
+use heap_space::Space;
 use layout::{ObjectRef, Place};
 use slab::Slab;
 use std::alloc::{AllocError, Allocator, Global};
 use std::marker::Model;
+use steps::{Config, StepId};
 
 /// The most pointers, and the most plain words, that an object may have.
 const MOST_FIELDS: u64 = 100_000;
@@ -90,7 +87,7 @@ pub struct Heap<A: Allocator = Global> {
 }
 
 impl<A: Allocator> Model for Heap<A> {
-    ghost use Rattle.heap.specs.HeapValue.{HeapValue, heap_code};
+    ghost use Rattle.heap_data.specs.HeapValue.{HeapValue, heap_code};
 
     ghost Value = { HeapValue };
 

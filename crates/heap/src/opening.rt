@@ -1,14 +1,13 @@
 //! What a collection takes from a heap.
 ghost use Rattle.std.specs.Prelude.{◌≡◌, map, IfOk};
 ghost use Rattle.std.specs.FinMap.{entries};
-ghost use Rattle.heap.specs.CollectionValue.{root_slot, IsOpened};
-ghost use Rattle.heap.specs.SlotView.{slot_value};
+ghost use Rattle.heap_data.specs.CollectionValue.{root_slot, IsOpened};
+ghost use Rattle.heap_data.specs.SlotView.{slot_value};
 ghost use Rattle.heap.specs.Roots.{roots_map};
 ghost use Rattle.heap.specs.HeapView.{heap_of};
 
-use crate::collection::{Collection, Slot};
-use crate::root::RootId;
-use crate::space::Space;
+use heap_data::{Collection, RootId, Slot};
+use heap_space::Space;
 use layout::Place;
 use slab::Slab;
 use std::alloc::{AllocError, Allocator};

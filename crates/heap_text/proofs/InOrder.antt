@@ -15,7 +15,7 @@ use Rattle.model.specs.Text.{targets_at}
 use Rattle.model.proofs.Has.{has_none, has-cons, has_head, has_tail}
 use Rattle.model.proofs.ReachedList.{reached_list_exact}
 use Rattle.heap.specs.CollectionValue.{young_names}
-use Rattle.heap.proofs.HeapLemmas.{has_key, key_has}
+use Rattle.model.proofs.MapKeys.{has_key, key_has}
 use Rattle.heap_text.specs.Numbering.{IsClosedOrder}
 
 -- a target of an object is what one of its fields holds

@@ -12,7 +12,7 @@ use Rattle.model.specs.Text.{number_of}
 use Rattle.model.proofs.Has.{has_none, has-cons}
 use Rattle.heap.specs.HeapValue.{HeapValue}
 use Rattle.heap.specs.CollectionValue.{young_names}
-use Rattle.heap.proofs.Names.{same_index, keys-filter_rise}
+use Rattle.model.proofs.RisingKeys.{same_index, keys-filter_rise}
 use Rattle.heap_text.specs.Numbering.{IsNumbering, number_in, visited}
 use Rattle.heap_text.proofs.Positions.{position-push_other, position-push_here, position-is_some}
 use Rattle.heap_text.proofs.Visiting.{visited_old}

@@ -5,7 +5,7 @@ use Rattle.std.specs.Option.{option_map}
 use Rattle.std.specs.List.{join_with_byte}
 use Rattle.model.specs.Graph.{Graph, Object, object_at}
 use Rattle.model.specs.Text.{number_of, pointer_text, object_line}
-use Rattle.heap.specs.declared.root.StepId.{StepId}
+use Rattle.steps.specs.declared.step_id.StepId.{StepId}
 use Rattle.heap.specs.StepPairs.{step_pair, stands_at}
 use Rattle.heap.specs.Words.{target_of_word}
 use Rattle.layout.specs.Object.{Raw}

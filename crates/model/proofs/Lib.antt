@@ -14,3 +14,7 @@ pub mod OldSlotsExact
 pub mod DestCount
 pub mod ClosedLemmas
 pub mod SpreadSame
+pub mod Options
+pub mod Finds
+pub mod RisingKeys
+pub mod MapKeys

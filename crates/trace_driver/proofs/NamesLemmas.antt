@@ -9,7 +9,7 @@ use Rattle.std.specs.FinMap.{find, put}
 use Rattle.std.specs.FinMap.Entries.{by_order}
 use Rattle.std.specs.Map.{lookup, remove_entry}
 use Rattle.std.specs.BTreeMap.{insert_entry}
-use Rattle.heap.specs.declared.root.RootId.{RootId}
+use Rattle.heap_data.specs.declared.root_id.RootId.{RootId}
 use Rattle.trace_driver.specs.NamesView.{name_entry}
 
 -- whether a key has these bytes

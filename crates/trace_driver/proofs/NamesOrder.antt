@@ -9,7 +9,7 @@ use Rattle.std.specs.Map.{keys_of}
 use Rattle.std.specs.FinMap.{is_sorted}
 use Rattle.std.proofs.lemmas.List.{map-append}
 use Rattle.std.proofs.lemmas.Bool.{and_from}
-use Rattle.heap.specs.declared.root.RootId.{RootId}
+use Rattle.heap_data.specs.declared.root_id.RootId.{RootId}
 use Rattle.trace_driver.specs.NamesView.{name_entry}
 use Rattle.trace_driver.proofs.NameLists.{all_after}
 

@@ -19,7 +19,7 @@ use Rattle.heap.specs.Commands.{Allocates, room_for, heap_census}
 use Rattle.heap.specs.Commands as commands
 use Rattle.heap.specs.CollectionValue.{young_names}
 use Rattle.heap.specs.ReportValue.{WorkerLists, renaming_of}
-use Rattle.heap.specs.declared.root.RootId.{RootId}
+use Rattle.heap_data.specs.declared.root_id.RootId.{RootId}
 use Rattle.collector.specs.Collects.{CollectsAlone}
 use Rattle.trace_driver.specs.Outcome.{command_step}
 use Rattle.trace_driver.specs.Stepped.{StepsTo, StepsQuietly}

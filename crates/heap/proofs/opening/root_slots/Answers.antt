@@ -1,6 +1,6 @@
 use Rattle.std.proofs.Common.{ap, sym, ◌∙◌, refl, ◌++◌, map}
 use Rattle.std.proofs.lemmas.List.{append-nil}
-use Rattle.heap.specs.SlotView.{slot_value}
+use Rattle.heap_data.specs.SlotView.{slot_value}
 use Rattle.heap.proofs.RootSlots.{slots_for, slots_are_all, slots_more}
 use Rattle.heap.proofs.opening.root_slots.Goals as goal
 

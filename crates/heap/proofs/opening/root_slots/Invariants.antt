@@ -1,7 +1,7 @@
 use Rattle.std.proofs.Common.{◌≡◌, ◌++◌, map}
 use Rattle.std.specs.FinMap.{entries}
-use Rattle.heap.specs.CollectionValue.{root_slot}
-use Rattle.heap.specs.SlotView.{slot_value}
+use Rattle.heap_data.specs.CollectionValue.{root_slot}
+use Rattle.heap_data.specs.SlotView.{slot_value}
 use Rattle.heap.specs.Roots.{roots_map}
 use Rattle.heap.proofs.RootSlots.{slots_for}
 use Rattle.heap.proofs.opening.root_slots.Given as goal

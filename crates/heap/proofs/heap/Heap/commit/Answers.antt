@@ -2,13 +2,13 @@ use Rattle.std.proofs.Common.{ap, arith, map, Ok, Err, Result}
 use Rattle.std.specs.Prelude.{OnErr}
 use Rattle.model.specs.Collected.{renamed}
 use Rattle.heap.specs.HeapView.{heap_of}
-use Rattle.heap.specs.CollectionValue.{young_names}
-use Rattle.heap.specs.ReportValue.{all_won, renaming_of}
+use Rattle.heap_data.specs.CollectionValue.{young_names}
+use Rattle.heap_data.specs.ReportValue.{all_won, renaming_of}
 use Rattle.heap.specs.RootView.{root_pair}
-use Rattle.heap.proofs.Replacing.{each_fits}
+use Rattle.block_table.proofs.Installed.{each_fits}
 use Rattle.heap.proofs.RenamedRoots.{renamed_once}
 use Rattle.heap.proofs.SettledLemmas.{bases_are, bases_cover, places_many, root_named, new_words, copies_plain}
-use Rattle.heap.proofs.CanCommit.{heap_blocks, each_block_fits}
+use Rattle.block_table.proofs.CanCommit.{heap_blocks, each_block_fits}
 use Rattle.heap.proofs.Committed.{collected_heap, now_closed}
 use Rattle.heap.proofs.HeapLemmas.{leads_is}
 use Rattle.heap.proofs.KeptCount.{won_within, kept_count}

@@ -3,10 +3,10 @@ use Rattle.std.specs.Prelude.{slice_index}
 use Rattle.std.specs.FinMap.{keys}
 use Rattle.model.specs.Graph.{Object, object_at}
 use Rattle.layout.specs.Place.{small_word}
-use Rattle.heap.specs.HeapValue.{HeapValue}
-use Rattle.heap.specs.Plain.{IsPlain}
-use Rattle.heap.specs.CollectionValue.{CollectionValue, IsOpened, young_names, rank_below}
-use Rattle.heap.proofs.HeapLemmas.{young_all, first_young}
+use Rattle.heap_data.specs.HeapValue.{HeapValue}
+use Rattle.heap_data.specs.Plain.{IsPlain}
+use Rattle.heap_data.specs.CollectionValue.{CollectionValue, IsOpened, young_names, rank_below}
+use Rattle.heap_data.proofs.Young.{young_all, first_young}
 use Rattle.heap.proofs.heap.Heap.number_of.Goals as goal
 
 -- the objects of today's heap are all young

@@ -1,0 +1,3 @@
+-- The objects of the blocks of a table.
+pub mod Table
+pub mod Installed

@@ -1,0 +1,14 @@
+-- What contracts see of a heap, and of a collection of it.
+pub mod HeapValue
+pub mod CensusCode
+pub mod CensusView
+pub mod Words
+pub mod BlockObjects
+pub mod CollectionValue
+pub mod SlotView
+pub mod CollectionCode
+pub mod Plain
+pub mod ReportValue
+pub mod ReportView
+pub mod CollectedHeap
+pub mod SettledValue

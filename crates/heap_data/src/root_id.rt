@@ -1,0 +1,5 @@
+/// The number of a root: what a program holds of an object.
+#[derive(Clone, Copy, Debug, PartialEq, Eq)]
+pub struct RootId {
+    pub number: usize,
+}

@@ -1,0 +1,3 @@
+-- What contracts see of the blocks of a heap.
+pub mod Nursery
+pub mod Space

@@ -1,0 +1,131 @@
+//! The sizes of a heap.
+ghost use Rattle.std.specs.Prelude.{◌≡◌, ◌%◌, ◌↔◌, IsOk, IfOk};
+ghost use Rattle.steps.specs.ConfigRange.{IsInRange, sizes_of};
+
+use std::marker::Model;
+
+/// Sizes of a heap as a user gives them, any of which may be out of range.
+#[derive(Clone, Copy, Debug, PartialEq, Eq)]
+pub struct Sizes {
+    /// Words of a block: 16 to 512, a multiple of 4.
+    pub block_words: u64,
+    /// Blocks in all: 1 to 65,535.
+    pub blocks: u64,
+    /// Today 1.
+    pub mutators: u64,
+    /// Nursery blocks of a mutator: 1 to 64.
+    pub nursery_blocks: u64,
+    /// Today 1.
+    pub generations: u64,
+    /// Steps of each generation but the oldest: 1 to 4.
+    pub steps: u64,
+}
+
+/// A size is out of its range.
+#[derive(Clone, Copy, Debug, PartialEq, Eq)]
+pub struct BadConfig;
+
+/// Sizes of a heap, each in its range.
+#[derive(Clone, Copy, Debug, PartialEq, Eq)]
+pub struct Config {
+    block_words: usize,
+    blocks: usize,
+    mutators: usize,
+    nursery_blocks: usize,
+    generations: usize,
+    steps: usize,
+}
+
+impl Model for Config {
+    ghost use Rattle.model.specs.Config.{Config as Shown, config_code};
+
+    ghost Value = { Shown };
+
+    ghost coded = { config_code };
+
+    ghost use Rattle.steps.specs.ConfigView.{view_of, fields_of};
+    ghost use Rattle.steps.specs.ConfigRange.{IsInRange};
+
+    ghost view = { view_of };
+
+    ghost invariant = { λ c. IsInRange (view_of c) };
+
+    ghost inverse = { fields_of };
+}
+
+impl Config {
+    /// Sizes in range: blocks of 16 to 512 words, a multiple of 4; 1 to 65,535 blocks; 1 to 64 nursery blocks; 1 to 4
+    /// steps; today one mutator and one generation.
+    pub fn new(sizes: Sizes) -> Result<Config, BadConfig>
+        ensures ok { IfOk result (λ config. config ≡ sizes_of sizes) }
+        ensures in_range { IsOk result ↔ IsInRange (sizes_of sizes) }
+    {
+        let words = sizes.block_words;
+        if words < 16 || words > 512 || words % 4 != 0 {
+            return Err(BadConfig);
+        }
+        if sizes.blocks < 1 || sizes.blocks > 65535 || sizes.mutators != 1 {
+            return Err(BadConfig);
+        }
+        if sizes.nursery_blocks < 1 || sizes.nursery_blocks > 64 || sizes.generations != 1 {
+            return Err(BadConfig);
+        }
+        if sizes.steps < 1 || sizes.steps > 4 {
+            return Err(BadConfig);
+        }
+        Ok(Config {
+            block_words: words as usize,
+            blocks: sizes.blocks as usize,
+            mutators: sizes.mutators as usize,
+            nursery_blocks: sizes.nursery_blocks as usize,
+            generations: sizes.generations as usize,
+            steps: sizes.steps as usize,
+        })
+    }
+
+    /// Words of a block: 16 to 512, a multiple of 4.
+    pub fn block_words(&self) -> usize
+        ensures value { result ≡ self.now.block_words }
+        ensures in_range { IsInRange self.now }
+    {
+        self.block_words
+    }
+
+    /// Blocks in all: 1 to 65,535.
+    pub fn blocks(&self) -> usize
+        ensures value { result ≡ self.now.blocks }
+        ensures in_range { IsInRange self.now }
+    {
+        self.blocks
+    }
+
+    pub fn mutators(&self) -> usize
+        ensures value { result ≡ self.now.mutators }
+        ensures in_range { IsInRange self.now }
+    {
+        self.mutators
+    }
+
+    /// Nursery blocks of each mutator: 1 to 64.
+    pub fn nursery_blocks(&self) -> usize
+        ensures value { result ≡ self.now.nursery_blocks }
+        ensures in_range { IsInRange self.now }
+    {
+        self.nursery_blocks
+    }
+
+    pub fn generations(&self) -> usize
+        ensures value { result ≡ self.now.shape.generations }
+        ensures in_range { IsInRange self.now }
+    {
+        self.generations
+    }
+
+    /// Steps of each generation but the oldest, which has one.
+    pub fn steps(&self) -> usize
+        ensures value { result ≡ self.now.shape.steps }
+        ensures in_range { IsInRange self.now }
+    {
+        self.steps
+    }
+}

@@ -1,0 +1,6 @@
+/// A generation and one of its steps.
+#[derive(Clone, Copy, Debug, PartialEq, Eq)]
+pub struct StepId {
+    pub generation: u8,
+    pub step: u8,
+}
