@@ -18,7 +18,7 @@ use Rattle.cells.specs.Learned.{Learns}
 use Rattle.cells.specs.Settled.{Pairs, wins_of, ones}
 use Rattle.box_cells.specs.Noted.{NotedValue, IsSound, IsPassOf, IsApart, bid_at, bid_of, place_of, new_pass, new_passes}
 use Rattle.box_cells.specs.Boxed.{note_cell, note_known, names_of, IsNoted}
-use Rattle.cells.proofs.PairLemmas.{times-append}
+use Rattle.views.proofs.Times.{times-append}
 use Rattle.cells.proofs.Wins.{wins-one, wins-other, sum_wins, sum_lt, sum_of_ones}
 
 abbrev Cells : Type 0

@@ -9,11 +9,12 @@ use mathlib.Core.Logic.{dite}
 use native.Mathlib.Decide.{ℕ_discrete, dec_le}
 use Rattle.layout.specs.declared.place.Place.{Place}
 use Rattle.box_cells.specs.declared.bid.Bid.{Bid}
-use Rattle.cells.specs.Settled.{Pairs, times, wins_of, ones, all_pairs, Agree, IsSettled}
+use Rattle.cells.specs.Settled.{Pairs, wins_of, ones, all_pairs, Agree, IsSettled}
+use Rattle.views.specs.Total.{times}
 use Rattle.box_cells.specs.BoxSettled.{AllWon}
 use Rattle.box_cells.specs.Noted.{NotedValue, IsSound, IsApart, bid_at, bid_of, place_of, known_at, won_by}
 use Rattle.box_cells.specs.Gathered.{IsCovered, IsGathered, win_count}
-use Rattle.cells.proofs.PairLemmas.{times-append}
+use Rattle.views.proofs.Times.{times-append}
 use Rattle.cells.proofs.Wins.{sum_names, sum_zero, sum_wins, sum_le, sum_same, sum_first}
 use Rattle.box_cells.proofs.Noting.{place_lasts, ones_most}
 

@@ -4,7 +4,7 @@ use Rattle.std.specs.List.{AllPairs}
 use Rattle.std.proofs.lemmas.List.Elements.{All-head, All-tail}
 use mathlib.Core.Logic.{dite}
 use native.Mathlib.Decide.{ℕ_discrete}
-use Rattle.cells.specs.Settled.{times}
+use Rattle.views.specs.Total.{times}
 
 module _ {X : Type 0} (number : X → ℕ) where
   times-here : (n : ℕ) (x : X) (xs : List X) → number x ≡ n → times number n (x ∷ xs) ≡ 1 + times number n xs

@@ -6,12 +6,10 @@ use mathlib.Core.Logic.{dite}
 use native.Mathlib.Decide.{ℕ_discrete}
 use Rattle.layout.specs.declared.place.Place.{Place}
 use Rattle.cells.specs.Learned.{Learns}
-use Rattle.cells.specs.Settled.{Pairs, times, wins_of}
+use Rattle.views.specs.Total.{times}
+use Rattle.views.proofs.Times.{times-append}
+use Rattle.cells.specs.Settled.{Pairs, wins_of}
 use Rattle.cells.specs.Known.{known_in, Lasts}
-
-pub times-append : {X : Type 0} (number : X → ℕ) (n : ℕ) (xs ys : List X) → times number n (xs ++ ys) ≡ times number n xs + times number n ys
-times-append number n [] ys = omega arith
-times-append number n (x ∷ xs) ys = let r = times-append number n xs ys in omega arith
 
 pub wins_of-append : (name : ℕ) (xs ys : Pairs) → wins_of name (xs ++ ys) ≡ wins_of name xs + wins_of name ys
 wins_of-append name xs ys = times-append (λ (x : ℕ × Place). x.0) name xs ys

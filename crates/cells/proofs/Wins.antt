@@ -4,8 +4,9 @@ use Rattle.std.proofs.lemmas.List.Elements.{All-head, All-tail}
 use mathlib.Core.Logic.{dite}
 use native.Mathlib.Decide.{ℕ_discrete, dec_le}
 use Rattle.layout.specs.declared.place.Place.{Place}
-use Rattle.cells.specs.Settled.{Pairs, times, wins_of}
-use Rattle.cells.proofs.PairLemmas.{times-append}
+use Rattle.cells.specs.Settled.{Pairs, wins_of}
+use Rattle.views.specs.Total.{times}
+use Rattle.views.proofs.Times.{times-append}
 
 pub wins-one : (name : ℕ) (place : Place) → wins_of name ((name, place) ∷ []) ≡ 1
 wins-one name place = rw (eq-eqb name name refl) refl

@@ -1,15 +1,11 @@
 -- What settling answers: the place of each name that was won.
 use Rattle.std.specs.Prelude.{◌≡◌, ◌≤◌, ℕ, ◌+◌, ◌==◌, if◌then◌else◌, List, [], ◌∷◌, All, flat_map, Option, Some, None}
 use Rattle.layout.specs.declared.place.Place.{Place}
+use Rattle.views.specs.Total.{times}
 
 -- names with their places
 abbrev pub Pairs : Type 0
 Pairs = List (ℕ × Place)
-
--- how many elements of the list have that number
-abbrev pub times : {X : Type 0} → (X → ℕ) → ℕ → List X → ℕ
-times number n [] = 0
-times number n (x ∷ xs) = (if number x == n then 1 else 0) + times number n xs
 
 -- how many of the pairs have the name
 abbrev pub wins_of : ℕ → Pairs → ℕ

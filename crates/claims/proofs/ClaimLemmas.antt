@@ -15,7 +15,7 @@ use mathlib.Core.Logic.{dite}
 use native.Mathlib.Decide.{ℕ_discrete}
 use Rattle.atomic_table.specs.Seated.{TableId}
 use Rattle.views.specs.Total.{one_if}
-use Rattle.claims.specs.Drawn.{times}
+use Rattle.claims.specs.Drawn.{times_in}
 use Rattle.claims.specs.ClaimsValue.{Source, SeatValue, IsSeatOf, all_drawn, any_out}
 use Rattle.claims.proofs.DrawLemmas.{times-take, IsEnd}
 use Rattle.claims.specs.declared.claim_plays.Share.{Share}
@@ -80,38 +80,38 @@ counts_none : (y x : ℕ) → y ≢ x → (if y == x then one else 0) ≡ 0
 counts_none y x ne = ap (λ (b : Bool). if b then one else 0) (ne_eqb y x ne)
 
 -- a number that stands in a list
-pub Contains-times : (x : ℕ) (xs : List ℕ) → 0 < times x xs → Contains xs x
+pub Contains-times : (x : ℕ) (xs : List ℕ) → 0 < times_in x xs → Contains xs x
 Contains-times x [] h = absurd (omega arith)
 Contains-times x (y ∷ ys) h = dite (ℕ_discrete y x)
     (λ is. subst (λ (n : ℕ). Contains (y ∷ ys) n) is (Contains-first y ys))
     (λ ne. Contains-later y x ys (Contains-times x ys (let e = counts_none y x ne in omega arith)))
 
-pub times-Contains : (x : ℕ) (xs : List ℕ) → Contains xs x → 0 < times x xs
+pub times-Contains : (x : ℕ) (xs : List ℕ) → Contains xs x → 0 < times_in x xs
 times-Contains x [] (k, h, e) = absurd (omega arith)
 times-Contains x (y ∷ ys) c = ⊎_elim
     (λ (is : y ≡ x). let e = counts y x is in omega arith)
     (λ (later : Contains ys x). let r = times-Contains x ys later in omega arith) (Contains-cons_cases y x ys c)
 
 -- no number stands twice in a list exactly where each stands in it once at most
-times-none : (k : ℕ) (ks : List ℕ) → AllByRecursion (λ y. nat_eq k y ≡ false) ks → times k ks ≡ 0
+times-none : (k : ℕ) (ks : List ℕ) → AllByRecursion (λ y. nat_eq k y ≡ false) ks → times_in k ks ≡ 0
 times-none k [] h = refl
 times-none k (y ∷ ys) h = let r = times-none k ys h.1 in let e = counts_none y k (λ is. eqb-false k y h.0 (sym is)) in omega arith
 
-none-times : (k : ℕ) (ks : List ℕ) → times k ks ≡ 0 → AllByRecursion (λ y. nat_eq k y ≡ false) ks
+none-times : (k : ℕ) (ks : List ℕ) → times_in k ks ≡ 0 → AllByRecursion (λ y. nat_eq k y ≡ false) ks
 none-times k [] h = tt
 none-times k (y ∷ ys) h = (ne_eqb k y (λ is. let e = counts y k (sym is) in absurd (omega arith)), none-times k ys (omega arith))
 
-pub times-distinct : (ks : List ℕ) → IsDistinct nat_eq ks → (x : ℕ) → times x ks ≤ 1
+pub times-distinct : (ks : List ℕ) → IsDistinct nat_eq ks → (x : ℕ) → times_in x ks ≤ 1
 times-distinct [] h x = omega arith
 times-distinct (y ∷ ys) h x = let r = times-distinct ys (IsDistinct-tail nat_eq y ys h) x in dite (ℕ_discrete y x)
-    (λ is. let none = times-none y ys (IsDistinct-head nat_eq y ys h) in let e = counts y x is in let z : times x ys ≡ times y ys = ap (λ (n : ℕ). times n ys) (sym is) in omega arith)
+    (λ is. let none = times-none y ys (IsDistinct-head nat_eq y ys h) in let e = counts y x is in let z : times_in x ys ≡ times_in y ys = ap (λ (n : ℕ). times_in n ys) (sym is) in omega arith)
     (λ ne. let e = counts_none y x ne in omega arith)
 
 pub IsDistinct-nil : IsDistinct nat_eq []
 unfolding IsDistinct
 IsDistinct-nil = tt
 
-pub distinct-times : (ks : List ℕ) → ((x : ℕ) → times x ks ≤ 1) → IsDistinct nat_eq ks
+pub distinct-times : (ks : List ℕ) → ((x : ℕ) → times_in x ks ≤ 1) → IsDistinct nat_eq ks
 distinct-times [] h = IsDistinct-nil
 distinct-times (y ∷ ys) h = IsDistinct-cons nat_eq y ys
     (none-times y ys (let one = h y in let e = counts y y refl in omega arith))
@@ -124,7 +124,7 @@ IsDistinct-none seats none = subst (λ (all : List SeatValue). IsDistinct nat_eq
 -- what the seats drew, as those know who gathered it
 pub record IsClosed (free : List ℕ) (k : ℕ) (seats : List SeatValue) : Type 0 where
   pub count : length (all_drawn seats) ≡ k
-  pub first : (x : ℕ) → times x (all_drawn seats) ≡ times x (take k free)
+  pub first : (x : ℕ) → times_in x (all_drawn seats) ≡ times_in x (take k free)
   pub once : IsDistinct nat_eq (all_drawn seats)
   pub members : All (Contains free) (all_drawn seats)
   pub used_up : any_out seats ≡ true → k ≡ length free
@@ -135,7 +135,7 @@ closed free known k word v seats all is_free distinct known_end is_all drawn_all
     let drawn : v.drawn ≡ all_drawn seats = drawn_all ∙ ap all_drawn (sym is_all) in
     let outs : any_out seats ≡ true → 0 < v.outs = λ some_out. outs_all (ap any_out (sym is_all) ∙ some_out) in
     let same : length v.drawn ≡ k = sym e.read ∙ sym is in
-    let first : (x : ℕ) → times x (all_drawn seats) ≡ times x (take k free) = λ x. ap (times x) (sym drawn) ∙ (e.once x ∙ ap (λ (n : ℕ). times x (take n free)) same) in
+    let first : (x : ℕ) → times_in x (all_drawn seats) ≡ times_in x (take k free) = λ x. ap (times_in x) (sym drawn) ∙ (e.once x ∙ ap (λ (n : ℕ). times_in x (take n free)) same) in
     record {
       count = ap length (sym drawn) ∙ same;
       first = first;
@@ -146,7 +146,7 @@ closed free known k word v seats all is_free distinct known_end is_all drawn_all
     }
 
 -- what a draw reads was not drawn before, where the counter tells so
-pub fresh_read : (mine free drawn : List ℕ) (at : ℕ) (read : Option (Bor ℕ)) (found : Option ℕ) → mine ≡ free → found ≡ option_copied read → MatchOption read (length free ≤ at) (λ x. (at < length free) × HoldsAt (λ y. x.now ≡ y) free at) → (at < length mine → times (get_or mine at 0) drawn ≡ 0)
+pub fresh_read : (mine free drawn : List ℕ) (at : ℕ) (read : Option (Bor ℕ)) (found : Option ℕ) → mine ≡ free → found ≡ option_copied read → MatchOption read (length free ≤ at) (λ x. (at < length free) × HoldsAt (λ y. x.now ≡ y) free at) → (at < length mine → times_in (get_or mine at 0) drawn ≡ 0)
     → IfSome found (λ n. ¬ Contains drawn n)
 fresh_read mine free drawn at None found same is held fresh = subst (λ (o : Option ℕ). IfSome o (λ n. ¬ Contains drawn n)) (sym is) tt
 fresh_read mine free drawn at (Some x) found same is held fresh = subst (λ (o : Option ℕ). IfSome o (λ n. ¬ Contains drawn n)) (sym is) (λ c.
@@ -155,7 +155,7 @@ fresh_read mine free drawn at (Some x) found same is held fresh = subst (λ (o :
     let reads : x.now ≡ get_or mine at 0 = held.1 0 ∙ ap (λ (ns : List ℕ). get_or ns at 0) (sym same) in
     let here = times-Contains x.now drawn c in
     let none = fresh (omega arith) in
-    let e : times x.now drawn ≡ times (get_or mine at 0) drawn = ap (λ (m : ℕ). times m drawn) reads in
+    let e : times_in x.now drawn ≡ times_in (get_or mine at 0) drawn = ap (λ (m : ℕ). times_in m drawn) reads in
     absurd (omega arith))
 
 -- numbers that rise

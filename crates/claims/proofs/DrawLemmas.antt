@@ -9,9 +9,10 @@ use lib.ListN.{get_elem?}
 use Rattle.atomic_table.specs.Table.{State, Me, step, keeps, stepped, Seen, Allows, Splits, Joins}
 use Rattle.atomic_table.proofs.Lists.{at_set, at_snoc}
 use Rattle.views.specs.Total.{total}
+use Rattle.views.proofs.Times.{times-append}
 use Rattle.views.proofs.Totals.{total-set, total-same, total-snoc, total-at, total-whole, total-below}
 use Rattle.claims.specs.declared.claim_plays.Share.{Share}
-use Rattle.claims.specs.Drawn.{share, times, drawn_in, outs_in, IsSound, IsKept, newcomer, dealt, both, spent, after_draw, Drew}
+use Rattle.claims.specs.Drawn.{share, times_in, drawn_in, outs_in, IsSound, IsKept, newcomer, dealt, both, spent, after_draw, Drew}
 
 abbrev St : Type 0
 St = State (Unit {0}) Share
@@ -19,22 +20,18 @@ St = State (Unit {0}) Share
 abbrev Sat : Type 0
 Sat = Me (Unit {0}) Share
 
-pub times-append : (x : ℕ) (xs ys : List ℕ) → times x (xs ++ ys) ≡ times x xs + times x ys
-times-append x [] ys = omega arith
-times-append x (y ∷ xs) ys = let r = times-append x xs ys in omega arith
+pub times-take : (x k : ℕ) (xs : List ℕ) → times_in x (take k xs) ≤ times_in x xs
+times-take x k xs = let parts : times_in x (take k xs) + times_in x (drop k xs) ≡ times_in x xs = sym (times-append (λ k. k) x (take k xs) (drop k xs)) ∙ ap (times_in x) (take-append-drop k xs) in omega arith
 
-pub times-take : (x k : ℕ) (xs : List ℕ) → times x (take k xs) ≤ times x xs
-times-take x k xs = let parts : times x (take k xs) + times x (drop k xs) ≡ times x xs = sym (times-append x (take k xs) (drop k xs)) ∙ ap (times x) (take-append-drop k xs) in omega arith
-
-times-self : (x : ℕ) → times x (x ∷ []) ≡ 1
+times-self : (x : ℕ) → times_in x (x ∷ []) ≡ 1
 times-self x = rw (eq-eqb x x refl) (omega arith)
 
 outs_few : (free : List ℕ) (seats : ℕ) (s : St) → IsKept free seats s → outs_in s.views ≤ seats
 outs_few free seats s r = let h = total-below (λ (v : Share). v.outs) (λ (v : Share). v.parts) s.views (λ i v at. (r.sound i v at).outs) in let w = r.whole in omega arith
 
 -- one more of the free list
-taken_more : (x : ℕ) (free : List ℕ) (n : ℕ) → n < length free → times x (take (n + 1) free) ≡ times x (take n free) + times x (get_or free n 0 ∷ [])
-taken_more x free n low = ap (times x) (take_more free n 0 low) ∙ times-append x (take n free) (get_or free n 0 ∷ [])
+taken_more : (x : ℕ) (free : List ℕ) (n : ℕ) → n < length free → times_in x (take (n + 1) free) ≡ times_in x (take n free) + times_in x (get_or free n 0 ∷ [])
+taken_more x free n low = ap (times_in x) (take_more free n 0 low) ∙ times-append (λ k. k) x (take n free) (get_or free n 0 ∷ [])
 
 -- the seat drew the number at the place found
 takes_next : (free : List ℕ) (seats : ℕ) (s : St) (id : ℕ) (me : Sat) → IsKept free seats s → get_elem? s.views id ≡ some me.0 → me.0.free ≡ free → me.0.parts ≡ 1 → me.0.outs ≡ 0 → get_or s.words 0 0 < length free
@@ -59,13 +56,13 @@ takes_next free seats s id me r at same part in_play low =
       few = omega arith;
       used_up = λ some_out. absurd (omega arith);
       once = λ y.
-          let t = total-set (λ (u : Share). times y u.drawn) s.views id v w at in
-          let a = times-append y v.drawn (number ∷ []) in
+          let t = total-set (λ (u : Share). times_in y u.drawn) s.views id v w at in
+          let a = times-append (λ k. k) y v.drawn (number ∷ []) in
           let was = r.once y in
-          let next : times y (take (drawn_in s.views + 1) free) ≡ times y (take (drawn_in s.views) free) + times y (number ∷ []) =
-          taken_more y free (drawn_in s.views) (omega arith) ∙ ap (λ (n : ℕ). times y (take (drawn_in s.views) free) + times y (n ∷ [])) (ap (λ (n : ℕ). get_or free n 0) (sym counted) ∙ ap (λ (ns : List ℕ). get_or ns x 0) (sym same)) in
-          let sum : total (λ (u : Share). times y u.drawn) (set s.views id w) ≡ times y (take (drawn_in s.views) free) + times y (number ∷ []) = omega arith in
-          sum ∙ (sym next ∙ ap (λ (n : ℕ). times y (take n free)) (sym more));
+          let next : times_in y (take (drawn_in s.views + 1) free) ≡ times_in y (take (drawn_in s.views) free) + times_in y (number ∷ []) =
+          taken_more y free (drawn_in s.views) (omega arith) ∙ ap (λ (n : ℕ). times_in y (take (drawn_in s.views) free) + times_in y (n ∷ [])) (ap (λ (n : ℕ). get_or free n 0) (sym counted) ∙ ap (λ (ns : List ℕ). get_or ns x 0) (sym same)) in
+          let sum : total (λ (u : Share). times_in y u.drawn) (set s.views id w) ≡ times_in y (take (drawn_in s.views) free) + times_in y (number ∷ []) = omega arith in
+          sum ∙ (sym next ∙ ap (λ (n : ℕ). times_in y (take n free)) (sym more));
     }
 
 -- the seat found none left
@@ -89,17 +86,17 @@ takes_none free seats s id me r at part in_play high =
       counter = (let there = get_or-set_same s.words 0 (x + 1) 0 (omega arith) in let c = r.counter in omega arith);
       few = omega arith;
       used_up = λ _. same ∙ all_drawn;
-      once = λ y. total-same (λ (u : Share). times y u.drawn) s.views id v w at refl ∙ (r.once y ∙ ap (λ (n : ℕ). times y (take n free)) (sym same));
+      once = λ y. total-same (λ (u : Share). times_in y u.drawn) s.views id v w at refl ∙ (r.once y ∙ ap (λ (n : ℕ). times_in y (take n free)) (sym same));
     }
 
 -- no draw has given the number that is next
-fresh_next : (free : List ℕ) (seats : ℕ) (s : St) (id : ℕ) (v : Share) → IsKept free seats s → ((x : ℕ) → times x free ≤ 1) → get_elem? s.views id ≡ some v → get_or s.words 0 0 < length free → times (get_or free (get_or s.words 0 0) 0) v.drawn ≡ 0
+fresh_next : (free : List ℕ) (seats : ℕ) (s : St) (id : ℕ) (v : Share) → IsKept free seats s → ((x : ℕ) → times_in x free ≤ 1) → get_elem? s.views id ≡ some v → get_or s.words 0 0 < length free → times_in (get_or free (get_or s.words 0 0) 0) v.drawn ≡ 0
 fresh_next free seats s id v r distinct at low =
     let x : ℕ = get_or s.words 0 0 in
     let number : ℕ = get_or free x 0 in
     let counted : drawn_in s.views ≡ x = dite (ℕ_discrete (outs_in s.views) 0) (λ e. let c = r.counter in omega arith) (λ some_out. let u = r.used_up (omega arith) in let c = r.counter in absurd (omega arith)) in
-    let mine = total-at (λ (u : Share). times number u.drawn) s.views id v at in
-    let before : total (λ (u : Share). times number u.drawn) s.views ≡ times number (take x free) = r.once number ∙ ap (λ (n : ℕ). times number (take n free)) counted in
+    let mine = total-at (λ (u : Share). times_in number u.drawn) s.views id v at in
+    let before : total (λ (u : Share). times_in number u.drawn) s.views ≡ times_in number (take x free) = r.once number ∙ ap (λ (n : ℕ). times_in number (take n free)) counted in
     let more = taken_more number free x low in
     let itself = times-self number in
     let once = distinct number in
@@ -120,7 +117,7 @@ few_more free seats s id v r same at false high =
     let e = ap length same in
     omega arith
 
-pub draws : (free : List ℕ) (seats slots id : ℕ) (me : Sat) → me.0.free ≡ free → me.0.parts ≡ 1 → me.0.outs ≡ 0 → length free + seats < 2 ^ 63 → ((x : ℕ) → times x free ≤ 1)
+pub draws : (free : List ℕ) (seats slots id : ℕ) (me : Sat) → me.0.free ≡ free → me.0.parts ≡ 1 → me.0.outs ≡ 0 → length free + seats < 2 ^ 63 → ((x : ℕ) → times_in x free ≤ 1)
     → Allows (IsKept free seats) slots id me 0 (λ n. (n + 1) % 2 ^ 64) (Drew (step slots 0 1 0 none) me)
 draws free seats slots id me same part in_play small distinct s r _ at _ =
     let x : ℕ = get_or s.words 0 0 in
@@ -138,13 +135,13 @@ draws free seats slots id me same part in_play small distinct s r _ at _ =
       record {
         after = refl;
         few = few_more free seats s id me.0 r same at (nat_lt x (length me.0.free)) refl;
-        fresh = λ low. subst (λ (ns : List ℕ). times (get_or ns x 0) me.0.drawn ≡ 0) (sym same) (fresh_next free seats s id me.0 r distinct at (omega arith));
+        fresh = λ low. subst (λ (ns : List ℕ). times_in (get_or ns x 0) me.0.drawn ≡ 0) (sym same) (fresh_next free seats s id me.0 r distinct at (omega arith));
       },
     )
 
 -- a change of views that keeps each sum
 sums : (free : List ℕ) (seats : ℕ) (s : St) (vs : List Share) → IsKept free seats s → total (λ (u : Share). u.parts) vs ≡ total (λ (u : Share). u.parts) s.views → drawn_in vs ≡ drawn_in s.views → outs_in vs ≡ outs_in s.views
-    → ((x : ℕ) → total (λ (u : Share). times x u.drawn) vs ≡ total (λ (u : Share). times x u.drawn) s.views) → ((i : ℕ) (v : Share) → get_elem? vs i ≡ some v → IsSound v)
+    → ((x : ℕ) → total (λ (u : Share). times_in x u.drawn) vs ≡ total (λ (u : Share). times_in x u.drawn) s.views) → ((i : ℕ) (v : Share) → get_elem? vs i ≡ some v → IsSound v)
     → IsKept free seats (record { words = s.words; homes = s.homes; views = vs })
 sums free seats s vs r parts drawn outs same sound = record {
   wide = r.wide;
@@ -153,7 +150,7 @@ sums free seats s vs r parts drawn outs same sound = record {
   counter = (let c = r.counter in omega arith);
   few = (let f = r.few in omega arith);
   used_up = λ some_out. drawn ∙ r.used_up (omega arith);
-  once = λ x. same x ∙ (r.once x ∙ ap (λ (n : ℕ). times x (take n free)) (sym drawn));
+  once = λ x. same x ∙ (r.once x ∙ ap (λ (n : ℕ). times_in x (take n free)) (sym drawn));
 }
 
 pub deals : (free : List ℕ) (seats id : ℕ) (v : Share) → 0 < v.parts → v.drawn ≡ [] → v.outs ≡ 0 → Splits (IsKept free seats) id v (dealt v) (newcomer v)
@@ -164,7 +161,7 @@ deals free seats id v more nothing in_play s r at =
     (let a = total-snoc (λ (u : Share). u.parts) vs (newcomer v) in let b = total-set (λ (u : Share). u.parts) s.views id v (dealt v) at in omega arith)
     (let a = total-snoc (λ (u : Share). length u.drawn) vs (newcomer v) in let b = total-set (λ (u : Share). length u.drawn) s.views id v (dealt v) at in omega arith)
     (let a = total-snoc (λ (u : Share). u.outs) vs (newcomer v) in let b = total-set (λ (u : Share). u.outs) s.views id v (dealt v) at in omega arith)
-    (λ x. let a = total-snoc (λ (u : Share). times x u.drawn) vs (newcomer v) in let b = total-set (λ (u : Share). times x u.drawn) s.views id v (dealt v) at in omega arith)
+    (λ x. let a = total-snoc (λ (u : Share). times_in x u.drawn) vs (newcomer v) in let b = total-set (λ (u : Share). times_in x u.drawn) s.views id v (dealt v) at in omega arith)
     (λ i u e. ⊎_elim
     (λ (t : get_elem? vs i ≡ some u). ⊎_elim (λ (y : (i ≡ id) × (dealt v ≡ u)). subst (λ (z : Share). IsSound z) y.1 (record { drawn = λ z. nothing; outs = omega arith })) (λ (y : (i ≢ id) × (get_elem? s.views i ≡ some u)). r.sound i u y.1) (at_set s.views id i (dealt v) u t))
     (λ (t : newcomer v ≡ u). subst (λ (z : Share). IsSound z) t (record { drawn = λ _. refl; outs = omega arith })) (at_snoc vs (newcomer v) u i e))
@@ -179,7 +176,7 @@ gathers free seats id v other w part s r at apart at' =
     (let a = total-set (λ (u : Share). u.parts) s.views id v (both v w) at in let b = total-set (λ (u : Share). u.parts) vs other w spent at' in omega arith)
     (let a = total-set (λ (u : Share). length u.drawn) s.views id v (both v w) at in let b = total-set (λ (u : Share). length u.drawn) vs other w spent at' in let n : length (w.drawn ++ v.drawn) ≡ length w.drawn + length v.drawn = length-append w.drawn v.drawn in omega arith)
     (let a = total-set (λ (u : Share). u.outs) s.views id v (both v w) at in let b = total-set (λ (u : Share). u.outs) vs other w spent at' in omega arith)
-    (λ x. let a = total-set (λ (u : Share). times x u.drawn) s.views id v (both v w) at in let b = total-set (λ (u : Share). times x u.drawn) vs other w spent at' in let n = times-append x w.drawn v.drawn in omega arith)
+    (λ x. let a = total-set (λ (u : Share). times_in x u.drawn) s.views id v (both v w) at in let b = total-set (λ (u : Share). times_in x u.drawn) vs other w spent at' in let n = times-append (λ k. k) x w.drawn v.drawn in omega arith)
     (λ i u e. ⊎_elim (λ (y : (i ≡ other) × (spent ≡ u)). subst (λ (z : Share). IsSound z) y.1 (record { drawn = λ _. refl; outs = omega arith }))
     (λ (y : (i ≢ other) × (get_elem? vs i ≡ some u)). ⊎_elim (λ (x : (i ≡ id) × (both v w ≡ u)). subst (λ (z : Share). IsSound z) x.1 (record { drawn = λ z. absurd (omega arith); outs = (let a = mine.outs in let b = theirs.outs in omega arith) })) (λ (x : (i ≢ id) × (get_elem? s.views i ≡ some u)). r.sound i u x.1) (at_set s.views id i (both v w) u y.1))
     (at_set vs other i spent u e))
@@ -187,7 +184,7 @@ gathers free seats id v other w part s r at apart at' =
 -- what who has every part knows of the end, where k numbers were drawn
 pub record IsEnd (free : List ℕ) (k word : ℕ) (v : Share) : Type 0 where
   pub most : k ≤ length free
-  pub once : (x : ℕ) → times x v.drawn ≡ times x (take k free)
+  pub once : (x : ℕ) → times_in x v.drawn ≡ times_in x (take k free)
   pub all : 0 < v.outs → k ≡ length free
   pub read : min word (length free) ≡ k
 
@@ -200,7 +197,7 @@ ends free seats s id v r at parts =
     let f = r.few in
     record {
       most = omega arith;
-      once = λ x. sym (total-whole (λ (u : Share). u.parts) (λ (u : Share). times x u.drawn) s.views (λ i u e z. ap (times x) ((r.sound i u e).drawn z)) id v at whole) ∙ (r.once x ∙ ap (λ (n : ℕ). times x (take n free)) drawn);
+      once = λ x. sym (total-whole (λ (u : Share). u.parts) (λ (u : Share). times_in x u.drawn) s.views (λ i u e z. ap (times_in x) ((r.sound i u e).drawn z)) id v at whole) ∙ (r.once x ∙ ap (λ (n : ℕ). times_in x (take n free)) drawn);
       all = λ some_out. sym drawn ∙ r.used_up (omega arith);
       read = dite (ℕ_discrete (outs_in s.views) 0) (λ e. omega arith) (λ some_out. let u = r.used_up (omega arith) in omega arith);
     }

@@ -3,16 +3,15 @@ use Rattle.std.specs.Prelude.{◌≡◌, ℕ, ◌+◌, ◌-◌, ◌<◌, ◌≤�
 use mathlib.Core.Option.{some}
 use lib.ListN.{get_elem?}
 use Rattle.atomic_table.specs.Table.{State, Me, Step}
-use Rattle.views.specs.Total.{total}
+use Rattle.views.specs.Total.{times, total}
 use Rattle.claims.specs.declared.claim_plays.Share.{Share}
 
 abbrev pub share : List ℕ → ℕ → List ℕ → ℕ → Share
 share free parts drawn outs = record { free = free; parts = parts; drawn = drawn; outs = outs }
 
 -- how often a number stands in a list
-abbrev pub times : ℕ → List ℕ → ℕ
-times x [] = 0
-times x (y ∷ ys) = (if y == x then 1 else 0) + times x ys
+abbrev pub times_in : ℕ → List ℕ → ℕ
+times_in x xs = times (λ k. k) x xs
 
 -- how many numbers were drawn
 abbrev pub drawn_in : List Share → ℕ
@@ -35,7 +34,7 @@ pub record IsKept (free : List ℕ) (seats : ℕ) (s : State (Unit {0}) Share) :
   pub counter : slice_index s.words 0 ≡ drawn_in s.views + outs_in s.views
   pub few : drawn_in s.views ≤ length free
   pub used_up : 0 < outs_in s.views → drawn_in s.views ≡ length free
-  pub once : (x : ℕ) → total (λ (v : Share). times x v.drawn) s.views ≡ times x (take (drawn_in s.views) free)
+  pub once : (x : ℕ) → total (λ (v : Share). times_in x v.drawn) s.views ≡ times_in x (take (drawn_in s.views) free)
 
 -- a seat with one part
 abbrev pub newcomer : Share → Share
@@ -60,4 +59,4 @@ after_draw v found false = share v.free v.parts v.drawn (v.outs + 1)
 pub record Drew (st : Step (Unit {0})) (m : Me (Unit {0}) Share) (found : ℕ) (m' : Me (Unit {0}) Share) : Type 0 where
   pub after : m' ≡ (after_draw m.0 found (nat_lt found (length m.0.free)), m.1)
   pub few : length m'.0.drawn ≤ length m.0.free
-  pub fresh : found < length m.0.free → times (slice_index_or m.0.free found 0) m.0.drawn ≡ 0
+  pub fresh : found < length m.0.free → times_in (slice_index_or m.0.free found 0) m.0.drawn ≡ 0

@@ -3,7 +3,7 @@ ghost use Rattle.std.specs.Prelude.{◌≡◌, ◌<◌, ◌≤◌, ◌^◌, ◌+
 ghost use Rattle.std.specs.List.{All, Contains, IsDistinct};
 ghost use Rattle.std.specs.Option.{MatchOption};
 ghost use Rattle.views.specs.Total.{one_if};
-ghost use Rattle.claims.specs.Drawn.{share, times};
+ghost use Rattle.claims.specs.Drawn.{share, times_in};
 ghost use Rattle.claims.specs.ClaimsValue.{Source, unused, IsSeatOf, all_drawn, any_out};
 
 use crate::claim_plays::{Deal, Draw, Gather, Plan, Rule, Share};
@@ -154,7 +154,7 @@ impl<A: Allocator> Claims<A> {
         // They are that many numbers of the free list, from the first on.
         ensures count { length (all_drawn seats.items) ≡ result }
         ensures most { result ≤ length self.source.free }
-        ensures first { (x : ℕ) → times x (all_drawn seats.items) ≡ times x (take result self.source.free) }
+        ensures first { (x : ℕ) → times_in x (all_drawn seats.items) ≡ times_in x (take result self.source.free) }
 
         // So each was drawn by one seat, once.
         ensures once { IsDistinct nat_eq (all_drawn seats.items) }

@@ -1,4 +1,5 @@
 -- What keeps each pointer and root of a graph leading to an object.
+use Rattle.std.proofs.lemmas.Option.{same_Some}
 use Rattle.std.proofs.Common.{◌≡◌, ℕ, zero, suc, List, [], ◌∷◌, map, set, replicate, Option, Some, None, refl, sym, ap, subst, ◌∙◌, arith, ⊎_elim, inl, inr}
 use Rattle.std.proofs.lemmas.Bool.{cases_eq, cases_lt}
 use Rattle.std.specs.Prelude.{slice_get, option_and_then, unwrap_or, ◌⊎◌}
@@ -12,9 +13,6 @@ use Rattle.model.specs.Collected.{Collected, IsKept, renamed, moved_to}
 use Rattle.model.specs.Destination.{Shape, dest}
 use Rattle.model.proofs.LiveLemmas.{Live-young}
 use Rattle.model.proofs.NatMap.{get-insert_same, get-insert_other, get-remove_same, get-remove_other}
-
-some_is : {X : Type 0} {x y : X} → Some x ≡ Some y → x ≡ y
-some_is e = cc
 
 none_is_some : {X : Type 0} {x : X} → None ≡ Some x → ⊥
 none_is_some e = cc
@@ -57,7 +55,7 @@ closed-with_object graph name new closed leads = record {
       let f = has_field (with_object graph name new) at i target e in
       ⊎_elim
       (λ same.
-      let is : new ≡ f.object = some_is (sym (get-insert_same graph.objects name new) ∙ sym (ap (get (insert graph.objects name new)) same) ∙ f.there) in
+      let is : new ≡ f.object = same_Some _ _ (sym (get-insert_same graph.objects name new) ∙ sym (ap (get (insert graph.objects name new)) same) ∙ f.there) in
       still_there graph name new target (leads i target (ap (λ (o : Object). slice_get o.pointers i) is ∙ f.leads)))
       (λ ne.
       let was : object_at graph at ≡ Some f.object = sym (get-insert_other graph.objects name new at ne) ∙ f.there in
@@ -72,14 +70,14 @@ closed-with_root graph root name o closed there = record {
   fields = λ at i target e. closed.fields at i target e;
   roots = λ r target e.
       ⊎_elim
-      (λ same. let is : name ≡ target = some_is (sym (get-insert_same graph.roots root name) ∙ sym (ap (get (insert graph.roots root name)) same) ∙ e) in (o, ap (object_at graph) (sym is) ∙ there))
+      (λ same. let is : name ≡ target = same_Some _ _ (sym (get-insert_same graph.roots root name) ∙ sym (ap (get (insert graph.roots root name)) same) ∙ e) in (o, ap (object_at graph) (sym is) ∙ there))
       (λ ne. closed.roots r target (sym (get-insert_other graph.roots root name r ne) ∙ e))
       (cases_eq r root);
 }
 
 no_target : (p i target : ℕ) → slice_get (replicate p (let none : Option ℕ = None in none)) i ≡ Some (Some target) → ⊥
 no_target zero i target e = none_is_some e
-no_target (suc p) zero target e = none_is_some (some_is e)
+no_target (suc p) zero target e = none_is_some (same_Some _ _ e)
 no_target (suc p) (suc i) target e = no_target p i target e
 
 -- a new object and a root to it
@@ -102,7 +100,7 @@ closed-without_root graph root closed = record {
 -- what a list holds after a change at one place
 pub get-set_cases : {X : Type 0} (P : X → Type 0) (xs : List X) (i j : ℕ) (y x : X) → P y → ((z : X) → slice_get xs j ≡ Some z → P z) → slice_get (set xs i y) j ≡ Some x → P x
 get-set_cases P [] i j y x new old e = old x e
-get-set_cases P (z ∷ xs) zero zero y x new old e = subst P (some_is e) new
+get-set_cases P (z ∷ xs) zero zero y x new old e = subst P (same_Some _ _ e) new
 get-set_cases P (z ∷ xs) zero (suc j) y x new old e = old x e
 get-set_cases P (z ∷ xs) (suc i) zero y x new old e = old x e
 get-set_cases P (z ∷ xs) (suc i) (suc j) y x new old e = get-set_cases P xs i j y x new old e
@@ -129,13 +127,13 @@ record WasPointer (f : ℕ → ℕ) (ps : List (Option ℕ)) (i target : ℕ) : 
 
 was_pointer : (f : ℕ → ℕ) (ps : List (Option ℕ)) (i target : ℕ) → slice_get (map (option_map f) ps) i ≡ Some (Some target) → WasPointer f ps i target
 was_pointer f [] i target e = absurd (none_is_some e)
-was_pointer f (None ∷ ps) zero target e = absurd (none_is_some (some_is e))
-was_pointer f (Some t ∷ ps) zero target e = record { old = t; at = refl; is = some_is (some_is e) }
+was_pointer f (None ∷ ps) zero target e = absurd (none_is_some (same_Some _ _ e))
+was_pointer f (Some t ∷ ps) zero target e = record { old = t; at = refl; is = same_Some _ _ (same_Some _ _ e) }
 was_pointer f (p ∷ ps) (suc i) target e = let rest = was_pointer f ps i target e in record { old = rest.old; at = rest.at; is = rest.is }
 
 from_root : (f : ℕ → ℕ) (o : Option ℕ) (target : ℕ) → option_map f o ≡ Some target → (old : ℕ) × (o ≡ Some old) × (f old ≡ target)
 from_root f None target e = absurd (none_is_some e)
-from_root f (Some old) target e = (old, refl, some_is e)
+from_root f (Some old) target e = (old, refl, same_Some _ _ e)
 
 module _ (shape : Shape) (block_words : ℕ) (old : Graph) (g : ℕ) (places : List (ℕ × ℕ)) (new : Graph) (closed : IsClosed old) (collected : Collected shape block_words old g places new) where
   -- an older object keeps its name
@@ -146,7 +144,7 @@ module _ (shape : Shape) (block_words : ℕ) (old : Graph) (g : ℕ) (places : L
       go None is = refl
       go (Some place) is =
           let young = Live-young old g name (collected.renaming.only_live name place is) in
-          let same : young.object ≡ older.object = some_is (sym young.there ∙ older.there) in
+          let same : young.object ≡ older.object = same_Some _ _ (sym young.there ∙ older.there) in
           let generations : young.object.generation ≡ older.object.generation = ap (λ (o : Object). o.generation) same in
           absurd (omega (arith, young.young, older.older, generations))
 
@@ -216,7 +214,7 @@ module _ (shape : Shape) (block_words : ℕ) (old : Graph) (g : ℕ) (places : L
         let f = has_field new place i target e in
         let from = collected.no_others place f.object f.there in
         let there = kept_there from.0 from.1 in
-        let same : f.object ≡ there.new_object = some_is (sym f.there ∙ ap (object_at new) (sym from.2) ∙ there.new_there) in
+        let same : f.object ≡ there.new_object = same_Some _ _ (sym f.there ∙ ap (object_at new) (sym from.2) ∙ there.new_there) in
         let was = was_pointer (renamed places) there.object.pointers i target (ap (λ (ps : List (Option ℕ)). slice_get ps i) (sym there.pointers ∙ ap (λ (o : Object). o.pointers) (sym same)) ∙ f.leads) in
         kept_target was.old target (target_kept from.0 i was.old from.1 (field_is old from.0 i was.old there.object there.there was.at)) was.is;
     roots = λ root target e.

@@ -8,7 +8,8 @@ use mathlib.Core.Logic.{dite}
 use native.Mathlib.Decide.{dec_le}
 use Rattle.layout.specs.declared.place.Place.{Place}
 use Rattle.plain_cells.specs.declared.held.Held.{Held}
-use Rattle.cells.specs.Settled.{Pairs, times, wins_of, ones, all_pairs, KnowsOnly, IsSettled}
+use Rattle.cells.specs.Settled.{Pairs, wins_of, ones, all_pairs, KnowsOnly, IsSettled}
+use Rattle.views.specs.Total.{times}
 use Rattle.plain_cells.specs.Plain.{PlainValue, PlainPassValue, known_by, place_of, by_of, IsWinOf, IsFit, Differ, IsWonBelow, ArePlainCells}
 use Rattle.cells.proofs.Few.{once_each}
 use Rattle.cells.proofs.PairLemmas.{wins_of-append}

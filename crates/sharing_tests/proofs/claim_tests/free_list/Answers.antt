@@ -1,6 +1,6 @@
 use Rattle.std.proofs.Common.{subst, sym, nat_eq}
 use Rattle.std.specs.List.{IsDistinct}
-use Rattle.block_pool.proofs.ClaimLemmas.{IsDistinct-rising}
+use Rattle.claims.proofs.ClaimLemmas.{IsDistinct-rising}
 use Rattle.sharing_tests.proofs.claim_tests.free_list.Goals as goal
 
 pub returns-clause-once : goal.returns-clause-once
