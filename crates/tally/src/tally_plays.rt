@@ -12,7 +12,7 @@ pub struct Count {
 pub struct Rule;
 
 impl TableRule<(), Count, usize> for Rule {
-    ghost use Rattle.pending_queues.specs.Tallied.{known, IsKept};
+    ghost use Rattle.tally.specs.Tallied.{known, IsKept};
 
     ghost holds = { IsKept };
 
@@ -22,7 +22,7 @@ impl TableRule<(), Count, usize> for Rule {
 pub struct Raise;
 
 impl Play<(), Count> for Raise {
-    ghost use Rattle.pending_queues.specs.Tallied.{Raised};
+    ghost use Rattle.tally.specs.Tallied.{Raised};
 
     ghost then = { Raised };
 }
@@ -30,7 +30,7 @@ impl Play<(), Count> for Raise {
 pub struct Read;
 
 impl Play<(), Count> for Read {
-    ghost use Rattle.pending_queues.specs.Tallied.{Saw};
+    ghost use Rattle.tally.specs.Tallied.{Saw};
 
     ghost then = { Saw };
 }
@@ -38,7 +38,7 @@ impl Play<(), Count> for Read {
 pub struct Check;
 
 impl Play<(), Count> for Check {
-    ghost use Rattle.pending_queues.specs.Tallied.{Checked};
+    ghost use Rattle.tally.specs.Tallied.{Checked};
 
     ghost then = { Checked };
 }
@@ -46,7 +46,7 @@ impl Play<(), Count> for Check {
 pub struct Deal;
 
 impl Split<Count> for Deal {
-    ghost use Rattle.pending_queues.specs.Tallied.{dealt, newcomer};
+    ghost use Rattle.tally.specs.Tallied.{dealt, newcomer};
 
     ghost left = { dealt };
 
@@ -56,7 +56,7 @@ impl Split<Count> for Deal {
 pub struct Gather;
 
 impl Join<Count> for Gather {
-    ghost use Rattle.pending_queues.specs.Tallied.{both, spent};
+    ghost use Rattle.tally.specs.Tallied.{both, spent};
 
     ghost both = { both };
 

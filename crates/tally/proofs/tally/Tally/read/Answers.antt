@@ -1,6 +1,6 @@
 use Rattle.std.proofs.Common.{rules, ap, sym, ◌∙◌}
-use Rattle.pending_queues.proofs.TallyLemmas.{reads}
-use Rattle.pending_queues.proofs.tally.Tally.read.Goals as goal
+use Rattle.tally.proofs.TallyLemmas.{reads}
+use Rattle.tally.proofs.tally.Tally.read.Goals as goal
 
 pub load-requires : goal.load-requires
 load-requires g c =

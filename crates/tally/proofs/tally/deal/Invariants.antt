@@ -1,7 +1,7 @@
 use Rattle.std.proofs.Common.{◌≡◌, ◌+◌, length}
 use Rattle.std.specs.List.{All}
-use Rattle.pending_queues.specs.TallyValue.{unraised}
-use Rattle.pending_queues.proofs.tally.deal.Given as goal
+use Rattle.tally.specs.TallyValue.{unraised}
+use Rattle.tally.proofs.tally.deal.Given as goal
 
 abbrev pub invariant-loop : goal.invariant-loop
 invariant-loop g l = record {

@@ -6,8 +6,8 @@ use Rattle.atomic_table.specs.Table.{State, Me, step, keeps, stepped, Allows, Sp
 use Rattle.atomic_table.proofs.Lists.{at_set, at_snoc}
 use Rattle.views.specs.Total.{total}
 use Rattle.views.proofs.Totals.{total-set, total-same, total-snoc, total-whole}
-use Rattle.pending_queues.specs.declared.tally_plays.Count.{Count}
-use Rattle.pending_queues.specs.Tallied.{known, raised_in, IsSound, IsKept, newcomer, dealt, both, spent, Raised, Saw, Checked}
+use Rattle.tally.specs.declared.tally_plays.Count.{Count}
+use Rattle.tally.specs.Tallied.{known, raised_in, IsSound, IsKept, newcomer, dealt, both, spent, Raised, Saw, Checked}
 
 abbrev St : Type 0
 St = State (Unit {0}) Count

@@ -1,6 +1,6 @@
 use Rattle.std.proofs.Common.{rules, ap, sym, ◌∙◌}
-use Rattle.pending_queues.proofs.TallyLemmas.{raises}
-use Rattle.pending_queues.proofs.tally.Tally.raise.Goals as goal
+use Rattle.tally.proofs.TallyLemmas.{raises}
+use Rattle.tally.proofs.tally.Tally.raise.Goals as goal
 
 pub fetch_add-requires : goal.fetch_add-requires
 fetch_add-requires g c =

@@ -4,7 +4,7 @@ use mathlib.Core.Option.{some}
 use lib.ListN.{get_elem?}
 use Rattle.atomic_table.specs.Table.{State, Me, Step}
 use Rattle.views.specs.Total.{total}
-use Rattle.pending_queues.specs.declared.tally_plays.Count.{Count}
+use Rattle.tally.specs.declared.tally_plays.Count.{Count}
 
 abbrev pub known : ℕ → ℕ → ℕ → Count
 known parts raised seen = record { parts = parts; raised = raised; seen = seen }

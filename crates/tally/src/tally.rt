@@ -1,8 +1,8 @@
 //! A count that threads raise and read, and the seats by which they do.
 ghost use Rattle.std.specs.Prelude.{◌≡◌, ◌+◌, ◌<◌, ◌≤◌, [], length, max, IfOk};
 ghost use Rattle.std.specs.List.{All};
-ghost use Rattle.pending_queues.specs.Tallied.{known};
-ghost use Rattle.pending_queues.specs.TallyValue.{unraised, both_seats};
+ghost use Rattle.tally.specs.Tallied.{known};
+ghost use Rattle.tally.specs.TallyValue.{unraised, both_seats};
 
 use crate::tally_plays::{Check, Count, Deal, Gather, Raise, Read, Rule};
 use atomic_table::{Seat, Table};
@@ -18,7 +18,7 @@ pub struct Tally<A: Allocator = Global> {
 
 impl<A: Allocator> Model for Tally<A> {
     ghost use Rattle.std.specs.Prelude.{◌≡◌};
-    ghost use Rattle.pending_queues.specs.TallyValue.{TallyValue, tally_code};
+    ghost use Rattle.tally.specs.TallyValue.{TallyValue, tally_code};
 
     ghost Value = { TallyValue };
 
@@ -37,7 +37,7 @@ pub struct TallySeat {
 
 impl Model for TallySeat {
     ghost use Rattle.std.specs.Prelude.{◌≡◌, ◌<◌, []};
-    ghost use Rattle.pending_queues.specs.TallyValue.{TallySeatValue, tally_seat_code};
+    ghost use Rattle.tally.specs.TallyValue.{TallySeatValue, tally_seat_code};
 
     ghost Value = { TallySeatValue };
 

@@ -1,6 +1,6 @@
 use Rattle.std.proofs.Common.{rules, ap, sym, ◌∙◌}
-use Rattle.pending_queues.proofs.TallyLemmas.{checks}
-use Rattle.pending_queues.proofs.tally.Tally.settle.Goals as goal
+use Rattle.tally.proofs.TallyLemmas.{checks}
+use Rattle.tally.proofs.tally.Tally.settle.Goals as goal
 
 pub load-requires : goal.load-requires
 load-requires g c =

@@ -1,6 +1,6 @@
 use Rattle.std.proofs.Common.{rules, arith, ap, sym, ◌∙◌}
-use Rattle.pending_queues.proofs.TallyLemmas.{gathers}
-use Rattle.pending_queues.proofs.tally.Tally.gather.Goals as goal
+use Rattle.tally.proofs.TallyLemmas.{gathers}
+use Rattle.tally.proofs.tally.Tally.gather.Goals as goal
 
 pub join_seat-requires : goal.join_seat-requires
 join_seat-requires g c =
