@@ -1,8 +1,8 @@
 -- Each step keeps the rule of a tally, and what who gathered all seats knows.
-use Rattle.std.proofs.Common.{◌≡◌, ◌≢◌, ℕ, ◌+◌, ◌%◌, ◌^◌, ◌<◌, ◌≤◌, List, [], ◌∷◌, ◌++◌, set, get_or, max, refl, sym, ap, ◌∙◌, subst, ⊎_elim, arith, length-set, get_or-set_same}
+use Rattle.std.proofs.Common.{rules, ◌≡◌, ◌≢◌, ℕ, ◌+◌, ◌%◌, ◌^◌, ◌<◌, ◌≤◌, List, [], ◌∷◌, ◌++◌, set, get_or, max, refl, sym, ap, ◌∙◌, subst, ⊎_elim, arith, length-set, get_or-set_same}
 use mathlib.Core.Option.{none, some}
 use lib.ListN.{get_elem?}
-use Rattle.atomic_table.specs.Table.{State, Me, step, keeps, stepped, Allows, Splits, Joins}
+use Rattle.atomic_table.specs.Table.{State, opening, Me, step, keeps, stepped, Allows, Splits, Joins}
 use Rattle.atomic_table.proofs.Lists.{at_set, at_snoc}
 use Rattle.views.specs.Total.{total}
 use Rattle.views.proofs.Totals.{total-set, total-same, total-snoc, total-whole}
@@ -120,3 +120,7 @@ checks seats slots id me parts s r _ at _ =
       sound = stepped_sound seats s id v v _ r (omega arith) (record { partless = mine.partless; seen = omega arith });
       word = get_or-set_same s.words 0 _ 0 (omega arith) ∙ (r.word ∙ ap (λ n. n % 2 ^ 64) (sym same));
     } in (v, keeps, tt, kept, (refl, omega arith))
+
+-- a tally of zero, of which one who has all parts knows nothing more
+pub opens : (seats : ℕ) → IsKept seats (opening {S = Unit {0}} (0 ∷ []) [] (known seats 0 0))
+opens seats = search rules
