@@ -9,12 +9,12 @@ use Rattle.atomic_table.specs.Seated.{TableId}
 use Rattle.crossbeam_queue.specs.SegTies.{SegId}
 use Rattle.block_pool.specs.BlockValue.{BlockValue}
 use Rattle.views.specs.Total.{one_if}
-use Rattle.pending_queues.specs.PassValue.{PassValue, first_pass, after_deal, dealt}
-use Rattle.pending_queues.specs.TallyValue.{TallySeatValue, unraised}
-use Rattle.pending_queues.specs.Seated.{AtEach, IsSeated, pass_of, sent_by}
+use Rattle.lanes.specs.PassValue.{PassValue, first_pass, after_deal, dealt}
+use Rattle.tally.specs.TallyValue.{TallySeatValue, unraised}
+use Rattle.pending_laws.specs.SeatPass.{AtEach, pass_of}
+use Rattle.pending_queues.specs.Seated.{IsSeated, sent_by}
 use Rattle.pending_queues.specs.Dealt.{root_of, AreRoots, AreNewPasses, AreHeaps}
-use Rattle.pending_queues.proofs.Places.{get-set, get-snoc}
-use Rattle.pending_queues.proofs.Seating.{map-kept}
+use Rattle.pending_laws.proofs.Places.{get-set, get-snoc, map-kept}
 
 pub snoc_each : {X : Type 0} (F : ℕ → X → Type 0) (xs : List X) (x : X) → AtEach F xs → F (length xs) x → AtEach F (xs ++ x ∷ [])
 snoc_each F xs x old new i y at =
@@ -110,6 +110,9 @@ module _ {A K : Type 0} where
   pub record AreFirst (key : K) (lanes : List (SegId A)) (n t done : ℕ) (passes : List (PassValue A K)) : Type 0 where
     pub of : map (λ p. p.lane) passes ≡ take done lanes
     pub passes_are : AtEach (λ u p. p ≡ pass_of p.lane key n t [] [] u) passes
+
+  pub no-first : (key : K) (lanes : List (SegId A)) (n t : ℕ) (passes : List (PassValue A K)) → passes ≡ [] → AreFirst key lanes n t 0 passes
+  no-first key lanes n t passes none = rw none (record { of = refl; passes_are = λ u p at. cc })
 
   pub firsts : (key : K) (lanes : List (SegId A)) (n t u : ℕ) (passes : List (PassValue A K)) (p q : PassValue A K) (lane : SegId A)
       → AreFirst key lanes n t u passes → u < length lanes → lane ≡ get_or lanes u lane → p.lane ≡ lane → p ≡ root_of p.lane key n t u → q ≡ dealt p (u == t)

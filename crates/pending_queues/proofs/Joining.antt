@@ -3,11 +3,11 @@ use Rattle.std.proofs.Common.{◌≡◌, ◌≢◌, ◌≤◌, ℕ, zero, suc, �
 use Rattle.std.specs.List.{slice_get}
 use Rattle.std.proofs.Math.Nat.{eq-or-lt_of_le}
 use Rattle.std.proofs.Math.Seq.{take-length}
-use Rattle.std.proofs.lemmas.List.{length-map}
+use Rattle.std.proofs.lemmas.List.{length-map, set-get_or}
+use mathlib.Core.Logic.{dite}
+use native.Mathlib.Decide.{ℕ_discrete}
 use Rattle.std.proofs.lemmas.Option.{slice_get_within, slice_get_read, slice_get-map, get_or_from_slice_get}
-use Rattle.pending_queues.proofs.Places.{get-set_here}
-use Rattle.pending_queues.proofs.Seating.{map-kept}
-use Rattle.pending_queues.proofs.Told.{some_at}
+use Rattle.pending_laws.proofs.Places.{get-set_here, inside, map-kept, some_at}
 
 abbrev tail : {X : Type 0} → List X → List X
 tail [] = []
@@ -38,9 +38,6 @@ else_set (x ∷ xs) zero zero v ne = absurd (ne refl)
 else_set (x ∷ xs) zero (suc j) v ne = refl
 else_set (x ∷ xs) (suc i) zero v ne = refl
 else_set (x ∷ xs) (suc i) (suc j) v ne = else_set xs i j v (λ e. ne (ap suc e))
-
-pub inside : {X : Type 0} (x y : X) → Some x ≡ Some y → x ≡ y
-inside x y e = cc
 
 -- what stands at a place has the name that stands there
 pub name_there : {V L : Type 0} (f : V → L) (xs : List V) (names : List L) (n : ℕ) (p : V) (l : L) → map f xs ≡ names → slice_get xs n ≡ Some p → l ≡ get_or names n l → f p ≡ l
@@ -112,3 +109,19 @@ module _ {V L : Type 0} (f : V → L) (join : V → V → V) (keeps : (p q : V) 
   pub ends : (names : List L) (old others now rest : List V) → Halfway names old others now rest → rest ≡ []
       → (u : ℕ) (p q : V) → slice_get old u ≡ Some p → slice_get others u ≡ Some q → slice_get now u ≡ Some (join p q)
   ends names old others now rest h none u p q e g = h.after u p q (let l = ap length none in omega arith) e g
+
+-- what holds of each up to a place holds up to the next
+pub each_next : {X : Type 0} (P : X → Type 0) (xs : List X) (n : ℕ) (x : X) → ((u : ℕ) (y : X) → u < n → slice_get xs u ≡ Some y → P y) → slice_get xs n ≡ Some x → P x
+    → (u : ℕ) (y : X) → u < n + 1 → slice_get xs u ≡ Some y → P y
+each_next P xs n x before at here u y lt e =
+    dite (ℕ_discrete u n)
+    (λ (same : u ≡ n). subst P (inside x y (sym at ∙ ap (slice_get xs) (sym same) ∙ e)) here)
+    (λ (ne : u ≢ n). before u y (omega arith) e)
+
+-- one more was settled, and stays as it was
+pub settled_next : {X : Type 0} (P : X → Type 0) (old now : List X) (n : ℕ) (x new : X) → now ≡ old → x ≡ get_or now n x → n < length now → new ≡ x → P x
+    → ((u : ℕ) (y : X) → u < n → slice_get old u ≡ Some y → P y)
+    → (set now n new ≡ old) × ((u : ℕ) (y : X) → u < n + 1 → slice_get old u ≡ Some y → P y)
+settled_next P old now n x new same at lt is here before =
+    let there : slice_get old n ≡ Some x = ap (λ l. slice_get l n) (sym same) ∙ slice_get_read now (length now) n x refl lt at in
+    (ap (set now n) (is ∙ at) ∙ set-get_or now n x ∙ same, each_next P old n x before there here)

@@ -5,18 +5,16 @@ use Rattle.std.proofs.lemmas.Option.{slice_get_within, get_or_from_slice_get, sl
 use Rattle.std.proofs.lemmas.List.{map-append, map-set, length-map}
 use Rattle.std.proofs.lemmas.List.Elements.{filter-append, All-append, All-cons, All-nil}
 use Rattle.block_pool.specs.BlockValue.{BlockValue}
-use Rattle.pending_queues.specs.PassValue.{PassValue, position_of, Took}
-use Rattle.pending_queues.specs.TallyValue.{TallySeatValue}
-use Rattle.pending_queues.specs.declared.seat.Taken.{Taken}
-use Rattle.pending_queues.specs.Seated.{AtEach, IsSeated, pass_of, sent_by, taken_from, is_from}
+use Rattle.lanes.specs.PassValue.{PassValue, position_of, Took}
+use Rattle.tally.specs.TallyValue.{TallySeatValue}
+use Rattle.exports.specs.declared.label.Label.{Label}
+use Rattle.pending_laws.specs.SeatPass.{AtEach, pass_of, taken_from, is_from}
+use Rattle.pending_queues.specs.Seated.{IsSeated, sent_by}
 use Rattle.crossbeam_queue.specs.SegTies.{SegId}
-use Rattle.pending_queues.specs.PendingValue.{Source, SeatValue, IsSeatOf, after_export, after_take}
-use Rattle.pending_queues.specs.Labelled.{labelled}
-use Rattle.pending_queues.proofs.Places.{get-set, get-set_here, set-same}
-
--- what the new element has as the old one stays the same in all
-pub map-kept : {X Y : Type 0} (f : X → Y) (xs : List X) (u : ℕ) (p w : X) → slice_get xs u ≡ Some p → f w ≡ f p → map f (set xs u w) ≡ map f xs
-map-kept f xs u p w at same = map-set f xs u w ∙ set-same (map f xs) u (f w) (slice_get-map f xs u ∙ rw at (ap Some (sym same)))
+use Rattle.pending_laws.specs.PendingValue.{Source, SeatValue, IsSeatOf, after_export, after_take}
+use Rattle.exports.specs.Labelled.{labelled}
+use Rattle.pending_laws.proofs.Places.{get-set, get-set_here, set-same, map-kept}
+use Rattle.pending_laws.proofs.Kept.{filtered}
 
 -- one more block of that exporter, or of another
 from-here : (u : ℕ) (taken : List BlockValue) (b : BlockValue) → is_from u b ≡ true → taken_from u (taken ++ b ∷ []) ≡ taken_from u taken ++ b ∷ []
@@ -25,29 +23,12 @@ from-here u taken b e = filter-append (is_from u) taken (b ∷ []) ∙ rw e refl
 from-else : (u : ℕ) (taken : List BlockValue) (b : BlockValue) → is_from u b ≡ false → taken_from u (taken ++ b ∷ []) ≡ taken_from u taken
 from-else u taken b e = filter-append (is_from u) taken (b ∷ []) ∙ rw e (append-nil (taken_from u taken))
 
--- what holds of each that a test lets through
-tail_of : {X : Type 0} (P : X → Type 0) (x : X) (xs : List X) (b : Bool) → All P (cond b (x ∷ xs) xs) → All P xs
-tail_of P x xs true h = λ k d lt. h (suc k) d (omega arith)
-tail_of P x xs false h = h
-
-pub filtered : {X : Type 0} (q : X → Bool) (P : X → Type 0) (xs : List X) → All P (filter q xs) → (k : ℕ) (d : X) → k < length xs → q (get_or xs k d) ≡ true → P (get_or xs k d)
-filtered q P [] h k d lt e = absurd (omega arith)
-filtered q P (x ∷ xs) h zero d lt e = (rw e at h) 0 d (omega arith)
-filtered q P (x ∷ xs) h (suc k) d lt e = filtered q P xs (tail_of P x (filter q xs) (q x) h) k d (omega arith) e
-
 -- a block that was taken from there before has a lower position
 pub rises : (u : ℕ) (b : BlockValue) (taken : List BlockValue) → All (λ (t : BlockValue). position_of t < position_of b) (taken_from u taken)
     → All (λ (t : BlockValue). (p : ℕ) → t.sent ≡ Some (u, p) → p < position_of b) taken
 rises u b taken h k d lt p label =
     let at : position_of (get_or taken k d) < position_of b = filtered (is_from u) (λ (t : BlockValue). position_of t < position_of b) taken h k d lt (rw label (eq-eqb u u refl)) in
     let place : position_of (get_or taken k d) ≡ p = rw label refl in omega arith
-
--- two lists that agree in a field agree at a place
-pub agree : {X Y Z : Type 0} (f : X → Z) (g : Y → Z) (xs : List X) (ys : List Y) (u : ℕ) (a : X) (b : Y) → map f xs ≡ map g ys → slice_get xs u ≡ Some a → slice_get ys u ≡ Some b → f a ≡ g b
-agree f g xs ys u a b same at_a at_b =
-    let l = slice_get-map f xs u in let r = slice_get-map g ys u in
-    let e : Some (f a) ≡ Some (g b) = sym (l ∙ ap (option_map f) at_a) ∙ (ap (λ zs. slice_get zs u) same ∙ (r ∙ ap (option_map g) at_b)) in
-    cc
 
 -- a mark stays one part
 one-set : (marks : List TallySeatValue) (u : ℕ) (m n : TallySeatValue) → slice_get marks u ≡ Some m → n.parts ≡ m.parts → AtEach (λ i x. x.parts ≡ 1) marks → AtEach (λ i x. x.parts ≡ 1) (set marks u n)
@@ -75,7 +56,7 @@ module _ {A K : Type 0} where
   pub sends-own : (lane : SegId A) (key : K) (n index : ℕ) (sent taken : List BlockValue) (p : PassValue A K) → p ≡ pass_of lane key n index sent taken index → (p.senders ≡ 1) × (p.sent ≡ sent)
   sends-own lane key n index sent taken p is = rw is (rw (eq-eqb index index refl) (refl, refl))
 
-  pub exported : (key : K) (index : ℕ) (passes : List (PassValue A K)) (marks : List TallySeatValue) (sizes : List ℕ) (log : List Taken) (taken : List BlockValue) (cleared : ℕ)
+  pub exported : (key : K) (index : ℕ) (passes : List (PassValue A K)) (marks : List TallySeatValue) (sizes : List ℕ) (log : List Label) (taken : List BlockValue) (cleared : ℕ)
       (p w : PassValue A K) (b : BlockValue) (more : List ℕ)
       → IsSeated key index passes marks sizes log taken cleared → slice_get passes index ≡ Some p → w ≡ record p { sent = p.sent ++ b ∷ [] } → more ≡ sizes ++ length b.objects ∷ []
       → IsSeated key index (set passes index w) marks more log taken cleared
@@ -133,7 +114,7 @@ module _ {A K : Type 0} where
   own-there key index passes marks taken cleared seat source p view is at =
       pass-there key index passes marks taken cleared seat source index p view is.of (let e : index ≡ seat.index = ap (λ s. s.index) view in let o = is.own in omega arith) at
 
-  pub exported-view : (key : K) (index : ℕ) (passes : List (PassValue A K)) (marks : List TallySeatValue) (sizes : List ℕ) (log : List Taken) (taken : List BlockValue) (cleared : ℕ)
+  pub exported-view : (key : K) (index : ℕ) (passes : List (PassValue A K)) (marks : List TallySeatValue) (sizes : List ℕ) (log : List Label) (taken : List BlockValue) (cleared : ℕ)
       (seat : SeatValue A K) (p w : PassValue A K) (block b : BlockValue) (n : ℕ)
       → IsSeated key index passes marks sizes log taken cleared → seat_view key index passes marks taken cleared ≡ seat
       → slice_get passes index ≡ Some p → w ≡ record p { sent = p.sent ++ b ∷ [] } → b ≡ labelled index n block → n ≡ length sizes
@@ -144,12 +125,12 @@ module _ {A K : Type 0} where
       let place : n ≡ length (sent_by passes index) = en ∙ (ap length is.sizes_are ∙ length-map (sent_by passes index) (λ c. length c.objects)) in
       subst (λ s. seat_view key index (set passes index w) marks taken cleared ≡ after_export s block) view (rw (lanes, sent, eb, place) refl)
 
-  pub mark-there : (key : K) (index : ℕ) (passes : List (PassValue A K)) (marks : List TallySeatValue) (sizes : List ℕ) (log : List Taken) (taken : List BlockValue) (cleared : ℕ) (u : ℕ) (p : PassValue A K) (m : TallySeatValue)
+  pub mark-there : (key : K) (index : ℕ) (passes : List (PassValue A K)) (marks : List TallySeatValue) (sizes : List ℕ) (log : List Label) (taken : List BlockValue) (cleared : ℕ) (u : ℕ) (p : PassValue A K) (m : TallySeatValue)
       → IsSeated key index passes marks sizes log taken cleared → slice_get passes u ≡ Some p → m ≡ get_or marks u m → slice_get marks u ≡ Some m
   mark-there key index passes marks sizes log taken cleared u p m is at e = slice_get_read marks (length passes) u m (sym is.many) (slice_get_within passes u p at) e
 
-  pub took : (key : K) (index : ℕ) (passes : List (PassValue A K)) (marks : List TallySeatValue) (sizes : List ℕ) (log : List Taken) (taken : List BlockValue) (cleared : ℕ)
-      (u : ℕ) (p w : PassValue A K) (m n : TallySeatValue) (b : BlockValue) (t : Taken) (logs : List Taken) (all : List BlockValue)
+  pub took : (key : K) (index : ℕ) (passes : List (PassValue A K)) (marks : List TallySeatValue) (sizes : List ℕ) (log : List Label) (taken : List BlockValue) (cleared : ℕ)
+      (u : ℕ) (p w : PassValue A K) (m n : TallySeatValue) (b : BlockValue) (t : Label) (logs : List Label) (all : List BlockValue)
       → IsSeated key index passes marks sizes log taken cleared → slice_get passes u ≡ Some p → slice_get marks u ≡ Some m
       → w ≡ record p { taken = p.taken ++ b ∷ [] } → n ≡ record m { raised = m.raised + 1 }
       → b.sent ≡ Some (u, position_of b) → b.sent ≡ Some (t.exporter, t.position) → logs ≡ log ++ t ∷ [] → all ≡ taken ++ b ∷ []
@@ -178,8 +159,8 @@ module _ {A K : Type 0} where
             (λ (h : (v ≢ u) × (slice_get marks v ≡ Some x)). rw (from-else v taken b (others v h.0)) (is.raised v x h.1))
             (get-set marks u v n x there);
         sizes_are = rw same is.sizes_are;
-        logged = map-append (λ (c : BlockValue). c.sent) taken (b ∷ []) ∙ (rw (is.logged, says) (sym (map-append (λ (l : Taken). Some (l.exporter, l.position)) log (t ∷ []))));
-        exporters = rw len (All-append (λ (l : Taken). l.exporter < many) log (t ∷ []) is.exporters (All-cons (λ (l : Taken). l.exporter < many) t [] (let lt = slice_get_within passes u p at_p in omega arith) (All-nil (λ (l : Taken). l.exporter < many))));
+        logged = map-append (λ (c : BlockValue). c.sent) taken (b ∷ []) ∙ (rw (is.logged, says) (sym (map-append (λ (l : Label). Some (l.exporter, l.position)) log (t ∷ []))));
+        exporters = rw len (All-append (λ (l : Label). l.exporter < many) log (t ∷ []) is.exporters (All-cons (λ (l : Label). l.exporter < many) t [] (let lt = slice_get_within passes u p at_p in omega arith) (All-nil (λ (l : Label). l.exporter < many))));
         cleared_seen = λ v x there own. ⊎_elim
             (λ (h : (v ≡ u) × (n ≡ x)). let s = is.cleared_seen u m at_m (sym h.0 ∙ own) in let e : x.seen ≡ m.seen = ap (λ v. v.seen) (sym h.1 ∙ en) in omega arith)
             (λ (h : (v ≢ u) × (slice_get marks v ≡ Some x)). is.cleared_seen v x h.1 own)
@@ -218,7 +199,7 @@ module _ {A K : Type 0} where
       }
 
   -- a count is seen in the tally of the seat's own queue, and so much of it is known to be taken
-  pub seen : (key : K) (index : ℕ) (passes : List (PassValue A K)) (marks : List TallySeatValue) (sizes : List ℕ) (log : List Taken) (taken : List BlockValue) (cleared : ℕ)
+  pub seen : (key : K) (index : ℕ) (passes : List (PassValue A K)) (marks : List TallySeatValue) (sizes : List ℕ) (log : List Label) (taken : List BlockValue) (cleared : ℕ)
       (m n : TallySeatValue) (count known : ℕ)
       → IsSeated key index passes marks sizes log taken cleared → slice_get marks index ≡ Some m → n ≡ record m { seen = count } → known ≤ count → known ≤ length (sent_by passes index)
       → IsSeated key index passes (set marks index n) sizes log taken known
@@ -248,11 +229,11 @@ module _ {A K : Type 0} where
       let names = map-kept (λ m. m.name) marks index m n at (ap (λ v. v.name) en) in
       subst (λ s. seat_view key index passes (set marks index n) taken known ≡ record s { cleared = known }) view (rw names refl)
 
-  pub many-sent : (key : K) (index : ℕ) (passes : List (PassValue A K)) (marks : List TallySeatValue) (sizes : List ℕ) (log : List Taken) (taken : List BlockValue) (cleared : ℕ)
+  pub many-sent : (key : K) (index : ℕ) (passes : List (PassValue A K)) (marks : List TallySeatValue) (sizes : List ℕ) (log : List Label) (taken : List BlockValue) (cleared : ℕ)
       → IsSeated key index passes marks sizes log taken cleared → length sizes ≡ length (sent_by passes index)
   many-sent key index passes marks sizes log taken cleared is = ap length is.sizes_are ∙ length-map (sent_by passes index) (λ c. length c.objects)
 
-  pub own-mark : (key : K) (index : ℕ) (passes : List (PassValue A K)) (marks : List TallySeatValue) (sizes : List ℕ) (log : List Taken) (taken : List BlockValue) (cleared : ℕ) (seat : SeatValue A K) (source : Source A K) (m : TallySeatValue)
+  pub own-mark : (key : K) (index : ℕ) (passes : List (PassValue A K)) (marks : List TallySeatValue) (sizes : List ℕ) (log : List Label) (taken : List BlockValue) (cleared : ℕ) (seat : SeatValue A K) (source : Source A K) (m : TallySeatValue)
       → IsSeated key index passes marks sizes log taken cleared → seat_view key index passes marks taken cleared ≡ seat → IsSeatOf source seat → m ≡ get_or marks index m → slice_get marks index ≡ Some m
   own-mark key index passes marks sizes log taken cleared seat source m is view of at =
       let many : length passes ≡ length source.lanes = sym (length-map passes (λ p. p.lane)) ∙ ap length (ap (λ s. s.source.lanes) view ∙ ap (λ s. s.lanes) of.of) in

@@ -1,14 +1,16 @@
 -- Queues of blocks, as callers see them, and the rules that they keep.
-pub mod Labelled
-pub mod PassValue
-pub mod LaneRule
-pub mod TallyValue
-pub mod Tallied
-pub mod PendingValue
+pub use Rattle.exports.specs.Labelled
+pub use Rattle.exports.specs.Written
+pub use Rattle.lanes.specs.PassValue
+pub use Rattle.lanes.specs.LaneRule
+pub use Rattle.tally.specs.TallyValue
+pub use Rattle.tally.specs.Tallied
+pub use Rattle.plain_queues.specs.PlainValue
+pub use Rattle.plain_queues.specs.PlainKept
+pub use Rattle.pending_laws.specs.PendingValue
+pub use Rattle.pending_laws.specs.SeatPass
+pub use Rattle.pending_laws.specs.Delivered
+pub use Rattle.pending_laws.specs.Telling
+pub use Rattle.pending_laws.specs.Gathered
 pub mod Seated
 pub mod Dealt
-pub mod PlainValue
-pub mod PlainKept
-pub mod Delivered
-pub mod Telling
-pub mod Gathered

@@ -1,16 +1,15 @@
 //! The end of the queues that threads share.
 ghost use Rattle.std.specs.Prelude.{◌≡◌, ◌<◌, ◌++◌, ◌∷◌, [], ℕ, All, length, map, IfOk};
-ghost use Rattle.pending_queues.specs.PendingValue.{IsSeatOf};
-ghost use Rattle.pending_queues.specs.Seated.{AtEach};
-ghost use Rattle.pending_queues.specs.Gathered.{AreGathered, IsGatheredMark, IsTold};
-ghost use Rattle.pending_queues.specs.Delivered.{AreDelivered};
+ghost use Rattle.pending_laws.specs.PendingValue.{IsSeatOf};
+ghost use Rattle.pending_laws.specs.SeatPass.{AtEach};
+ghost use Rattle.pending_laws.specs.Gathered.{AreGathered, IsGatheredMark, IsTold};
+ghost use Rattle.pending_laws.specs.Delivered.{AreDelivered};
 
-use crate::cargo::Cargo;
-use crate::deliveries::Deliveries;
 use crate::ruled_pending::RuledPending;
 use crate::seat::PendingSeat;
 use crate::shares::{Shares, gather_marks, gather_passes, settle_marks, settle_passes};
-use crate::telling::{empty_lists, name_all, tell_all};
+use crate::telling::{name_all, tell_all};
+use exports::{Cargo, Deliveries};
 use std::alloc::{AllocError, Allocator};
 use std::sync::Wait;
 
@@ -88,10 +87,10 @@ impl<C: Cargo, A: Allocator + Clone> RuledPending<C, A> {
         requires all { length seats.items ≡ length self.lanes }
         ensures { IfOk result (λ d. AreDelivered seats.items d) }
     {
-        let mut lists = empty_lists(&alloc, seats.len())?;
-        tell_all(&alloc, &seats, &mut lists)?;
-        name_all(&seats, &mut lists);
+        let mut deliveries = Deliveries::untold(&alloc, seats.len())?;
+        tell_all(&alloc, &seats, &mut deliveries)?;
+        name_all(&seats, &mut deliveries);
         self.settle(rt, seats);
-        Ok(Deliveries::from_lists(lists))
+        Ok(deliveries)
     }
 }

@@ -1,14 +1,13 @@
 //! How the queues are opened, and how the seats get their parts of them.
 ghost use Rattle.std.specs.Prelude.{◌≡◌, ◌+◌, ◌-◌, ◌<◌, All, length, map, IfOk, OnOk};
-ghost use Rattle.pending_queues.specs.TallyValue.{unraised};
+ghost use Rattle.tally.specs.TallyValue.{unraised};
 ghost use Rattle.pending_queues.specs.Dealt.{AreRoots, AreNewPasses, AreHeaps};
 
-use crate::cargo::Cargo;
-use crate::lane::Lane;
-use crate::lane_pass::LanePass;
 use crate::ruled_pending::RuledPending;
-use crate::tally::{Tally, TallySeat};
+use exports::Cargo;
+use lanes::{Lane, LanePass};
 use std::alloc::{AllocError, Allocator};
+use tally::{Tally, TallySeat};
 
 /// Queues, and the first pass of each.
 pub type Lanes<C: Cargo, A> = (Vec<Lane<C, A>, A>, Vec<LanePass<C::Key, A>, A>);

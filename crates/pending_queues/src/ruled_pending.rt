@@ -1,20 +1,20 @@
 //! Queues of blocks under their rule, one for each exporter, which threads share.
 ghost use Rattle.std.specs.Prelude.{◌≡◌, ◌≤◌, ◌<◌, ℕ, Some, All, length, is_some, true, slice_get, IfOk, IfSome, MatchBool, MatchOption, MatchResult};
-ghost use Rattle.pending_queues.specs.PassValue.{position_of};
-ghost use Rattle.pending_queues.specs.PendingValue.{IsSeatOf, new_seats, next_export, after_export, after_take, after_none};
-ghost use Rattle.pending_queues.specs.declared.seat.Taken.{Taken};
+ghost use Rattle.lanes.specs.PassValue.{position_of};
+ghost use Rattle.pending_laws.specs.PendingValue.{IsSeatOf, new_seats, next_export, after_export, after_take, after_none};
+ghost use Rattle.exports.specs.declared.label.Label.{Label};
 
-use crate::cargo::Cargo;
-use crate::lane::Lane;
 use crate::opening::{open_lanes, open_tallies};
-use crate::seat::{PendingSeat, Taken};
-use crate::tally::Tally;
+use crate::seat::PendingSeat;
 use block_pool::Block;
 use crossbeam_utils::Backoff;
+use exports::{Cargo, Label};
+use lanes::Lane;
 use std::alloc::{AllocError, Allocator, Global};
 use std::marker::Model;
 use std::snapshot::Snapshot;
 use std::sync::Wait;
+use tally::Tally;
 
 /// Queues that threads share: one for each exporter.
 #[derive(Drop)]
@@ -26,7 +26,7 @@ pub struct RuledPending<C: Cargo, A: Allocator = Global> {
 
 impl<C: Cargo, A: Allocator> Model for RuledPending<C, A> {
     ghost use Rattle.std.specs.Prelude.{◌≡◌, All, length, map};
-    ghost use Rattle.pending_queues.specs.PendingValue.{Source};
+    ghost use Rattle.pending_laws.specs.PendingValue.{Source};
 
     ghost Value = { Source A C.Key };
 
@@ -36,12 +36,12 @@ impl<C: Cargo, A: Allocator> Model for RuledPending<C, A> {
 }
 
 /// The label of a block that has one.
-fn label_of<A: Allocator>(block: &Block<A>) -> Taken
+fn label_of<A: Allocator>(block: &Block<A>) -> Label
     requires { is_some block.now.sent ≡ true }
     ensures { block.now.sent ≡ Some (result.exporter, result.position) }
 {
     match block.sent() {
-        Some((exporter, position)) => Taken { exporter, position },
+        Some((exporter, position)) => Label { exporter, position },
         None => unreachable!(),
     }
 }

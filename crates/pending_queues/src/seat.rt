@@ -1,18 +1,11 @@
 //! What one worker has of the queues: a pass and a mark for each, and a log of what it sent and took.
-use crate::cargo::Cargo;
-use crate::lane_pass::LanePass;
-use crate::tally::TallySeat;
 use block_pool::Block;
+use exports::{Cargo, Label};
+use lanes::LanePass;
 use std::alloc::{AllocError, Allocator, Global};
 use std::marker::Model;
 use std::snapshot::Snapshot;
-
-/// The label of a block that was taken.
-#[derive(Clone, Copy)]
-pub struct Taken {
-    pub exporter: u32,
-    pub position: u64,
-}
+use tally::TallySeat;
 
 /// One worker's right to export to its own queue and to take from each.
 #[derive(Drop)]
@@ -22,14 +15,14 @@ pub struct PendingSeat<C: Cargo, A: Allocator = Global> {
     pub(crate) passes: Vec<LanePass<C::Key, A>, A>,
     pub(crate) marks: Vec<TallySeat, A>,
     pub(crate) sizes: Vec<usize, A>,
-    pub(crate) log: Vec<Taken, A>,
+    pub(crate) log: Vec<Label, A>,
     pub(crate) taken: Vec<Snapshot<Block<A>>, A>,
     pub(crate) cleared: u64,
 }
 
 impl<C: Cargo, A: Allocator> Model for PendingSeat<C, A> {
     ghost use Rattle.std.specs.Prelude.{map};
-    ghost use Rattle.pending_queues.specs.PendingValue.{SeatValue};
+    ghost use Rattle.pending_laws.specs.PendingValue.{SeatValue};
     ghost use Rattle.pending_queues.specs.Seated.{IsSeated, sent_by};
 
     ghost Value = { SeatValue A C.Key };
@@ -45,10 +38,32 @@ impl<C: Cargo, A: Allocator> Model for PendingSeat<C, A> {
     ghost invariant = { λ s. IsSeated s.key.value s.index s.passes.items s.marks.items s.sizes.items s.log.items (map (λ b. b.value) s.taken.items) s.cleared };
 }
 
+/// What a seat writes down of its exports and takes.
+#[derive(Drop)]
+struct Logs<A: Allocator> {
+    sizes: Vec<usize, A>,
+    log: Vec<Label, A>,
+    taken: Vec<Snapshot<Block<A>>, A>,
+}
+
+impl<A: Allocator + Clone> Logs<A> {
+    ghost use Rattle.std.specs.Prelude.{◌≡◌, [], IfOk};
+
+    /// Nothing is written yet.
+    fn empty(alloc: &A) -> Result<Logs<A>, AllocError>
+        ensures { IfOk result (λ r. (r.sizes.items ≡ []) × (r.log.items ≡ []) × (r.taken.items ≡ [])) }
+    {
+        let sizes = Vec::new(alloc.clone()?);
+        let log = Vec::new(alloc.clone()?);
+        let taken = Vec::new(alloc.clone()?);
+        Ok(Logs { sizes, log, taken })
+    }
+}
+
 impl<C: Cargo, A: Allocator + Clone> PendingSeat<C, A> {
-    ghost use Rattle.std.specs.Prelude.{◌≡◌, ◌<◌, length, map, IfOk};
-    ghost use Rattle.pending_queues.specs.TallyValue.{unraised};
-    ghost use Rattle.pending_queues.specs.PendingValue.{Source, new_seat};
+    ghost use Rattle.std.specs.Prelude.{◌≡◌, length, map, IfOk};
+    ghost use Rattle.tally.specs.TallyValue.{unraised};
+    ghost use Rattle.pending_laws.specs.PendingValue.{new_seat};
     ghost use Rattle.pending_queues.specs.Dealt.{AreNewPasses};
 
     /// A seat that has exported and taken nothing.
@@ -64,14 +79,16 @@ impl<C: Cargo, A: Allocator + Clone> PendingSeat<C, A> {
         requires many { length marks.items ≡ length passes.items }
         ensures { IfOk result (λ s. s ≡ new_seat (record { key = key.now; lanes = map (λ p. p.lane) passes.items; tallies = map (λ m. m.name) marks.items }) index) }
     {
+        let logs = Logs::empty(alloc)?;
+        let Logs { sizes, log, taken } = logs;
         Ok(PendingSeat {
             index,
             key: Snapshot::of(key),
             passes,
             marks,
-            sizes: Vec::new(alloc.clone()?),
-            log: Vec::new(alloc.clone()?),
-            taken: Vec::new(alloc.clone()?),
+            sizes,
+            log,
+            taken,
             cleared: 0,
         })
     }

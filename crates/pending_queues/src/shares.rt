@@ -1,16 +1,15 @@
 //! What several seats have of the queues together.
 ghost use Rattle.std.specs.Prelude.{◌≡◌, ◌<◌, ◌≤◌, ℕ, All, Some, length, map, slice_get};
-ghost use Rattle.pending_queues.specs.PassValue.{PassValue, both};
-ghost use Rattle.pending_queues.specs.Seated.{AtEach};
-ghost use Rattle.pending_queues.specs.Gathered.{IsSettled};
-ghost use Rattle.pending_queues.specs.TallyValue.{TallySeatValue, both_seats};
+ghost use Rattle.lanes.specs.PassValue.{PassValue, both};
+ghost use Rattle.pending_laws.specs.SeatPass.{AtEach};
+ghost use Rattle.pending_laws.specs.Gathered.{IsSettled};
+ghost use Rattle.tally.specs.TallyValue.{TallySeatValue, both_seats};
 
-use crate::cargo::Cargo;
-use crate::lane::Lane;
-use crate::lane_pass::LanePass;
-use crate::tally::{Tally, TallySeat};
+use exports::Cargo;
+use lanes::{Lane, LanePass};
 use std::alloc::Allocator;
 use std::sync::Wait;
+use tally::{Tally, TallySeat};
 
 /// A pass of each queue, and a mark in each tally.
 #[derive(Drop)]

@@ -1,9 +1,9 @@
-use Rattle.std.proofs.Common.{◌≡◌, map, drop, length}
-use Rattle.pending_queues.specs.Telling.{placed}
+use Rattle.std.proofs.Common.{◌≡◌, drop, length}
+use Rattle.pending_laws.specs.Telling.{placed}
 use Rattle.pending_queues.proofs.telling.tell_all.Given as goal
 
 abbrev pub invariant-loop-seat : goal.invariant-loop-seat
 invariant-loop-seat g l = record {
-  told : placed (map (λ v. v.items) l.lists.items) (drop l.seat-index l.seats) ≡ placed (map (λ v. v.items) l.fn.lists.items) l.seats;
-  many : length l.lists.items ≡ length l.fn.lists.items;
+  told : placed l.deliveries (drop l.seat-index l.seats) ≡ placed l.fn.deliveries l.seats;
+  many : length l.deliveries ≡ length l.fn.deliveries;
 }

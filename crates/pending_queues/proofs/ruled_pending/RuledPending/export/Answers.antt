@@ -1,5 +1,5 @@
 use Rattle.std.proofs.Common.{sym, ap, ◌∙◌, refl, subst, length}
-use Rattle.pending_queues.specs.PendingValue.{IsSeatOf}
+use Rattle.pending_laws.specs.PendingValue.{IsSeatOf}
 use Rattle.pending_queues.proofs.Seating.{exported, exported-view, own-there}
 use Rattle.pending_queues.proofs.ruled_pending.RuledPending.export.Goals as goal
 

@@ -1,4 +1,4 @@
-use Rattle.pending_queues.proofs.Gathering.{one_passes, one_marks}
+use Rattle.pending_queues.proofs.Sharing.{one_passes, one_marks}
 use Rattle.pending_queues.proofs.seat.PendingSeat.into_shares.Goals as goal
 
 pub returns-clause-passes : goal.returns-clause-passes

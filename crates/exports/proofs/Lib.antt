@@ -1,0 +1,2 @@
+-- Lemmas on lists of lists.
+pub mod WrittenLists

@@ -1,0 +1,10 @@
+//! What blocks are handed over for, the labels they get, and what became of each.
+#![tactic(auto)]
+
+mod cargo;
+mod deliveries;
+mod label;
+
+pub use cargo::Cargo;
+pub use deliveries::{Deliveries, Delivery};
+pub use label::Label;

@@ -1,0 +1,8 @@
+use Rattle.std.proofs.Common.{ap, arith}
+use Rattle.lanes.proofs.LaneMoves.{takes, learns_nothing}
+use Rattle.lanes.proofs.lane.Lane.receive.Goals as goal
+
+pub pop_as-requires-clause-rule : goal.pop_as-requires-clause-rule
+pop_as-requires-clause-rule g c =
+    let parts = ap (λ v. v.parts) c.pass.view_is in
+    (takes g.C.Cargo.fits _ _ (let p = c.requires.parts in omega arith), learns_nothing g.C.Cargo.fits _ _)

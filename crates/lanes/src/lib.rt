@@ -1,0 +1,11 @@
+//! One exporter's queue under its rule, and what each seat knows of it.
+#![tactic(auto)]
+
+mod lane;
+mod lane_pass;
+mod rule;
+mod view;
+
+pub use exports::Cargo;
+pub use lane::Lane;
+pub use lane_pass::LanePass;

@@ -1,0 +1,2 @@
+//! What the seats of shared queues know, one by one and together: definitions and lemmas alone, no code.
+#![tactic(auto)]

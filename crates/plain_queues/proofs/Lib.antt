@@ -1,0 +1,3 @@
+-- Lemmas on queues of one thread.
+pub mod PlainLists
+pub mod PlainSteps

@@ -1,0 +1,11 @@
+use Rattle.std.proofs.Common.{◌≡◌, ◌≤◌, length, map, take}
+use Rattle.std.specs.Vec.{vec_capacity}
+use Rattle.plain_queues.specs.PlainValue.{outcomes_of}
+use Rattle.plain_queues.proofs.plain_pending.PlainPending.close.Given as goal
+
+abbrev pub invariant-loop-queue : goal.invariant-loop-queue
+invariant-loop-queue g l = record {
+  told : map (λ v. v.items) l.lists.items ≡ map (λ q. outcomes_of q.lane) (take l.queue-index l.queue-items);
+  many : length l.lists.items ≡ l.queue-index;
+  room : length l.queue-items ≤ vec_capacity l.lists;
+}

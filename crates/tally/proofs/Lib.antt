@@ -1,0 +1,2 @@
+-- Lemmas on tallies.
+pub mod TallyLemmas

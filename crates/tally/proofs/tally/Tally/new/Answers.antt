@@ -1,0 +1,12 @@
+use Rattle.std.proofs.Common.{refl}
+use Rattle.tally.proofs.TallyLemmas.{opens}
+use Rattle.tally.proofs.tally.Tally.new.Goals as goal
+
+pub of_words-requires : goal.of_words-requires
+of_words-requires g c = opens c.args.seats
+
+pub deal-requires-clause-parts : goal.deal-requires-clause-parts
+deal-requires-clause-parts g c = ?
+
+pub returns-clause-count : goal.returns-clause-count
+returns-clause-count g c = (refl, c.in_ok-made-2.ensures.count)
