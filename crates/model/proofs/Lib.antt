@@ -19,3 +19,5 @@ pub mod OldSlotsExact
 pub mod DestCount
 pub mod ClosedLemmas
 pub mod SpreadSame
+pub mod KeyLists
+pub mod Joined
