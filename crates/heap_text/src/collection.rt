@@ -3,7 +3,8 @@ ghost use Rattle.std.specs.Prelude.{◌≡◌, ◌+◌, ◌-◌, ◌^◌, ◌<�
 ghost use Rattle.std.specs.Io.KnownBytes.{Appends};
 ghost use Rattle.model.specs.Text.{collection_line};
 
-use crate::sink::{Sink, WriteError, write_all};
+use crate::error::WriteError;
+use byte_streams::{Sink, write_all};
 use std::alloc::{AllocError, Allocator};
 use std::fmt::Write;
 

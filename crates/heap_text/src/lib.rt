@@ -3,11 +3,12 @@
 
 mod census;
 mod collection;
+mod error;
 mod listing;
 mod numbering;
-mod sink;
 
+pub use byte_streams::{Counted, Sink, WriteFailed, write_all};
 pub use census::write_census;
 pub use collection::write_collection;
+pub use error::WriteError;
 pub use listing::{Name, write_heap};
-pub use sink::{Counted, Sink, WriteError, WriteFailed, write_all};

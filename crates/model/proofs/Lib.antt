@@ -18,3 +18,5 @@ pub mod Options
 pub mod Finds
 pub mod RisingKeys
 pub mod MapKeys
+pub mod KeyLists
+pub mod Joined

@@ -1,14 +1,9 @@
-pub mod Pieces
-pub mod Outcome
-pub mod Refusals
-pub mod Carried
-pub mod Stepped
-pub mod Faults
-pub mod FaultText
-pub mod Reading
-pub mod NamesView
-pub mod Stands
+-- What the program does, and how a run of a trace ends.
+pub use Rattle.trace_lines.specs.Pieces
+pub use Rattle.trace_lines.specs.Outcome
+pub use Rattle.trace_lines.specs.Refusals
+pub use Rattle.trace_lines.specs.Carried
+pub use Rattle.trace_lines.specs.Faults
+pub use Rattle.trace_lines.specs.FaultText
 pub mod RunValue
 pub mod Program
-pub mod Session
-pub mod Targets

@@ -4,9 +4,9 @@ use Rattle.std.specs.Io.KnownBytes.{Appends}
 use Rattle.model.specs.Config.{Config}
 use Rattle.model.specs.Commands.{Run}
 use Rattle.heap.specs.ConfigRange.{IsInRange}
-use Rattle.trace_driver.specs.Outcome.{outcome}
-use Rattle.trace_driver.specs.Carried.{Prints}
-use Rattle.trace_driver.specs.declared.command_line.Options.{Options}
+use Rattle.trace_lines.specs.Outcome.{outcome}
+use Rattle.trace_lines.specs.Carried.{Prints}
+use Rattle.command_line.specs.declared.words.Options.{Options}
 
 -- the sizes that were asked for
 abbrev pub config_of : Options → Config

@@ -1,22 +1,19 @@
 //! The whole program over memory: the words of a command line, and what is read and written.
 ghost use Rattle.std.specs.Prelude.{◌≡◌, ◌+◌, ◌-◌, ◌^◌, ◌<◌, ◌≤◌, ◌⊎◌, ◌↔◌, IfOk, IsOk};
 ghost use Rattle.std.specs.Io.KnownBytes.{Appends};
-ghost use Rattle.trace_driver.specs.Faults.{MatchFault};
-ghost use Rattle.trace_driver.specs.FaultText.{fault_line};
+ghost use Rattle.trace_lines.specs.Faults.{MatchFault};
+ghost use Rattle.trace_lines.specs.FaultText.{fault_line};
 ghost use Rattle.trace_driver.specs.Program.{config_of, AreInRange, EndsAs};
-ghost use Rattle.trace_driver.specs.declared.command_line.Options.{Options as Asked};
+ghost use Rattle.command_line.specs.declared.words.Options.{Options as Asked};
 
-use crate::command_line::{Options, read_words};
 use crate::config::RunConfig;
-use crate::fault::{Fault, write_fault};
 use crate::running::run;
-use crate::source::Source;
-use clap::Error;
-use clap::error::ErrorKind;
+use byte_streams::{Sink, Source, write_all};
+use command_line::{Options, Refused, read_words};
 use heap::{BadConfig, Config, Sizes};
-use heap_text::{Sink, write_all};
 use std::alloc::Global;
 use std::convert::AsStr;
+use trace_lines::{Fault, write_fault};
 
 fn run_config(options: &Options) -> Result<RunConfig, BadConfig>
     ensures ok { IfOk result (λ run. run.config ≡ config_of options.now) }
@@ -45,28 +42,25 @@ fn tell<E: Sink>(fault: &Fault, errors: &mut E) -> u8
     fault.status()
 }
 
-/// The status of a command line that isn't carried out, with what `clap` says of it: 0 for help, which goes to
-/// `writer`, and 3 for a mistake in the words.
-fn refuse<W: Sink, E: Sink>(alloc: Global, error: &Error, writer: &mut W, errors: &mut E) -> u8
+/// The status of a command line that isn't carried out: 0 for help, which goes to `writer`, and 3 for a mistake in the
+/// words, of which `errors` is told.
+fn refuse<W: Sink, E: Sink>(refused: &Refused, writer: &mut W, errors: &mut E) -> u8
     requires writable { W.failed_writes writer.old < 2 ^ 64 - 1 }
     requires tellable { E.failed_writes errors.old < 2 ^ 64 - 1 }
     ensures status { result ≤ 4 }
     ensures writes { W.failed_writes writer.new ≤ W.failed_writes writer.old + 1 }
     ensures error_writes { E.failed_writes errors.new ≤ E.failed_writes errors.old + 1 }
 {
-    if error.kind() == ErrorKind::OutOfMemory {
-        return tell(&Fault::NoMemory(None), errors);
-    }
-    let Ok(text) = format!(in alloc; "{error}") else {
-        return tell(&Fault::NoMemory(None), errors);
-    };
-    if error.use_stderr() {
-        let _ = write_all(errors, text.as_bytes());
-        return 3;
-    }
-    match write_all(writer, text.as_bytes()) {
-        Ok(()) => 0,
-        Err(_) => tell(&Fault::WriteFailed, errors),
+    match refused {
+        Refused::Help(text) => match write_all(writer, text.as_bytes()) {
+            Ok(()) => 0,
+            Err(_) => tell(&Fault::WriteFailed, errors),
+        },
+        Refused::Usage(text) => {
+            let _ = write_all(errors, text.as_bytes());
+            3
+        }
+        Refused::NoMemory => tell(&Fault::NoMemory(None), errors),
     }
 }
 
@@ -123,6 +117,6 @@ pub fn main_with<T: AsStr, S: Source, W: Sink, E: Sink>(
 {
     match read_words(alloc, words) {
         Ok(options) => run_with(alloc, &options, reader, writer, errors),
-        Err(error) => refuse(alloc, &error, writer, errors),
+        Err(refused) => refuse(&refused, writer, errors),
     }
 }

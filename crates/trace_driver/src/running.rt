@@ -1,22 +1,19 @@
 //! A run from bytes to bytes.
 ghost use Rattle.std.specs.Prelude.{◌≡◌, ℕ, ◌+◌, ◌-◌, ◌^◌, ◌<◌, ◌≤◌, ◌⊎◌, ◌*◌, None, Some, length, MatchOption, IfSome, IfOk, OnOk, IfErr};
-ghost use Rattle.trace_driver.specs.Faults.{MatchFault};
-ghost use Rattle.trace_driver.specs.Outcome.{outcome_from, outcome};
-ghost use Rattle.trace_driver.specs.Pieces.{HasNoFeed, pieces};
-ghost use Rattle.trace_driver.specs.Refusals.{IsSound, MayBeFull};
-ghost use Rattle.trace_driver.specs.Carried.{StopsAt, LeavesBefore, LeavesOutput, Prints, PrintsFront};
-ghost use Rattle.trace_driver.specs.Stepped.{AtEach, CarriesOutTo};
-ghost use Rattle.trace_driver.specs.Session.{Stands};
+ghost use Rattle.trace_lines.specs.Faults.{MatchFault};
+ghost use Rattle.trace_lines.specs.Outcome.{outcome_from, outcome};
+ghost use Rattle.trace_lines.specs.Pieces.{HasNoFeed, pieces};
+ghost use Rattle.trace_lines.specs.Refusals.{IsSound, MayBeFull};
+ghost use Rattle.trace_lines.specs.Carried.{StopsAt, LeavesBefore, LeavesOutput, Prints, PrintsFront};
+ghost use Rattle.trace_lines.specs.Stepped.{AtEach, CarriesOutTo};
+ghost use Rattle.trace_session.specs.Session.{Stands};
 
 use crate::config::RunConfig;
-use crate::fault::Fault;
-use crate::lines::split_line;
-use crate::reading::read_all;
-use crate::session::Session;
-use crate::source::Source;
-use crate::step::carry_out;
-use heap_text::Sink;
+use byte_streams::{Sink, Source};
 use std::alloc::Allocator;
+use trace_lines::{Fault, read_all, split_line};
+use trace_session::Session;
+use trace_step::carry_out;
 use trace_text::Kind;
 
 /// The most bytes that a line has before its line feed.

@@ -8,6 +8,3 @@ mod words;
 pub use form::parse;
 pub use line::Line;
 pub use model::{Command, Kind};
-
-#[cfg(test)]
-mod tests;

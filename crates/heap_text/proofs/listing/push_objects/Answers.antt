@@ -2,7 +2,7 @@ use Rattle.std.proofs.Common.{map}
 use Rattle.model.specs.Graph.{object_at}
 use Rattle.model.specs.Text.{object_line}
 use Rattle.layout.specs.Place.{place_word}
-use Rattle.heap_text.proofs.Joined.{written_all}
+use Rattle.model.proofs.Joined.{written_all}
 use Rattle.heap_text.proofs.Pointed.{has_word}
 use Rattle.heap_text.proofs.listing.push_objects.Goals as goal
 

@@ -2,7 +2,7 @@ use Rattle.std.proofs.Common.{map, ap, ◌∙◌, arith}
 use Rattle.model.specs.Text.{pointer_text}
 use Rattle.layout.specs.Place.{place_word}
 use Rattle.heap.specs.Words.{target_of_word}
-use Rattle.heap_text.proofs.Joined.{joined_first, joined_next, joined_all}
+use Rattle.model.proofs.Joined.{joined_first, joined_next, joined_all}
 use Rattle.heap_text.proofs.listing.push_pointers.Goals as goal
 use Rattle.heap_text.proofs.listing.push_pointers.Goals.{then-i-gt0+in_ok-write, else-i-gt0}
 

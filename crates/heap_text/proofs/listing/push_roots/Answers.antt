@@ -3,7 +3,7 @@ use Rattle.std.specs.Prelude.{flat_map}
 use Rattle.model.specs.Text.{root_line}
 use Rattle.layout.specs.Place.{place_word}
 use Rattle.heap_text.specs.HeapLines.{name_value, object_of_name}
-use Rattle.heap_text.proofs.Joined.{written_all, map_twice}
+use Rattle.model.proofs.Joined.{written_all, map_twice}
 use Rattle.heap_text.proofs.listing.push_roots.Goals as goal
 
 pub returns : goal.returns

@@ -1,6 +1,6 @@
 use Rattle.std.proofs.Common.{ap, ◌∙◌, arith}
 use Rattle.std.specs.Prelude.{decimal}
-use Rattle.heap_text.proofs.Joined.{joined_first, joined_next}
+use Rattle.model.proofs.Joined.{joined_first, joined_next}
 use Rattle.heap_text.proofs.listing.push_words.Goals as goal
 use Rattle.heap_text.proofs.listing.push_words.Goals.{then-i-gt0+in_ok-write, else-i-gt0}
 

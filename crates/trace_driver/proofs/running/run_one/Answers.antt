@@ -1,8 +1,8 @@
 use Rattle.std.proofs.Common.{◌≡◌, subst, sym}
 use Rattle.std.specs.Prelude.{IfSome}
 use Rattle.model.specs.Store.{empty_store}
-use Rattle.trace_driver.specs.Session.{Stands}
-use Rattle.trace_driver.proofs.FaultLemmas.{run_faults}
+use Rattle.trace_session.specs.Session.{Stands}
+use Rattle.trace_lines.proofs.FaultLemmas.{run_faults}
 use Rattle.trace_driver.proofs.running.run_one.Goals as goal
 
 pub returns-clause-err : goal.returns-clause-err

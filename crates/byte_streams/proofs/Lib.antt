@@ -1,0 +1,2 @@
+-- Lemmas on what was written so far.
+pub mod Growing

@@ -1,0 +1,6 @@
+//! The words of a command line. It knows no heap and no trace.
+#![tactic(auto)]
+
+mod words;
+
+pub use words::{Options, Refused, read_words};

@@ -1,0 +1,109 @@
+//! The words of a command line.
+use clap::error::ErrorKind;
+use clap::{Arg, ArgMatches, Command, Error, value_parser};
+use std::alloc::{AllocError, Global};
+use std::convert::AsStr;
+
+/// The numbers that a command line gives, in no particular range.
+#[derive(Clone, Copy, Debug)]
+pub struct Options {
+    pub threads: u64,
+    pub mutators: u64,
+    pub generations: u64,
+    pub steps: u64,
+    pub block_words: u64,
+    pub nursery: u64,
+    pub blocks: u64,
+}
+
+/// Why the words ask for no run, with what is to be told of it.
+#[derive(Debug, Drop)]
+pub enum Refused {
+    /// They ask for this help.
+    Help(String),
+    /// There is a mistake in them.
+    Usage(String),
+    NoMemory,
+}
+
+/// An option with one whole number.
+fn number_option<'a>(alloc: Global, name: &'a str, default: &'a str) -> Arg<'a> {
+    Arg::new(alloc, name)
+        .long(name)
+        .value_parser(value_parser!(u64))
+        .default_value(default)
+}
+
+/// The kind of forwarding cells; there is one kind so far.
+fn cells_option<'a>(alloc: Global) -> Arg<'a> {
+    Arg::new(alloc, "cells")
+        .long("cells")
+        .value_parser(["box"].as_slice())
+        .default_value("box")
+}
+
+fn run_command<'a>(alloc: Global) -> Result<Command<'a>, AllocError> {
+    Command::new(alloc, "run")
+        .arg(number_option(alloc, "threads", "1"))?
+        .arg(number_option(alloc, "mutators", "1"))?
+        .arg(number_option(alloc, "generations", "2"))?
+        .arg(number_option(alloc, "steps", "2"))?
+        .arg(number_option(alloc, "block-words", "512"))?
+        .arg(number_option(alloc, "nursery", "4"))?
+        .arg(number_option(alloc, "blocks", "4096"))?
+        .arg(cells_option(alloc))
+}
+
+fn gctrace_command<'a>(alloc: Global) -> Result<Command<'a>, AllocError> {
+    Command::new(alloc, "gctrace")
+        .subcommand_required(true)
+        .subcommand(run_command(alloc)?)
+}
+
+fn options_of(matches: &ArgMatches<'_>) -> Option<Options> {
+    Some(Options {
+        threads: matches.get_one::<u64>("threads")?,
+        mutators: matches.get_one::<u64>("mutators")?,
+        generations: matches.get_one::<u64>("generations")?,
+        steps: matches.get_one::<u64>("steps")?,
+        block_words: matches.get_one::<u64>("block-words")?,
+        nursery: matches.get_one::<u64>("nursery")?,
+        blocks: matches.get_one::<u64>("blocks")?,
+    })
+}
+
+/// What the words ask for, or the mistake in them as `clap` tells of it.
+fn parsed_words<'a, T: AsStr>(alloc: Global, words: &'a [T]) -> Result<Options, Error> {
+    let mut command = gctrace_command(alloc)?;
+    let matches = command.try_get_matches_from_mut(words)?;
+    match matches
+        .subcommand()
+        .and_then(|(_name, inner)| options_of(inner))
+    {
+        Some(options) => Ok(options),
+        // Each option has a default, so that it has a value.
+        None => Err(command.error(ErrorKind::MissingSubcommand, "a subcommand is wanted")?),
+    }
+}
+
+fn refused_by(alloc: Global, error: &Error) -> Refused {
+    if error.kind() == ErrorKind::OutOfMemory {
+        return Refused::NoMemory;
+    }
+    let Ok(text) = format!(in alloc; "{error}") else {
+        return Refused::NoMemory;
+    };
+    if error.use_stderr() {
+        Refused::Usage(text)
+    } else {
+        Refused::Help(text)
+    }
+}
+
+/// What the words ask for, the first being the program's name, or why they can't be carried out.
+pub fn read_words<'a, T: AsStr>(alloc: Global, words: &'a [T]) -> Result<Options, Refused> {
+    match parsed_words(alloc, words) {
+        Ok(options) => Ok(options),
+        Err(error) => Err(refused_by(alloc, &error)),
+    }
+}

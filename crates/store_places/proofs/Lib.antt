@@ -1,0 +1,14 @@
+-- A store and the heap that stands for it, after each change of both.
+pub mod StoreObjects
+pub mod PlacedNew
+pub mod NamedNew
+pub mod NamedDropped
+pub mod StoreLists
+pub mod LiveSame
+pub mod PlacedCollected
+pub mod PresentLists
+pub mod CountsSame
+pub mod PlacedChanged
+pub mod FieldLemmas
+pub mod NamesSame
+pub mod TextSame

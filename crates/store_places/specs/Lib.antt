@@ -1,0 +1,2 @@
+-- What it means that a heap and its named roots stand for a store.
+pub mod Stands

@@ -1,0 +1,9 @@
+-- What a trace prints, line by line, and why a run of it stops.
+pub mod Pieces
+pub mod Outcome
+pub mod Refusals
+pub mod Carried
+pub mod Stepped
+pub mod Faults
+pub mod FaultText
+pub mod Reading

@@ -1,0 +1,5 @@
+-- Lemmas on the names in use.
+pub mod NamedLemmas
+pub mod NameLists
+pub mod NamesLemmas
+pub mod NamesOrder

@@ -1,0 +1,2 @@
+-- What the names in use are.
+pub mod NamesView

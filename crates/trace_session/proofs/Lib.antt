@@ -1,0 +1,3 @@
+-- What the commands on objects and fields do to a session.
+pub mod SessionSteps
+pub mod FieldSteps

@@ -1,0 +1,143 @@
+-- What a new object and a dropped name do to a session that stands for a store.
+use Rattle.std.proofs.Common.{◌≡◌, ℕ, ◌+◌, ◌<◌, Bool, true, false, ◌||◌, List, [], length, Option, Some, None, Ok, Err, refl, sym, ap, subst}
+use Rattle.std.specs.Prelude.{nat_lt, is_some, slice_set}
+use Rattle.std.specs.Option.{option_map}
+use Rattle.std.specs.Ordering.{nat_cmp}
+use Rattle.std.specs.FinMap.{get-empty, len-empty}
+use Rattle.std.proofs.lemmas.Bool.{true≢false, lt-ltb}
+use Rattle.model.specs.declared.kind.Kind.TheVariants.{NameInUse}
+use Rattle.model.specs.Graph.{Graph, root_at, without_root}
+use Rattle.model.specs.Config.{Config}
+use Rattle.model.specs.Room.{Room}
+use Rattle.model.specs.Store.{Store, empty_store}
+use Rattle.model.specs.Commands.{New, Drop, room_in, is_large_size, is_too_big, with_new, with_room, without_name}
+use Rattle.heap.specs.HeapValue.{HeapValue, empty_heap}
+use Rattle.heap.specs.Commands.{Allocates}
+use Rattle.heap.specs.Commands as commands
+use Rattle.heap_data.specs.declared.root_id.RootId.{RootId}
+use Rattle.trace_lines.specs.Outcome.{command_step}
+use Rattle.trace_lines.specs.Stepped.{StepsQuietly}
+use Rattle.trace_names.specs.NamesView.{named}
+use Rattle.store_places.specs.Stands.{StandsFor, IsPlaced, IsNamed}
+use Rattle.trace_names.proofs.NamedLemmas.{added, dropped, none_is_some}
+use Rattle.store_places.proofs.PlacedNew.{placed_new, place_with}
+use Rattle.store_places.proofs.NamedNew.{named_new}
+use Rattle.store_places.proofs.NamedDropped.{named_dropped}
+
+-- a heap without objects and no names stand for the store without objects
+pub StandsFor-empty : (config : Config) (heap : HeapValue) (names : List (List ℕ × ℕ)) → heap ≡ empty_heap config → names ≡ [] → StandsFor heap names config (empty_store config)
+StandsFor-empty config heap names heap_is names_are =
+    subst (λ n. StandsFor heap n config (empty_store config)) (sym names_are)
+    (subst (λ h. StandsFor h [] config (empty_store config)) (sym heap_is)
+    (record {
+      config_is = refl;
+      rooms_are = refl;
+      place = λ n. n;
+      placed = record {
+        objects = λ name o there. let none : None ≡ Some o = there in absurd (cc);
+        no_others = λ at o there. none_is_some _ o (get-empty nat_cmp at) there;
+        one_to_one = λ a b o p at_a at_b same. same;
+        closed = λ name target o there points. let none : None ≡ Some o = there in absurd (cc);
+      };
+      names_are = record {
+        leads = λ text root found. let none : None ≡ Some root = found in absurd (cc);
+        free = λ text none. refl;
+        apart = λ s t root found_s found_t. let none : None ≡ Some root = found_s in absurd (cc);
+        no_others = λ root target leads. none_is_some _ target (get-empty nat_cmp root) leads;
+        sorted = refl;
+        count = len-empty nat_cmp ℕ;
+      };
+    }))
+
+-- rooms have no part in what names and objects are
+IsPlaced-other : (store : Store) (place : ℕ → ℕ) (heap : Graph) (names : List (List ℕ × ℕ)) (rooms : List Room) (other : Graph) → IsPlaced store place heap → other.objects ≡ heap.objects → IsPlaced (record store { names = names; rooms = rooms }) place other
+IsPlaced-other store place heap names rooms other placed same = record {
+  objects = λ name o there. rw same (placed.objects name o there);
+  no_others = λ at o there. placed.no_others at o (rw same at there);
+  one_to_one = placed.one_to_one;
+  closed = placed.closed;
+}
+
+IsNamed-rooms : (store : Store) (place : ℕ → ℕ) (heap : Graph) (names : List (List ℕ × ℕ)) (rooms : List Room) → IsNamed store place heap names → IsNamed (record store { rooms = rooms }) place heap names
+IsNamed-rooms store place heap names rooms before = record {
+  leads = λ text root found. let l = before.leads text root found in record { name = l.name; object = l.object; named_is = l.named_is; there = l.there; root_is = l.root_is };
+  free = before.free;
+  apart = before.apart;
+  no_others = before.no_others;
+  sorted = before.sorted;
+  count = before.count;
+}
+
+-- a name is in use in the session exactly where it is in the store
+pub root_known : (r : Option RootId) (names : List (List ℕ × ℕ)) (text : List ℕ) → option_map (λ (x : RootId). x.number) r ≡ named names text → is_some r ≡ true → (root : ℕ) × (named names text ≡ Some root)
+root_known None names text is known = absurd (true≢false (sym known))
+root_known (Some r) names text is known = (r.number, sym is)
+
+pub root_unknown : (r : Option RootId) (names : List (List ℕ × ℕ)) (text : List ℕ) → option_map (λ (x : RootId). x.number) r ≡ named names text → is_some r ≡ false → named names text ≡ None
+root_unknown None names text is unknown = sym is
+root_unknown (Some r) names text is unknown = absurd (true≢false unknown)
+
+module _ (heap : HeapValue) (names : List (List ℕ × ℕ)) (config : Config) (store : Store) (stands : StandsFor heap names config store) where
+  pub name_in_use : (text : List ℕ) (m p q root : ℕ) → named names text ≡ Some root → command_step config store (New text m p q) ≡ Err NameInUse
+  name_in_use text m p q root found =
+      let leads = stands.names_are.leads text root found in
+      rw leads.named_is refl
+
+  new_step : (text : List ℕ) (m p q : ℕ) (room : Room) → named store.names text ≡ None → m < config.mutators → is_too_big p q ≡ false → is_large_size config (1 + p + q) ≡ false → room_in config m (1 + p + q) store ≡ Some room → command_step config store (New text m p q) ≡ Ok (with_new text p q (with_room m room store), [])
+  new_step text m p q room free in_range fits small has_room =
+      let known : nat_lt m config.mutators ≡ true = lt-ltb m config.mutators in_range in
+      rw (free, known, fits, small, has_room, small) refl
+
+  pub steps_new : (text : List ℕ) (m p q root : ℕ) (heap' : HeapValue) (names' : List (List ℕ × ℕ)) → named names text ≡ None → Allocates heap m p q root heap' → names' ≡ added names text root → m < heap.config.mutators → commands.is_too_big heap p q ≡ false → StepsQuietly (StandsFor heap' names') config (command_step config store (New text m p q))
+  steps_new text m p q root heap' names' free allocates names_are in_range small =
+      let room = allocates.room in
+      let next : Store = with_new text p q (with_room m room store) in
+      let has_room : room_in config m (1 + p + q) store ≡ Some room = rw (← stands.config_is, ← stands.rooms_are) allocates.has_room in
+      let parts : ((is_too_big p q) || is_large_size heap.config (1 + p + q)) ≡ false = small in
+      let fits : is_too_big p q ≡ false = or_left_false (is_too_big p q) (is_large_size heap.config (1 + p + q)) parts in
+      let not_large : is_large_size config (1 + p + q) ≡ false = rw (← stands.config_is) (or_right_false (is_too_big p q) (is_large_size heap.config (1 + p + q)) parts) in
+      let placed = placed_new store stands.place heap.graph stands.placed p q allocates.name allocates.new_name in
+      let are_named = named_new store stands.place heap.graph names stands.placed stands.names_are p q allocates.name allocates.new_name root allocates.new_root text free in
+      record {
+        next = next;
+        steps = new_step text m p q room (stands.names_are.free text free) (rw (← stands.config_is) in_range) fits not_large has_room;
+        stands' =
+            subst (λ n. StandsFor heap' n config next) (sym names_are)
+            (subst (λ h. StandsFor h (added names text root) config next) (sym allocates.change)
+            (record {
+              config_is = stands.config_is;
+              rooms_are = ap (λ rooms. slice_set rooms m room) stands.rooms_are;
+              place = place_with stands.place (length store.objects) allocates.name;
+              placed = IsPlaced-other _ _ _ _ _ _ placed refl;
+              names_are = IsNamed-rooms _ _ _ _ _ are_named;
+            }));
+      }
+    where
+      or_left_false : (a b : Bool) → (a || b) ≡ false → a ≡ false
+      or_left_false true b e = absurd (true≢false e)
+      or_left_false false b e = refl
+
+      or_right_false : (a b : Bool) → (a || b) ≡ false → b ≡ false
+      or_right_false true b e = absurd (true≢false e)
+      or_right_false false b e = e
+
+  pub steps_drop : (text : List ℕ) (root : ℕ) (heap' : HeapValue) (names' : List (List ℕ × ℕ)) → named names text ≡ Some root → heap' ≡ record heap { graph = without_root heap.graph root } → names' ≡ dropped names text → StepsQuietly (StandsFor heap' names') config (command_step config store (Drop text))
+  steps_drop text root heap' names' used heap_is names_are =
+      let leads = stands.names_are.leads text root used in
+      record {
+        next = without_name text store;
+        steps = rw leads.named_is refl;
+        stands' =
+            subst (λ n. StandsFor heap' n config (without_name text store)) (sym names_are)
+            (subst (λ h. StandsFor h (dropped names text) config (without_name text store)) (sym heap_is)
+            (record {
+              config_is = stands.config_is;
+              rooms_are = stands.rooms_are;
+              place = stands.place;
+              placed = IsPlaced-other _ _ _ _ _ _ stands.placed refl;
+              names_are = named_dropped store stands.place heap.graph names stands.names_are text root used;
+            }));
+      }
+
+  pub root_there : (text : List ℕ) (root : ℕ) → named names text ≡ Some root → is_some (root_at heap.graph root) ≡ true
+  root_there text root used = ap is_some (stands.names_are.leads text root used).root_is

@@ -1,0 +1,12 @@
+use Rattle.std.proofs.Common.{refl, sym}
+use Rattle.std.proofs.lemmas.Bool.{true≢false}
+use Rattle.trace_session.proofs.SessionSteps.{steps_drop, root_there}
+use Rattle.trace_session.proofs.session.Session.remove.Goals as goal
+
+pub returns-in-Ok-clause-ok : goal.returns-in-Ok-clause-ok
+returns-in-Ok-clause-ok g c = λ config store stands.
+    steps_drop _ _ config store stands c.args.name.now c.in-Some.root.number _ _ (sym c.in-Some.ensures.root) c.in-Ok.ensures.ok c.remove.ensures.names
+
+pub returns-in-Err-clause-err : goal.returns-in-Err-clause-err
+returns-in-Err-clause-err g c =
+    (refl, λ config store stands. absurd (true≢false (sym (c.in-Err.ensures.known.1 (root_there _ _ config store stands c.args.name.now c.in-Some.root.number (sym c.in-Some.ensures.root))))))

@@ -1,0 +1,3 @@
+-- What a session stands for.
+pub mod Session
+pub mod Targets

@@ -1,0 +1,100 @@
+//! Writes to the fields of the objects that names lead to.
+ghost use Rattle.std.specs.Prelude.{◌≡◌, ◌↔◌, Some, Err, OnOk, IfOk, IfErr, IsTrue};
+ghost use Rattle.std.specs.Option.{option_map};
+ghost use Rattle.model.specs.Commands.{Set, Put, target_of};
+ghost use Rattle.heap.specs.Commands.{HasPointer};
+ghost use Rattle.trace_lines.specs.Faults.{MatchFault};
+ghost use Rattle.trace_lines.specs.Outcome.{command_step};
+ghost use Rattle.trace_lines.specs.Refusals.{IsSoundCommand};
+ghost use Rattle.trace_session.specs.Session.{Stands};
+ghost use Rattle.trace_lines.specs.Stepped.{AtEach, StepsQuietly};
+ghost use Rattle.trace_session.specs.Targets.{IsRootOf, IsUnknown};
+
+use crate::session::Session;
+use heap::{FieldError, Heap, RootId, StoreError};
+use model::Kind;
+use std::alloc::Allocator;
+use trace_lines::Fault;
+
+/// Whether the root's object has a pointer of that number.
+fn has_pointer<A: Allocator + Clone>(heap: &Heap<A>, root: RootId, field: u64) -> bool
+    ensures { IsTrue result ↔ HasPointer heap.now.graph root.number field }
+{
+    let Some(place) = heap.target(root) else {
+        return false;
+    };
+    match heap.object(place) {
+        Some(object) => field < object.pointers.len() as u64,
+        None => false,
+    }
+}
+
+impl<A: Allocator + Clone> Session<A> {
+    /// The root of a target's name, or none for nil. The fault says that the name is not in use.
+    fn target_root(&self, target: Option<&[u8]>) -> Result<Option<RootId>, Kind>
+        ensures ok { IfOk result (λ root. IsRootOf self.now.names (target_of (λ x. x.now) target.entry) (option_map (λ r. r.number) root)) }
+        ensures err { IfErr result (λ kind. (kind ≡ Kind.UnknownName) × IsUnknown self.now.names (target_of (λ x. x.now) target.entry)) }
+    {
+        match target {
+            None => Ok(None),
+            Some(name) => match self.names.get(name) {
+                Some(root) => Ok(Some(root)),
+                None => Err(Kind::UnknownName),
+            },
+        }
+    }
+
+    /// Pointer `field` of the name's object leads to the target's object from now on, or is nil.
+    pub fn set(
+        &mut self,
+        number: u128,
+        name: &[u8],
+        field: u64,
+        target: Option<&[u8]>,
+    ) -> Result<(), Fault>
+        ensures ok { OnOk result (AtEach (Stands self.old) (λ config store.
+            StepsQuietly (Stands self.new) config (command_step config store (Set name.now field (target_of (λ x. x.now) target.entry))))) }
+        ensures err { IfErr result (λ e. MatchFault e
+            (λ at kind. (at ≡ number) × AtEach (Stands self.old) (λ config store. command_step config store (Set name.now field (target_of (λ x. x.now) target.entry)) ≡ Err kind))
+            (λ _. ⊥)
+            (λ at. (at ≡ Some number) × AtEach (Stands self.old) (λ config store. IsSoundCommand config store (Set name.now field (target_of (λ x. x.now) target.entry))))
+            ⊥ ⊥) }
+    {
+        let Some(holder) = self.names.get(name) else {
+            return Err(Fault::BadTrace(number, Kind::UnknownName));
+        };
+        let value = match self.target_root(target) {
+            Ok(value) => value,
+            Err(kind) => {
+                if has_pointer(&self.heap, holder, field) {
+                    return Err(Fault::BadTrace(number, kind));
+                }
+                return Err(Fault::BadTrace(number, Kind::NoField));
+            }
+        };
+        match self.heap.store(holder, field, value) {
+            Ok(()) => Ok(()),
+            Err(StoreError::NoRoot) => Err(Fault::BadTrace(number, Kind::UnknownName)),
+            Err(StoreError::BadField) => Err(Fault::BadTrace(number, Kind::NoField)),
+            Err(StoreError::NoMemory) => Err(Fault::NoMemory(Some(number))),
+        }
+    }
+
+    /// Plain word `field` of the name's object is the value from now on.
+    pub fn put(&mut self, number: u128, name: &[u8], field: u64, value: u64) -> Result<(), Fault>
+        ensures ok { OnOk result (AtEach (Stands self.old) (λ config store.
+            StepsQuietly (Stands self.new) config (command_step config store (Put name.now field value)))) }
+        ensures err { IfErr result (λ e. MatchFault e
+            (λ at kind. (at ≡ number) × AtEach (Stands self.old) (λ config store. command_step config store (Put name.now field value) ≡ Err kind))
+            (λ _. ⊥) (λ _. ⊥) ⊥ ⊥) }
+    {
+        let Some(root) = self.names.get(name) else {
+            return Err(Fault::BadTrace(number, Kind::UnknownName));
+        };
+        match self.heap.put(root, field, value) {
+            Ok(()) => Ok(()),
+            Err(FieldError::NoRoot) => Err(Fault::BadTrace(number, Kind::UnknownName)),
+            Err(FieldError::BadField) => Err(Fault::BadTrace(number, Kind::NoField)),
+        }
+    }
+}

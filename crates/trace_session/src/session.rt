@@ -1,0 +1,104 @@
+//! What a run keeps between lines.
+ghost use Rattle.std.specs.Prelude.{◌≡◌, ◌+◌, ◌*◌, ◌<◌, ◌≤◌, ◌++◌, [], Some, None, Err, IfOk, OnOk, IfErr};
+ghost use Rattle.model.specs.Store.{empty_store};
+ghost use Rattle.model.specs.Commands.{New, Drop};
+ghost use Rattle.trace_lines.specs.Faults.{MatchFault};
+ghost use Rattle.trace_lines.specs.Outcome.{command_step};
+ghost use Rattle.trace_lines.specs.Refusals.{IsSoundCommand, CommandMayBeFull};
+ghost use Rattle.trace_lines.specs.Stepped.{AtEach, StepsQuietly};
+
+use heap::{AllocateError, Config, Heap, MakeError};
+use model::Kind;
+use std::alloc::{Allocator, Global};
+use trace_lines::Fault;
+use trace_names::Names;
+
+/// A heap, and the names that lead into it. It isn't used again after a fault.
+#[derive(Drop)]
+pub struct Session<A: Allocator = Global> {
+    /// The objects.
+    pub heap: Heap<A>,
+    /// What each name leads to.
+    pub names: Names<A>,
+    /// For what a line needs beside the heap.
+    pub alloc: A,
+}
+
+impl<A: Allocator + Clone> Session<A> {
+    ghost use Rattle.trace_session.specs.Session.{Stands};
+
+    /// A heap without objects, and no names.
+    pub fn new(alloc: A, config: Config) -> Result<Session<A>, Fault>
+        ensures ok { IfOk result (λ session. Stands session config (empty_store config)) }
+        ensures err { IfErr result (λ e. MatchFault e (λ _ _. ⊥)
+            (λ at. (at ≡ None) × (config.blocks < config.mutators * config.nursery_blocks))
+            (λ at. at ≡ None) ⊥ ⊥) }
+    {
+        let Ok(heap_alloc) = alloc.clone() else {
+            return Err(Fault::NoMemory(None));
+        };
+        let Ok(names_alloc) = alloc.clone() else {
+            return Err(Fault::NoMemory(None));
+        };
+        let heap = match Heap::new(heap_alloc, config) {
+            Ok(heap) => heap,
+            Err(MakeError::HeapFull) => return Err(Fault::HeapFull(None)),
+            Err(MakeError::NoMemory) => return Err(Fault::NoMemory(None)),
+        };
+        let names = Names::new(names_alloc);
+        Ok(Session { heap, names, alloc })
+    }
+
+    /// A new object, to which a free name leads.
+    pub fn add(
+        &mut self,
+        number: u128,
+        name: &[u8],
+        mutator: u64,
+        pointers: u64,
+        plain: u64,
+    ) -> Result<(), Fault>
+        ensures ok { OnOk result (AtEach (Stands self.old) (λ config store.
+            StepsQuietly (Stands self.new) config (command_step config store (New name.now mutator pointers plain)))) }
+        ensures err { IfErr result (λ e. MatchFault e
+            (λ at kind. (at ≡ number) × AtEach (Stands self.old) (λ config store. command_step config store (New name.now mutator pointers plain) ≡ Err kind))
+            (λ at. (at ≡ Some number) × AtEach (Stands self.old) (λ config store. CommandMayBeFull config store (New name.now mutator pointers plain)))
+            (λ at. (at ≡ Some number) × AtEach (Stands self.old) (λ config store. IsSoundCommand config store (New name.now mutator pointers plain)))
+            ⊥ ⊥) }
+    {
+        if self.names.get(name).is_some() {
+            return Err(Fault::BadTrace(number, Kind::NameInUse));
+        }
+        let root = match self.heap.allocate(mutator, pointers, plain) {
+            Ok(root) => root,
+            Err(AllocateError::NoMutator) => return Err(Fault::BadTrace(number, Kind::NoMutator)),
+            Err(AllocateError::TooBig) => return Err(Fault::BadTrace(number, Kind::TooBig)),
+            Err(AllocateError::NurseryFull) => return Err(Fault::HeapFull(Some(number))),
+            Err(AllocateError::NoMemory) => return Err(Fault::NoMemory(Some(number))),
+        };
+        let Ok(alloc) = self.alloc.clone() else {
+            return Err(Fault::NoMemory(Some(number)));
+        };
+        match self.names.insert(alloc, name, root) {
+            Ok(()) => Ok(()),
+            Err(_) => Err(Fault::NoMemory(Some(number))),
+        }
+    }
+
+    /// The name leads to nothing any more.
+    pub fn remove(&mut self, number: u128, name: &[u8]) -> Result<(), Fault>
+        ensures ok { OnOk result (AtEach (Stands self.old) (λ config store.
+            StepsQuietly (Stands self.new) config (command_step config store (Drop name.now)))) }
+        ensures err { IfErr result (λ e. MatchFault e
+            (λ at kind. (at ≡ number) × AtEach (Stands self.old) (λ config store. command_step config store (Drop name.now) ≡ Err kind))
+            (λ _. ⊥) (λ _. ⊥) ⊥ ⊥) }
+    {
+        let Some(root) = self.names.remove(name) else {
+            return Err(Fault::BadTrace(number, Kind::UnknownName));
+        };
+        match self.heap.release(root) {
+            Ok(()) => Ok(()),
+            Err(_) => Err(Fault::BadTrace(number, Kind::UnknownName)),
+        }
+    }
+}

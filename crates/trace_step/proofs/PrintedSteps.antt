@@ -1,0 +1,55 @@
+-- What a census and a collection do to a session that stands for a store.
+use Rattle.std.proofs.Common.{◌≡◌, ℕ, ◌<◌, true, List, Option, refl, ap, subst, ◌∙◌, codes}
+use Rattle.std.specs.Prelude.{nat_lt}
+use Rattle.std.specs.Io.KnownBytes.{Appends}
+use Rattle.std.proofs.lemmas.Bool.{lt-ltb}
+use Rattle.model.specs.Config.{Config}
+use Rattle.model.specs.Collected.{Collected}
+use Rattle.model.specs.Text.{census_text, collection_line}
+use Rattle.model.specs.Store.{Store, full_rooms, collected, kept_count, freed_count, store_census}
+use Rattle.model.specs.Commands.{Collect, Census}
+use Rattle.heap.specs.HeapValue.{HeapValue}
+use Rattle.heap.specs.Commands.{heap_census}
+use Rattle.heap.specs.CollectionValue.{young_names}
+use Rattle.heap.specs.ReportValue.{WorkerLists, renaming_of}
+use Rattle.collector.specs.Collects.{CollectsAlone}
+use Rattle.trace_lines.specs.Outcome.{command_step}
+use Rattle.trace_lines.specs.Stepped.{StepsTo}
+use Rattle.store_places.specs.Stands.{StandsFor}
+use Rattle.store_places.proofs.PlacedCollected.{placed_collected, named_collected, place'}
+use Rattle.store_places.proofs.CountsSame.{same_census, kept_is, freed_is}
+
+module _ (heap : HeapValue) (names : List (List ℕ × ℕ)) (config : Config) (store : Store) (stands : StandsFor heap names config store) where
+  pub steps_census : (old new : Option (List ℕ)) → Appends old new (census_text (heap_census heap)) → StepsTo (StandsFor heap names) config (command_step config store Census) old new
+  steps_census old new held =
+      let same : heap_census heap ≡ store_census config store = ap (λ c. heap_census (record heap { config = c })) stands.config_is ∙ same_census store stands.place heap.graph stands.placed config _ stands.names_are.count in
+      record {
+        next = store;
+        out = census_text (store_census config store);
+        steps = refl;
+        stands' = stands;
+        held = subst (λ c. Appends old new (census_text c)) same held;
+      }
+
+  pub steps_collect : (g kept freed : ℕ) (workers : List WorkerLists) (heap' : HeapValue) (old new : Option (List ℕ)) → CollectsAlone heap g kept freed workers heap' → g < heap.config.shape.generations → Appends old new (collection_line (codes "collected") g kept freed) → StepsTo (StandsFor heap' names) config (command_step config store (Collect g)) old new
+  steps_collect g kept freed workers heap' old new collects in_range held =
+      let known : nat_lt g config.shape.generations ≡ true = lt-ltb g config.shape.generations (rw (← stands.config_is) in_range) in
+      let kept_same = kept_is store stands.place heap.graph names stands.placed stands.names_are g kept collects.kept_is in
+      let freed_same = freed_is store stands.place heap.graph names stands.placed stands.names_are g kept freed collects.kept_is collects.freed_is in
+      let places = renaming_of (young_names heap.graph g) collects.lists.won in
+      let moved = subst (λ c. Collected c.shape c.block_words heap.graph g places heap'.graph) stands.config_is collects.heap.graph in
+      record {
+        next = collected config g store;
+        out = collection_line (codes "collected") g (kept_count store g) (freed_count store g);
+        steps = rw known refl;
+        stands' = record {
+          config_is = collects.heap.config ∙ stands.config_is;
+          rooms_are = collects.heap.rooms ∙ ap full_rooms stands.config_is;
+          place = place' config g store stands.place heap.graph heap'.graph names stands.placed stands.names_are _ moved;
+          placed = placed_collected config g store stands.place heap.graph heap'.graph names stands.placed stands.names_are _ moved;
+          names_are = named_collected config g store stands.place heap.graph heap'.graph names stands.placed stands.names_are _ moved;
+        };
+        held =
+            subst (λ k. Appends old new (collection_line (codes "collected") g k (freed_count store g))) kept_same
+            (subst (λ f. Appends old new (collection_line (codes "collected") g kept f)) freed_same held);
+      }

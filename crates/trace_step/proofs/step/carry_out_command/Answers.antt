@@ -1,0 +1,24 @@
+use Rattle.std.proofs.Common.{refl}
+use Rattle.model.specs.Commands.{Set, target_of}
+use Rattle.trace_lines.specs.Outcome.{command_step}
+use Rattle.trace_lines.proofs.CommandFaults.{quiet_steps, quiet_faults, never_full}
+use Rattle.trace_step.proofs.step.carry_out_command.Goals as goal
+
+pub returns-in-Set-clause-ok : goal.returns-in-Set-clause-ok
+returns-in-Set-clause-ok g c =
+    rw c.in-Set.is
+    (quiet_steps c.set.result _ _ (λ config store. command_step config store (Set c.in-Set.name.now c.in-Set.field (target_of (λ x. x.now) c.in-Set.target))) _ c.set.ensures.ok)
+
+pub returns-in-Set-clause-err : goal.returns-in-Set-clause-err
+returns-in-Set-clause-err g c =
+    rw c.in-Set.is
+    (quiet_faults c.args.number c.args.writer.now c.args.writer.now refl _ (λ config store. command_step config store (Set c.in-Set.name.now c.in-Set.field (target_of (λ x. x.now) c.in-Set.target))) _ _ c.set.result c.set.ensures.err)
+
+pub returns-in-Census-clause-ok : goal.returns-in-Census-clause-ok
+returns-in-Census-clause-ok g c = rw c.in-Census.is c.census.ensures.ok
+
+pub returns-in-Heap-clause-ok : goal.returns-in-Heap-clause-ok
+returns-in-Heap-clause-ok g c = rw c.in-Heap.is c.show_heap.ensures.ok
+
+pub returns-in-Heap-clause-err : goal.returns-in-Heap-clause-err
+returns-in-Heap-clause-err g c = rw c.in-Heap.is (never_full c.show_heap.result _ _ _ _ c.show_heap.ensures.err)

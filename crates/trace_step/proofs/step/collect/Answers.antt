@@ -1,0 +1,9 @@
+use Rattle.std.proofs.Common.{ap, arith}
+use Rattle.trace_step.proofs.PrintedSteps.{steps_collect}
+use Rattle.trace_step.proofs.step.collect.Goals as goal
+
+pub returns-in-Ok-write_collection-clause-ok : goal.returns-in-Ok-write_collection-clause-ok
+returns-in-Ok-write_collection-clause-ok g c = λ config store stands.
+    steps_collect _ _ config store stands c.args.generation _ _ _ _ _ _ c.in-Ok-collect_one.ensures.ok
+    (omega (arith, c.if-generation-generations.false, c.generations.ensures.value, ap (λ x. x.shape.generations) c.config.ensures))
+    c.in-Ok-write_collection.ensures.bytes
