@@ -1,8 +1,8 @@
 ghost use Rattle.std.specs.Prelude.{◌≡◌, ◌<◌, ◌+◌, Some, IfOk, length};
 
+use block_pool::Block;
 use exports::Cargo;
 use lanes::{Lane, LanePass};
-use block_pool::Block;
 use std::alloc::Global;
 use std::snapshot::Snapshot;
 use std::sync::Wait;

@@ -1,8 +1,8 @@
 ghost use Rattle.std.specs.Prelude.{◌≡◌, ◌<◌, IfSome, length};
 ghost use Rattle.std.specs.List.{All};
 
-use tally::{Tally, TallySeat};
 use std::test::Fail;
+use tally::{Tally, TallySeat};
 
 /// A raise by one of the seats.
 fn raise_by(tally: &Tally, seats: &mut Vec<TallySeat>, at: usize)

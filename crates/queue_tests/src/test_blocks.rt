@@ -1,8 +1,8 @@
 //! Blocks that tests hand over.
 ghost use Rattle.std.specs.Prelude.{◌≡◌, IfOk};
 
-use exports::Cargo;
 use block_pool::Block;
+use exports::Cargo;
 use std::alloc::{AllocError, Global};
 
 /// Blocks of as many words as the key says.

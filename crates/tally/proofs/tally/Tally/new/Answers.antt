@@ -6,7 +6,7 @@ pub of_words-requires : goal.of_words-requires
 of_words-requires g c = opens c.args.seats
 
 pub deal-requires-clause-parts : goal.deal-requires-clause-parts
-deal-requires-clause-parts g c = ?
+deal-requires-clause-parts g c = c.in_ok-table.ensures.4
 
 pub returns-clause-count : goal.returns-clause-count
 returns-clause-count g c = (refl, c.in_ok-made-2.ensures.count)
