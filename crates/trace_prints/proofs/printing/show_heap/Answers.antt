@@ -2,8 +2,8 @@ use Rattle.std.proofs.Common.{map, refl, sym, ap, subst, ◌∙◌}
 use Rattle.std.specs.Io.KnownBytes.{Appends}
 use Rattle.std.proofs.lemmas.Bool.{true≢false}
 use Rattle.heap_text.specs.HeapLines.{name_value, heap_lines}
-use Rattle.trace_step.proofs.HeapSteps.{all_rooted, steps_heap}
-use Rattle.trace_step.proofs.step.show_heap.Goals as goal
+use Rattle.trace_prints.proofs.HeapSteps.{all_rooted, steps_heap}
+use Rattle.trace_prints.proofs.printing.show_heap.Goals as goal
 
 pub returns-then-not-are_rooted-clause-err : goal.returns-then-not-are_rooted-clause-err
 returns-then-not-are_rooted-clause-err g c = (

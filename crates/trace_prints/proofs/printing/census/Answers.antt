@@ -1,8 +1,8 @@
 use Rattle.std.proofs.Common.{subst}
 use Rattle.std.specs.Io.KnownBytes.{Appends}
 use Rattle.model.specs.Text.{census_text}
-use Rattle.trace_step.proofs.PrintedSteps.{steps_census}
-use Rattle.trace_step.proofs.step.census.Goals as goal
+use Rattle.trace_prints.proofs.PrintedSteps.{steps_census}
+use Rattle.trace_prints.proofs.printing.census.Goals as goal
 
 pub returns-in-Ok-write_census-clause-ok : goal.returns-in-Ok-write_census-clause-ok
 returns-in-Ok-write_census-clause-ok g c = λ config store stands.

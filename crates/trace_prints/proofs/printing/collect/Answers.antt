@@ -1,6 +1,6 @@
 use Rattle.std.proofs.Common.{ap, arith}
-use Rattle.trace_step.proofs.PrintedSteps.{steps_collect}
-use Rattle.trace_step.proofs.step.collect.Goals as goal
+use Rattle.trace_prints.proofs.PrintedSteps.{steps_collect}
+use Rattle.trace_prints.proofs.printing.collect.Goals as goal
 
 pub returns-in-Ok-write_collection-clause-ok : goal.returns-in-Ok-write_collection-clause-ok
 returns-in-Ok-write_collection-clause-ok g c = λ config store stands.

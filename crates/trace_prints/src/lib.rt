@@ -1,0 +1,6 @@
+//! The commands of a trace that print.
+#![tactic(auto)]
+
+mod printing;
+
+pub use printing::{census, collect, show_heap};
