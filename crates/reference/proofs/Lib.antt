@@ -1,4 +1,3 @@
 -- Lemmas on the plain program.
 pub mod PlainLemmas
 pub mod CollectLemmas
-pub mod NameLemmas

@@ -25,11 +25,6 @@ steps_within store (Some g) name = filter (is_young_at store g) (targets_of stor
 abbrev pub starts : Store → ℕ → List ℕ
 starts store g = filter (is_young_at store g) (map (λ e. e.1) store.names ++ old_targets g (present store))
 
--- the place of the first name after the text
-abbrev pub place_of : List ℕ → List (List ℕ × ℕ) → ℕ
-place_of text [] = 0
-place_of text (e ∷ names) = if is_lt (slice_cmp nat_cmp text e.0) then 0 else place_of text names + 1
-
 abbrev pub is_young_slot : ℕ → Option Object → Bool
 is_young_slot g slot = option_map_or (λ o. nat_le o.generation g) slot false
 

@@ -5,9 +5,7 @@ use Rattle.model.specs.Graph.{Object}
 use Rattle.model.specs.GraphCode.{object_code}
 use Rattle.model.specs.Room.{Room}
 use Rattle.model.specs.Store.{Store}
-
-abbrev pub room_code : Coded Room
-room_code = code_by (ℕ × ℕ) (coded× coded_ℕ coded_ℕ) (λ r. (r.left, r.used)) (λ p. record { left = p.0; used = p.1 }) (λ _. refl)
+use Rattle.reference_data.specs.RoomCode.{room_code}
 
 abbrev pub store_code : Coded Store
 store_code =

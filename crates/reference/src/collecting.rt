@@ -5,10 +5,10 @@ ghost use Rattle.model.specs.Commands.{line_of};
 ghost use Rattle.model.specs.Text.{collection_line};
 ghost use Rattle.reference.specs.Plain.{is_young_slot};
 
-use crate::config::Config;
-use crate::object::Object;
-use crate::room::full_rooms;
-use crate::spread::has;
+use reference_data::Config;
+use reference_data::Object;
+use reference_data::full_rooms;
+use reference_data::has;
 use crate::store::Store;
 use std::alloc::{AllocError, Allocator};
 use std::fmt::Write;

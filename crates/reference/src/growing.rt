@@ -4,13 +4,13 @@ ghost use Rattle.model.specs.Commands as meant;
 ghost use Rattle.model.specs.Commands.{carried, named, with_new, with_room, room_in, placed, placed_at_size, is_large_size};
 ghost use Rattle.reference.specs.Plain.{IsDone, IfFault};
 
-use crate::config::Config;
+use reference_data::Config;
 use model::Kind;
-use crate::object::Object;
+use reference_data::Object;
 use crate::refusal::Refusal;
-use crate::room::Room;
+use reference_data::Room;
 use crate::store::Store;
-use crate::trace_name::{Named, add_name};
+use reference_data::{Named, add_name};
 use std::alloc::{AllocError, Allocator};
 
 impl<A: Allocator + Clone> Store<A> {

@@ -4,17 +4,12 @@
 mod census_text;
 mod changes;
 mod collecting;
-mod config;
 mod counting;
 mod growing;
-mod object;
 mod refusal;
-mod room;
-mod spread;
 mod store;
-mod trace_name;
 
-pub use config::Config;
+pub use reference_data::Config;
 pub use refusal::Refusal;
 pub use store::Store;
 

@@ -1,0 +1,2 @@
+-- Lemmas on names in order.
+pub mod NameLemmas
