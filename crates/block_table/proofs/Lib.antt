@@ -5,6 +5,7 @@ pub mod BlockFinds
 pub mod Numbering
 pub mod TableCensus
 pub mod TableSteps
+pub mod TableReads
 pub mod Installed
 pub mod Areas
 pub mod Installing

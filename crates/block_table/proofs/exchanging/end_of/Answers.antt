@@ -1,0 +1,11 @@
+use Rattle.std.proofs.Common.{◌≡◌, ◌+◌, max, arith, ap, ◌∙◌}
+use Rattle.block_table.proofs.TableReads.{end_more, ord_max-is}
+use Rattle.block_table.proofs.exchanging.end_of.Goals as goal
+
+pub loop-block-preserved : goal.loop-block-preserved
+loop-block-preserved g c =
+    let more : c.max-end.result ≡ max c.loop-block.end (c.block-item.result.number + 1) = c.max-end.ensures ∙ ord_max-is c.loop-block.end (c.number.result + 1) ∙ ap (λ n. max c.loop-block.end (n + 1)) c.number.ensures.value in
+    record {
+      above = rw more (end_more (λ b. b.number) c.args.blocks.now c.loop-block.block-index c.loop-block.end c.block-item.result c.block-item.is c.loop-block-test.true c.loop-block.invariant.above);
+      least = λ limit all. omega (arith, more, c.loop-block.invariant.least limit all, all c.loop-block.block-index c.block-item.result c.loop-block-test.true, ap (λ b. b.number) c.block-item.is);
+    }
