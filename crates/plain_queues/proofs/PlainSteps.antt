@@ -1,7 +1,7 @@
 -- Each step keeps what a queue of one thread keeps.
 use Rattle.std.proofs.Common.{◌≡◌, ℕ, zero, suc, ◌+◌, ◌<◌, ◌≤◌, List, [], ◌∷◌, ◌++◌, All, length, map, drop, get_or, sym, refl, ap, ◌∙◌, subst, arith, slice_get, Option, Some, None, length-append, append_assoc, Bor, MatchOption}
-use Rattle.std.proofs.lemmas.List.{append-nil, drop_all, drop_more, length-drop, length-map}
-use Rattle.std.proofs.lemmas.List.Elements.{All-tail}
+use Rattle.std.proofs.lemmas.List.{append-nil, drop-append-le, map-append, drop_all, drop_more, length-drop, length-map}
+use Rattle.std.proofs.lemmas.List.Elements.{All-append, All-cons, All-nil, All-tail}
 use Rattle.std.proofs.lemmas.Option.{slice_get_past, slice_get-get_or}
 use Rattle.std.specs.Option.{option_copied}
 use Rattle.std.specs.List.{HoldsAt}
@@ -81,4 +81,17 @@ module _ {K : Type 0} (fits : K → BlockValue → Type 0) (key : K) where
         rest = next.1 ∙ ap (λ n. drop n sent) (sym longer);
         facts = All-tail (fits key) x rest (subst (All (fits key)) e old.facts);
         sizes_sent = old.sizes_sent;
+      }
+
+  -- a block more is sent
+  pub keeps_sent : (lane : PlainLane) (waiting : List BlockValue) (sizes : List ℕ) (sent' waiting' : List BlockValue) (sizes' : List ℕ) (b : BlockValue)
+      → IsPlain fits key lane waiting sizes → fits key b → sent' ≡ lane.sent ++ b ∷ [] → waiting' ≡ waiting ++ b ∷ [] → sizes' ≡ sizes ++ length b.objects ∷ []
+      → IsPlain fits key (record lane { sent = sent' }) waiting' sizes'
+  keeps_sent lane waiting sizes sent' waiting' sizes' b old fact es ew ez =
+      let len : length sent' ≡ length lane.sent + 1 = ap length es ∙ length-append lane.sent (b ∷ []) in
+      let few = old.few in record {
+        few = omega arith;
+        rest = ew ∙ ap (λ l. l ++ b ∷ []) old.rest ∙ sym (drop-append-le (length lane.takers) lane.sent (b ∷ []) few) ∙ ap (drop (length lane.takers)) (sym es);
+        facts = subst (All (fits key)) (sym ew) (All-append (fits key) waiting (b ∷ []) old.facts (All-cons (fits key) b [] fact (All-nil (fits key))));
+        sizes_sent = ez ∙ ap (λ l. l ++ length b.objects ∷ []) old.sizes_sent ∙ sym (map-append (λ (c : BlockValue). length c.objects) lane.sent (b ∷ [])) ∙ ap (map (λ (c : BlockValue). length c.objects)) (sym es);
       }

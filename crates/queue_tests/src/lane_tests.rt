@@ -87,13 +87,25 @@ fn receive_next<R: Wait>(
     requires parts { 0 < pass.old.parts }
     ensures { pass.new ≡ record pass.old { taken = pass.new.taken } }
 {
-    match lane.receive(rt, pass) {
-        Some(block) => {
-            let (_, position) = block.sent()?;
-            Some((block.number(), position))
-        }
-        None => None,
-    }
+    let block = lane.receive(rt, pass)?;
+    let (_, position) = block.sent()?;
+    Some((block.number(), position))
+}
+
+/// Sends blocks with the numbers 40, 30 and 20.
+fn send_three<R: Wait>(
+    rt: &R,
+    alloc: Global,
+    lane: &Lane<Any>,
+    pass: &mut LanePass<Numbers>,
+) -> Result<(), Fail>
+    requires lane { pass.old.lane ≡ lane.now }
+    requires sends { (0 < pass.old.parts) × (pass.old.senders ≡ 1) × (pass.old.about.exporter ≡ 5) × (length pass.old.sent ≡ 0) }
+    ensures { IfOk result (λ _. pass.new ≡ record pass.old { sent = pass.new.sent }) }
+{
+    send_next(rt, alloc, lane, pass, 0, 40)?;
+    send_next(rt, alloc, lane, pass, 1, 30)?;
+    send_next(rt, alloc, lane, pass, 2, 20)
 }
 
 #[test]
@@ -101,9 +113,7 @@ fn blocks_come_in_order(rt: HostRuntime) -> Result<(), Fail> {
     let (lane, mut sender, mut taker) = open_pair(rt.alloc())?;
     assert!(rt; !lane.maybe(&mut taker));
     assert_eq!(rt; receive_next(&rt, &lane, &mut taker), None);
-    send_next(&rt, rt.alloc(), &lane, &mut sender, 0, 40)?;
-    send_next(&rt, rt.alloc(), &lane, &mut sender, 1, 30)?;
-    send_next(&rt, rt.alloc(), &lane, &mut sender, 2, 20)?;
+    send_three(&rt, rt.alloc(), &lane, &mut sender)?;
     assert!(rt; lane.maybe(&mut taker));
     assert_eq!(rt; receive_next(&rt, &lane, &mut taker), Some((40, 0)));
     assert_eq!(rt; receive_next(&rt, &lane, &mut sender), Some((30, 1)));

@@ -23,15 +23,31 @@ fn export(
     Ok(())
 }
 
-/// Takes from a queue, and tells the block's label, objects and front.
+/// Exports blocks of one, two and three objects.
+fn export_three(
+    alloc: Global,
+    pending: &mut PlainPending<OfWords>,
+    seat: &mut PlainSeat,
+) -> Result<(), Fail>
+    requires seat { seat.old < length pending.old.lanes }
+    requires key { pending.old.key ≡ 16 }
+    ensures lanes { length pending.new.lanes ≡ length pending.old.lanes }
+{
+    export(alloc, pending, seat, 1)?;
+    export(alloc, pending, seat, 2)?;
+    export(alloc, pending, seat, 3)
+}
+
+/// The label, the objects and the front of a block that was taken.
+type Seen = Option<(Option<(u32, u64)>, usize, usize)>;
+
+/// Takes from a queue, and tells of the block.
 fn take(
     pending: &mut PlainPending<OfWords>,
     seat: &mut PlainSeat,
     exporter: u32,
-) -> Result<Option<(Option<(u32, u64)>, usize, usize)>, Fail>
+) -> Result<Seen, Fail>
     requires exporter { exporter < length pending.old.lanes }
-    ensures seat { seat.new ≡ seat.old }
-    ensures key { pending.new.key ≡ pending.old.key }
     ensures lanes { length pending.new.lanes ≡ length pending.old.lanes }
 {
     let taken = pending.take(seat, exporter)?;
@@ -39,99 +55,96 @@ fn take(
 }
 
 /// Two seats with queues of their own.
-struct Two {
-    pending: PlainPending<OfWords>,
+#[derive(Drop)]
+struct Pair {
     zero: PlainSeat,
     one: PlainSeat,
 }
 
-fn make_two(alloc: Global) -> Result<Two, Fail>
-    ensures { IfOk result (λ t. (length t.pending.lanes ≡ 2) × (t.pending.key ≡ 16) × (t.zero ≡ 0) × (t.one ≡ 1)) }
+fn open_pair(alloc: Global) -> Result<(PlainPending<OfWords>, Pair), Fail>
+    ensures queues { IfOk result (λ t. (length t.0.lanes ≡ 2) × (t.0.key ≡ 16)) }
+    ensures seats { IfOk result (λ t. (t.1.zero ≡ 0) × (t.1.one ≡ 1)) }
 {
     let (pending, mut seats) = PlainPending::<OfWords>::new(alloc, 2, &16)?;
     let one = seats.pop().ok_or("no seat")?;
     let zero = seats.pop().ok_or("no seat")?;
-    Ok(Two { pending, zero, one })
+    Ok((pending, Pair { zero, one }))
+}
+
+/// What seat 1, seat 0 and seat 1 again take from a queue.
+fn take_in_turn(
+    pending: &mut PlainPending<OfWords>,
+    pair: &mut Pair,
+    exporter: u32,
+) -> Result<(Seen, Seen, Seen), Fail>
+    requires exporter { exporter < length pending.old.lanes }
+    ensures lanes { length pending.new.lanes ≡ length pending.old.lanes }
+{
+    let first = take(pending, &mut pair.one, exporter)?;
+    let second = take(pending, &mut pair.zero, exporter)?;
+    let third = take(pending, &mut pair.one, exporter)?;
+    Ok((first, second, third))
 }
 
 #[test]
 fn blocks_are_taken_in_order(rt: HostRuntime) -> Result<(), Fail> {
-    let Two {
-        mut pending,
-        mut zero,
-        mut one,
-    } = make_two(rt.alloc())?;
-    export(rt.alloc(), &mut pending, &mut zero, 1)?;
-    export(rt.alloc(), &mut pending, &mut zero, 2)?;
-    export(rt.alloc(), &mut pending, &mut zero, 3)?;
-    assert_eq!(rt;
-        take(&mut pending, &mut one, 0)?,
-        Some((Some((0, 0)), 1, 1))
-    );
-    assert_eq!(rt;
-        take(&mut pending, &mut zero, 0)?,
-        Some((Some((0, 1)), 2, 1))
-    );
-    assert_eq!(rt;
-        take(&mut pending, &mut one, 0)?,
-        Some((Some((0, 2)), 3, 1))
-    );
-    assert_eq!(rt; take(&mut pending, &mut one, 0)?, None);
+    let (mut pending, mut pair) = open_pair(rt.alloc())?;
+    export_three(rt.alloc(), &mut pending, &mut pair.zero)?;
+    let (first, second, third) = take_in_turn(&mut pending, &mut pair, 0)?;
+    assert_eq!(rt; first, Some((Some((0, 0)), 1, 1)));
+    assert_eq!(rt; second, Some((Some((0, 1)), 2, 1)));
+    assert_eq!(rt; third, Some((Some((0, 2)), 3, 1)));
+    assert_eq!(rt; take(&mut pending, &mut pair.one, 0)?, None);
     Ok(())
 }
 
 /// What became of the blocks of both exporters.
-fn close(alloc: Global, two: Two) -> Result<Deliveries, Fail> {
-    let Two { pending, zero, one } = two;
+fn close(alloc: Global, pending: PlainPending<OfWords>, pair: Pair) -> Result<Deliveries, Fail> {
+    let Pair { zero, one } = pair;
     let mut seats = Vec::with_capacity(alloc, 2)?;
     seats.push_reserved(zero);
     seats.push_reserved(one);
     Ok(pending.close(alloc, seats)?)
 }
 
-#[test]
-fn closing_names_the_takers_and_what_is_left(rt: HostRuntime) -> Result<(), Fail> {
-    let Two {
-        mut pending,
-        mut zero,
-        mut one,
-    } = make_two(rt.alloc())?;
-    export(rt.alloc(), &mut pending, &mut zero, 1)?;
-    export(rt.alloc(), &mut pending, &mut zero, 2)?;
-    export(rt.alloc(), &mut pending, &mut zero, 3)?;
-    assert!(rt; take(&mut pending, &mut one, 0)?.is_some());
-    assert!(rt; take(&mut pending, &mut zero, 0)?.is_some());
-    assert!(rt; take(&mut pending, &mut zero, 1)?.is_none());
-    let deliveries = close(rt.alloc(), Two { pending, zero, one })?;
-    assert_eq!(rt;
-        deliveries.of(0),
-        [
-            delivery(1, Some(1)),
-            delivery(2, Some(0)),
-            delivery(3, None)
-        ]
-        .as_slice()
-    );
-    assert!(rt; deliveries.of(1).is_empty() && deliveries.of(2).is_empty());
-    Ok(())
-}
-
 fn delivery(objects: usize, taker: Option<u32>) -> Delivery {
     Delivery { objects, taker }
 }
 
+/// Seat 1 and then seat 0 take from the queue of seat 0, and nothing is in that of seat 1.
+fn take_two(pending: &mut PlainPending<OfWords>, pair: &mut Pair) -> Result<bool, Fail>
+    requires lanes { 1 < length pending.old.lanes }
+{
+    let first = take(pending, &mut pair.one, 0)?;
+    let second = take(pending, &mut pair.zero, 0)?;
+    let none = take(pending, &mut pair.zero, 1)?;
+    Ok(first.is_some() && second.is_some() && none.is_none())
+}
+
+#[test]
+fn closing_names_the_takers_and_what_is_left(rt: HostRuntime) -> Result<(), Fail> {
+    let (mut pending, mut pair) = open_pair(rt.alloc())?;
+    export_three(rt.alloc(), &mut pending, &mut pair.zero)?;
+    assert!(rt; take_two(&mut pending, &mut pair)?);
+    let deliveries = close(rt.alloc(), pending, pair)?;
+    let told = [
+        delivery(1, Some(1)),
+        delivery(2, Some(0)),
+        delivery(3, None),
+    ];
+    assert_eq!(rt; deliveries.of(0), told.as_slice());
+    assert!(rt; deliveries.of(1).is_empty() && deliveries.of(2).is_empty());
+    Ok(())
+}
+
 #[test]
 fn a_block_may_be_there_exactly_where_one_is(rt: HostRuntime) -> Result<(), Fail> {
-    let Two {
-        mut pending,
-        mut zero,
-        mut one,
-    } = make_two(rt.alloc())?;
+    let (mut pending, mut pair) = open_pair(rt.alloc())?;
     assert!(rt; !pending.maybe(0) && !pending.maybe(1));
-    export(rt.alloc(), &mut pending, &mut one, 1)?;
+    export(rt.alloc(), &mut pending, &mut pair.one, 1)?;
     assert!(rt; !pending.maybe(0) && pending.maybe(1));
-    assert!(rt; take(&mut pending, &mut zero, 1)?.is_some());
+    assert!(rt; take(&mut pending, &mut pair.zero, 1)?.is_some());
     assert!(rt; !pending.maybe(1));
-    assert!(rt; zero.index() == 0 && one.index() == 1);
+    assert!(rt; pair.zero.index() == 0 && pair.one.index() == 1);
     Ok(())
 }

@@ -26,13 +26,32 @@ fn export<R: Wait>(
     }
 }
 
-/// Takes from a queue, and tells the block's label, objects and front.
+/// Exports blocks of one, two and three objects.
+fn export_three<R: Wait>(
+    rt: &R,
+    alloc: Global,
+    pending: &RuledPending<OfWords>,
+    seat: &mut PendingSeat<OfWords>,
+) -> Result<(), AllocError>
+    requires seat { IsSeatOf pending.now seat.old }
+    requires key { pending.now.key ≡ 16 }
+    ensures seat { IsSeatOf pending.now seat.new }
+{
+    export(rt, alloc, pending, seat, 1)?;
+    export(rt, alloc, pending, seat, 2)?;
+    export(rt, alloc, pending, seat, 3)
+}
+
+/// The label, the objects and the front of a block that was taken.
+type Seen = Option<(Option<(u32, u64)>, usize, usize)>;
+
+/// Takes from a queue, and tells of the block.
 fn take<R: Wait>(
     rt: &R,
     pending: &RuledPending<OfWords>,
     seat: &mut PendingSeat<OfWords>,
     exporter: u32,
-) -> Result<Option<(Option<(u32, u64)>, usize, usize)>, AllocError>
+) -> Result<Seen, AllocError>
     requires seat { IsSeatOf pending.now seat.old }
     requires exporter { exporter < length pending.now.lanes }
     ensures seat { IsSeatOf pending.now seat.new }
@@ -42,69 +61,70 @@ fn take<R: Wait>(
 }
 
 /// Two seats with queues of their own.
+#[derive(Drop)]
 struct Pair {
-    pending: RuledPending<OfWords>,
     zero: PendingSeat<OfWords>,
     one: PendingSeat<OfWords>,
 }
 
-fn make_pair(alloc: Global) -> Result<Pair, Fail>
-    ensures queues { IfOk result (λ t. (length t.pending.lanes ≡ 2) × (t.pending.key ≡ 16)) }
-    ensures seats { IfOk result (λ t. IsSeatOf t.pending t.zero × IsSeatOf t.pending t.one) }
+fn open_pair(alloc: Global) -> Result<(RuledPending<OfWords>, Pair), Fail>
+    ensures queues { IfOk result (λ t. (length t.0.lanes ≡ 2) × (t.0.key ≡ 16)) }
+    ensures zero { IfOk result (λ t. IsSeatOf t.0 t.1.zero) }
+    ensures one { IfOk result (λ t. IsSeatOf t.0 t.1.one) }
 {
     let (pending, mut seats) = RuledPending::<OfWords>::new(alloc, 2, &16)?;
     let one = seats.pop().ok_or("no seat")?;
     let zero = seats.pop().ok_or("no seat")?;
-    Ok(Pair { pending, zero, one })
+    Ok((pending, Pair { zero, one }))
+}
+
+/// What seat 1, seat 0 and seat 1 again take from a queue.
+fn take_in_turn<R: Wait>(
+    rt: &R,
+    pending: &RuledPending<OfWords>,
+    pair: &mut Pair,
+    exporter: u32,
+) -> Result<(Seen, Seen, Seen), AllocError>
+    requires zero { IsSeatOf pending.now pair.old.zero }
+    requires one { IsSeatOf pending.now pair.old.one }
+    requires exporter { exporter < length pending.now.lanes }
+    ensures zero { IsSeatOf pending.now pair.new.zero }
+    ensures one { IsSeatOf pending.now pair.new.one }
+{
+    let first = take(rt, pending, &mut pair.one, exporter)?;
+    let second = take(rt, pending, &mut pair.zero, exporter)?;
+    let third = take(rt, pending, &mut pair.one, exporter)?;
+    Ok((first, second, third))
 }
 
 #[test]
 fn blocks_are_taken_in_order(rt: HostRuntime) -> Result<(), Fail> {
-    let Pair {
-        pending,
-        mut zero,
-        mut one,
-    } = make_pair(rt.alloc())?;
-    assert!(rt; !pending.maybe(&mut one, 0));
-    export(&rt, rt.alloc(), &pending, &mut zero, 1)?;
-    export(&rt, rt.alloc(), &pending, &mut zero, 2)?;
-    export(&rt, rt.alloc(), &pending, &mut zero, 3)?;
-    assert!(rt; pending.maybe(&mut one, 0));
-    assert_eq!(rt;
-        take(&rt, &pending, &mut one, 0)?,
-        Some((Some((0, 0)), 1, 1))
-    );
-    assert_eq!(rt;
-        take(&rt, &pending, &mut zero, 0)?,
-        Some((Some((0, 1)), 2, 1))
-    );
-    assert_eq!(rt;
-        take(&rt, &pending, &mut one, 0)?,
-        Some((Some((0, 2)), 3, 1))
-    );
-    assert_eq!(rt; take(&rt, &pending, &mut one, 0)?, None);
-    assert_eq!(rt; take(&rt, &pending, &mut zero, 0)?, None);
-    assert!(rt; zero.index() == 0 && one.index() == 1);
-    let deliveries = close(&rt, rt.alloc(), Pair { pending, zero, one })?;
-    assert_eq!(rt;
-        deliveries.of(0),
-        [
-            delivery(1, Some(1)),
-            delivery(2, Some(0)),
-            delivery(3, Some(1))
-        ]
-        .as_slice()
-    );
-    assert!(rt; deliveries.of(1).is_empty());
+    let (pending, mut pair) = open_pair(rt.alloc())?;
+    assert!(rt; !pending.maybe(&mut pair.one, 0));
+    export_three(&rt, rt.alloc(), &pending, &mut pair.zero)?;
+    assert!(rt; pending.maybe(&mut pair.one, 0));
+    let (first, second, third) = take_in_turn(&rt, &pending, &mut pair, 0)?;
+    assert_eq!(rt; first, Some((Some((0, 0)), 1, 1)));
+    assert_eq!(rt; second, Some((Some((0, 1)), 2, 1)));
+    assert_eq!(rt; third, Some((Some((0, 2)), 3, 1)));
+    let (first, second, third) = take_in_turn(&rt, &pending, &mut pair, 0)?;
+    assert!(rt; first.is_none() && second.is_none() && third.is_none());
+    assert!(rt; pair.zero.index() == 0 && pair.one.index() == 1);
     Ok(())
 }
 
 /// What became of the blocks of both exporters.
-fn close<R: Wait>(rt: &R, alloc: Global, pair: Pair) -> Result<Deliveries, AllocError>
-    requires queues { length pair.pending.lanes ≡ 2 }
-    requires seats { IsSeatOf pair.pending pair.zero × IsSeatOf pair.pending pair.one }
+fn close<R: Wait>(
+    rt: &R,
+    alloc: Global,
+    pending: RuledPending<OfWords>,
+    pair: Pair,
+) -> Result<Deliveries, AllocError>
+    requires queues { length pending.lanes ≡ 2 }
+    requires zero { IsSeatOf pending pair.zero }
+    requires one { IsSeatOf pending pair.one }
 {
-    let Pair { pending, zero, one } = pair;
+    let Pair { zero, one } = pair;
     let mut seats = Vec::with_capacity(alloc, 2)?;
     seats.push_reserved(one);
     seats.push_reserved(zero);
@@ -116,19 +136,29 @@ fn delivery(objects: usize, taker: Option<u32>) -> Delivery {
 }
 
 #[test]
+fn closing_names_the_takers(rt: HostRuntime) -> Result<(), Fail> {
+    let (pending, mut pair) = open_pair(rt.alloc())?;
+    export_three(&rt, rt.alloc(), &pending, &mut pair.zero)?;
+    take_in_turn(&rt, &pending, &mut pair, 0)?;
+    let deliveries = close(&rt, rt.alloc(), pending, pair)?;
+    let takers = [
+        delivery(1, Some(1)),
+        delivery(2, Some(0)),
+        delivery(3, Some(1)),
+    ];
+    assert_eq!(rt; deliveries.of(0), takers.as_slice());
+    assert!(rt; deliveries.of(1).is_empty());
+    Ok(())
+}
+
+#[test]
 fn closing_tells_what_is_left(rt: HostRuntime) -> Result<(), Fail> {
-    let Pair {
-        pending,
-        mut zero,
-        mut one,
-    } = make_pair(rt.alloc())?;
-    export(&rt, rt.alloc(), &pending, &mut one, 2)?;
-    export(&rt, rt.alloc(), &pending, &mut one, 3)?;
-    assert!(rt; take(&rt, &pending, &mut zero, 1)?.is_some());
-    let deliveries = close(&rt, rt.alloc(), Pair { pending, zero, one })?;
-    assert_eq!(rt;
-        deliveries.of(1),
-        [delivery(2, Some(0)), delivery(3, None)].as_slice()
-    );
+    let (pending, mut pair) = open_pair(rt.alloc())?;
+    export_three(&rt, rt.alloc(), &pending, &mut pair.one)?;
+    let taken = take(&rt, &pending, &mut pair.zero, 1)?;
+    assert_eq!(rt; taken, Some((Some((1, 0)), 1, 1)));
+    let deliveries = close(&rt, rt.alloc(), pending, pair)?;
+    let left = [delivery(1, Some(0)), delivery(2, None), delivery(3, None)];
+    assert_eq!(rt; deliveries.of(1), left.as_slice());
     Ok(())
 }

@@ -1,4 +1,4 @@
-use Rattle.std.proofs.Common.{ap, arith}
+use Rattle.std.proofs.Common.{rules, ap, arith}
 use Rattle.lanes.proofs.LaneMoves.{merges}
 use Rattle.lanes.proofs.lane.Lane.gather.Goals as goal
 
@@ -7,3 +7,6 @@ absorb-requires-clause-rule g c =
     let parts = ap (λ v. v.parts) c.pass.view_is in
     let others = ap (λ v. v.parts) c.other.view_is in
     merges g.C.Cargo.fits _ _ _ _ (let p = c.requires.parts.0 in omega arith) (let p = c.requires.parts.1 in omega arith)
+
+pub returns : goal.returns
+returns g c = search rules

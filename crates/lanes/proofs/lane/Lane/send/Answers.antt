@@ -1,4 +1,4 @@
-use Rattle.std.proofs.Common.{ap, sym, ◌∙◌, arith, length, subst}
+use Rattle.std.proofs.Common.{rules, ap, sym, ◌∙◌, arith, length, subst}
 use Rattle.lanes.specs.PassValue.{PassValue, Meets}
 use Rattle.lanes.proofs.LaneMoves.{sends, meets_in}
 use Rattle.lanes.proofs.lane.Lane.send.Goals as goal
@@ -10,3 +10,6 @@ push_as-requires-clause-rule g c n =
     let senders = ap (λ v. v.senders) is in
     let meets = subst (λ (v : PassValue g.row.A.Denot g.row.C-Key.Denot). Meets g.C.Cargo.fits v.about (length v.sent) c.args.block) (sym is) c.requires.block in
     sends g.C.Cargo.fits n _ _ _ (senders ∙ c.requires.sends.1) (let p = c.requires.sends.0 in omega arith) (meets_in g.C.Cargo.fits _ c.pass.inside.named _ _ meets)
+
+pub returns : goal.returns
+returns g c = search rules
