@@ -2,8 +2,7 @@
 ghost use Rattle.std.specs.Prelude.{◌≡◌, length};
 
 use crate::box_cells::{BoxCells, BoxPass};
-use cells::Cells;
-use cells::Outcome;
+use cells::{Cells, Outcome};
 use layout::Place;
 use std::alloc::AllocError;
 

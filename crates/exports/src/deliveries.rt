@@ -86,12 +86,7 @@ impl<A: Allocator> Deliveries<A> {
 
     /// Tells that an exporter's blocks had these numbers of objects, as if nobody had taken one. An error says that memory ran
     /// out.
-    pub fn tell_left(
-        &mut self,
-        alloc: A,
-        exporter: u32,
-        sizes: &[usize],
-    ) -> Result<(), AllocError>
+    pub fn tell_left(&mut self, alloc: A, exporter: u32, sizes: &[usize]) -> Result<(), AllocError>
         requires { exporter < length self.old }
         ensures many { length self.new ≡ length self.old }
         ensures told { OnOk result (self.new ≡ slice_set self.old exporter (map left sizes.now)) }

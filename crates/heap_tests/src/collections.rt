@@ -1,9 +1,7 @@
 //! Collections of a heap through its own calls, where memory and blocks run out too.
 use crate::heaps::{collected, config_of};
 use collector::{CollectError, collect_one};
-use heap::{
-    AllocateError, Heap, MakeError, NoRoot, OpenError, Report, RootId, StepId,
-};
+use heap::{AllocateError, Heap, MakeError, NoRoot, OpenError, Report, RootId, StepId};
 use heap_text::{Counted, write_census};
 use layout::Place;
 use refusing::Refusing;

@@ -1,9 +1,8 @@
 //! Plain cells, which are exact, for one thread.
 ghost use Rattle.std.specs.Prelude.{◌≡◌, ◌≢◌, ◌<◌, ◌≤◌, ℕ, [], None, All, length, map, replicate, slice_index_or, vec_capacity};
 
-use cells::Cells;
 use crate::held::Held;
-use cells::Outcome;
+use cells::{Cells, Outcome};
 use layout::Place;
 use std::alloc::{AllocError, Allocator, Global};
 use std::marker::Model;

@@ -4,9 +4,9 @@ ghost use Rattle.std.specs.List.{AllPairs};
 ghost use Rattle.cells.specs.Settled.{Agree, IsSettled};
 ghost use Rattle.plain_cells.specs.Plain.{IsFit, Differ, known_by, place_of, empty_cells, fresh_pass, fresh_passes};
 
-use cells::{Forwards, SettleError};
 use crate::held::Held;
 use crate::plain_cells::{PlainCells, PlainPass};
+use cells::{Forwards, SettleError};
 use layout::Place;
 use std::alloc::{AllocError, Allocator};
 

@@ -4,13 +4,10 @@ ghost use Rattle.model.specs.Commands as meant;
 ghost use Rattle.model.specs.Commands.{carried, named, with_new, with_room, room_in, placed, placed_at_size, is_large_size};
 ghost use Rattle.reference.specs.Plain.{IsDone, IfFault};
 
-use reference_data::Config;
-use model::Kind;
-use reference_data::Object;
 use crate::refusal::Refusal;
-use reference_data::Room;
 use crate::store::Store;
-use reference_data::{Named, add_name};
+use model::Kind;
+use reference_data::{Config, Named, Object, Room, add_name};
 use std::alloc::{AllocError, Allocator};
 
 impl<A: Allocator + Clone> Store<A> {

@@ -7,10 +7,10 @@ ghost use Rattle.cells.specs.Known.{known_in};
 ghost use Rattle.cells.specs.Settled.{all_pairs, Agree, IsSettled};
 ghost use Rattle.word_cells.specs.Words.{fresh_pass};
 
-use cells::{Forwards, SettleError};
 use crate::plays::{Deal, Gather, Mind, Plan, Rule};
 use crate::word_cells::{WordCells, WordPass, place_in};
 use atomic_table::{Closed, Seat, Table};
+use cells::{Forwards, SettleError};
 use layout::Place;
 use std::alloc::{AllocError, Allocator};
 

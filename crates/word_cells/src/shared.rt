@@ -2,9 +2,8 @@
 ghost use Rattle.std.specs.Prelude.{◌≡◌};
 ghost use Rattle.cells.specs.Known.{known_in};
 
-use cells::Cells;
-use cells::Outcome;
 use crate::word_cells::{WordCells, WordPass};
+use cells::{Cells, Outcome};
 use layout::Place;
 use std::alloc::{AllocError, Allocator};
 

@@ -5,9 +5,9 @@ ghost use Rattle.layout.specs.Place.{place_word, pointer_word};
 ghost use Rattle.cells.specs.Known.{known_in};
 ghost use Rattle.cells.specs.Learned.{Learns, RaceEnds, place_after};
 
-use cells::Outcome;
 use crate::plays::{Look, Mind, Plan, Race, Rule};
 use atomic_table::{Seat, Table};
+use cells::Outcome;
 use layout::Place;
 use std::alloc::{Allocator, Global};
 use std::marker::Model;
