@@ -12,6 +12,3 @@ mod store;
 pub use reference_data::Config;
 pub use refusal::Refusal;
 pub use store::Store;
-
-#[cfg(test)]
-mod tests;

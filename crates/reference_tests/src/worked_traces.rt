@@ -1,5 +1,5 @@
-use crate::{Config, Refusal, Store};
 use model::Kind;
+use reference::{Config, Refusal, Store};
 use std::alloc::Global;
 use std::test::Fail;
 
