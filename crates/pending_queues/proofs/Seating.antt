@@ -5,7 +5,7 @@ use Rattle.std.proofs.lemmas.Option.{slice_get_within, get_or_from_slice_get, sl
 use Rattle.std.proofs.lemmas.List.{map-append, map-set, length-map}
 use Rattle.std.proofs.lemmas.List.Elements.{filter-append, All-append, All-cons, All-nil}
 use Rattle.block_pool.specs.BlockValue.{BlockValue}
-use Rattle.lanes.specs.PassValue.{PassValue, position_of, Took}
+use Rattle.lanes.specs.PassValue.{About, PassValue, Meets, position_of, Took}
 use Rattle.tally.specs.TallyValue.{TallySeatValue}
 use Rattle.exports.specs.declared.label.Label.{Label}
 use Rattle.pending_laws.specs.SeatPass.{AtEach, pass_of, taken_from, is_from}
@@ -55,6 +55,30 @@ module _ {A K : Type 0} where
   -- the seat's own pass sends
   pub sends-own : (lane : SegId A) (key : K) (n index : ℕ) (sent taken : List BlockValue) (p : PassValue A K) → p ≡ pass_of lane key n index sent taken index → (p.senders ≡ 1) × (p.sent ≡ sent)
   sends-own lane key n index sent taken p is = rw is (rw (eq-eqb index index refl) (refl, refl))
+
+  -- the seat's own pass may send, and its next block is one that may be sent there
+  pub record MaySend (fits : K → BlockValue → Type 0) (p : PassValue A K) (b : BlockValue) : Type 0 where
+    pub parts : 0 < p.parts
+    pub senders : p.senders ≡ 1
+    pub meets : Meets fits p.about (length p.sent) b
+
+  pub may-send : (fits : K → BlockValue → Type 0) (key : K) (index : ℕ) (passes : List (PassValue A K)) (marks : List TallySeatValue) (sizes : List ℕ) (log : List Label) (taken : List BlockValue) (cleared : ℕ)
+      (p : PassValue A K) (block b : BlockValue) (n : ℕ)
+      → IsSeated key index passes marks sizes log taken cleared → slice_get passes index ≡ Some p → b ≡ labelled index n block → n ≡ length sizes → fits key (labelled index (length (sent_by passes index)) block)
+      → MaySend fits p b
+  may-send fits key index passes marks sizes log taken cleared p block b n seated at eb en fact =
+      let sent : List BlockValue = sent_by passes index in
+      let is : p ≡ pass_of p.lane key (length passes) index sent taken index = seated.passes_are index p at in
+      let parts : p.parts ≡ 1 = ap (λ v. v.parts) is in
+      let own : sent ≡ p.sent = sent-own passes index p at in
+      let place : n ≡ length sent = en ∙ (ap length seated.sizes_are ∙ length-map sent (λ c. length c.objects)) in
+      let e : b ≡ labelled index (length sent) block = eb ∙ ap (λ k. labelled index k block) place in
+      record {
+        parts = omega arith;
+        senders = (sends-own p.lane key (length passes) index sent taken p is).0;
+        meets = subst (λ (a : About K). Meets fits a (length p.sent) b) (sym (ap (λ v. v.about) is))
+            (record { label = ap (λ c. c.sent) e ∙ ap (λ l. Some (index, length l)) own; fact = subst (fits key) (sym e) fact });
+      }
 
   pub exported : (key : K) (index : ℕ) (passes : List (PassValue A K)) (marks : List TallySeatValue) (sizes : List ℕ) (log : List Label) (taken : List BlockValue) (cleared : ℕ)
       (p w : PassValue A K) (b : BlockValue) (more : List ℕ)

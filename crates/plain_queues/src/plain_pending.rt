@@ -93,16 +93,23 @@ impl<C: Cargo, A: Allocator + Clone> PlainPending<C, A> {
         Ok((PlainPending { key, queues }, seats(alloc, count)?))
     }
 
-    /// What became of each block that was exported. An error says that memory ran out.
-    pub fn close(self, alloc: A, seats: Vec<PlainSeat, A>) -> Result<Deliveries<A>, AllocError>
-        ensures { IfOk result (λ d. d ≡ map outcomes_of self.lanes) }
+    // What became of each block so far.
+    fn told(&self, alloc: A) -> Result<Deliveries<A>, AllocError>
+        ensures { IfOk result (λ d. d ≡ map outcomes_of self.now.lanes) }
     {
-        let _ = seats;
         let mut lists = Vec::with_capacity(alloc.clone()?, self.queues.len())?;
         for queue in &self.queues {
             lists.push_reserved(queue.outcomes(alloc.clone()?)?);
         }
         Ok(Deliveries::from_lists(lists))
+    }
+
+    /// What became of each block that was exported. An error says that memory ran out.
+    pub fn close(self, alloc: A, seats: Vec<PlainSeat, A>) -> Result<Deliveries<A>, AllocError>
+        ensures { IfOk result (λ d. d ≡ map outcomes_of self.lanes) }
+    {
+        let _ = seats;
+        self.told(alloc)
     }
 }
 

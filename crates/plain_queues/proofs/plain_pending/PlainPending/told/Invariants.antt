@@ -1,7 +1,7 @@
 use Rattle.std.proofs.Common.{◌≡◌, ◌≤◌, length, map, take}
 use Rattle.std.specs.Vec.{vec_capacity}
 use Rattle.plain_queues.specs.PlainValue.{outcomes_of}
-use Rattle.plain_queues.proofs.plain_pending.PlainPending.close.Given as goal
+use Rattle.plain_queues.proofs.plain_pending.PlainPending.told.Given as goal
 
 abbrev pub invariant-loop-queue : goal.invariant-loop-queue
 invariant-loop-queue g l = record {
