@@ -1,4 +1,5 @@
-use Rattle.std.proofs.Common.{◌<◌, length, None, arith, ◌∙◌, ap}
+use Rattle.std.proofs.lemmas.Grind.{common_steps}
+use Rattle.std.proofs.Common.{◌<◌, length, None, arith, ◌∙◌, ap, rules}
 use Rattle.block_table.specs.Table.{cleared}
 use Rattle.block_table.proofs.TableSteps.{clear_first, clear_others, get_or_any}
 use Rattle.block_table.proofs.exchanging.clear_blocks.Goals as goal
@@ -10,3 +11,24 @@ loop-number-preserved g c =
       first = clear_first cleared c.args.table.now c.loop-number.table c.loop-number.number c.clear_slot.new.slot lt c.loop-number.invariant.first c.loop-number.invariant.others (c.clear_slot.ensures ∙ ap cleared (get_or_any c.loop-number.table c.loop-number.number c.index-table-number.result None lt));
       others = clear_others cleared c.args.table.now c.loop-number.table c.loop-number.number c.clear_slot.new.slot lt c.loop-number.invariant.others;
     }
+
+pub loop-number-init : goal.loop-number-init
+loop-number-init g c = search rules
+
+pub offset_bounds-table-number : goal.offset_bounds-table-number
+offset_bounds-table-number g c = grind (arith, common_steps)
+
+pub bounds-table-number : goal.bounds-table-number
+bounds-table-number g c = search rules
+
+pub clear_slot-requires : goal.clear_slot-requires
+clear_slot-requires g c κs = search rules
+
+pub loop-number-smaller : goal.loop-number-smaller
+loop-number-smaller g c = search rules
+
+pub returns-clause-first : goal.returns-clause-first
+returns-clause-first g c = search rules
+
+pub returns-clause-others : goal.returns-clause-others
+returns-clause-others g c = search rules

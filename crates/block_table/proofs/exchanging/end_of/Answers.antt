@@ -1,4 +1,4 @@
-use Rattle.std.proofs.Common.{◌≡◌, ◌+◌, max, arith, ap, ◌∙◌}
+use Rattle.std.proofs.Common.{◌≡◌, ◌+◌, max, arith, ap, ◌∙◌, rules}
 use Rattle.block_table.proofs.TableReads.{end_more, ord_max-is}
 use Rattle.block_table.proofs.exchanging.end_of.Goals as goal
 
@@ -9,3 +9,33 @@ loop-block-preserved g c =
       above = rw more (end_more (λ b. b.number) c.args.blocks.now c.loop-block.block-index c.loop-block.end c.block-item.result c.block-item.is c.loop-block-test.true c.loop-block.invariant.above);
       least = λ limit all. omega (arith, more, c.loop-block.invariant.least limit all, all c.loop-block.block-index c.block-item.result c.loop-block-test.true, ap (λ b. b.number) c.block-item.is);
     }
+
+pub loop-block-init : goal.loop-block-init
+loop-block-init g c = search rules
+
+pub offset_bounds-blocks-block-index : goal.offset_bounds-blocks-block-index
+offset_bounds-blocks-block-index g c = search rules
+
+pub bounds-blocks-block-index : goal.bounds-blocks-block-index
+bounds-blocks-block-index g c = search rules
+
+pub number-requires : goal.number-requires
+number-requires g c κs = search rules
+
+pub overflow_cast-number : goal.overflow_cast-number
+overflow_cast-number g c = search rules
+
+pub overflow_add-number : goal.overflow_add-number
+overflow_add-number g c = search rules
+
+pub max-end-requires : goal.max-end-requires
+max-end-requires g c κs = search rules
+
+pub loop-block-smaller : goal.loop-block-smaller
+loop-block-smaller g c = search rules
+
+pub returns-clause-above : goal.returns-clause-above
+returns-clause-above g c = search rules
+
+pub returns-clause-least : goal.returns-clause-least
+returns-clause-least g c = search rules

@@ -1,4 +1,5 @@
-use Rattle.std.proofs.Common.{◌≡◌, None, get_or, arith, ◌∙◌, sym, ap}
+use Rattle.std.proofs.lemmas.Grind.{common_steps}
+use Rattle.std.proofs.Common.{◌≡◌, None, get_or, arith, ◌∙◌, sym, ap, rules}
 use Rattle.std.proofs.lemmas.List.Sums.{sum_by_more}
 use Rattle.block_table.specs.Table.{slot_len, slot_words}
 use Rattle.block_table.proofs.TableSteps.{get_or_any}
@@ -36,3 +37,45 @@ loop-slot-preserved g c =
             small = omega (arith, c.loop-slot.invariant.small);
           })
     ]
+
+pub default-count-requires : goal.default-count-requires
+default-count-requires g c = search rules
+
+pub loop-slot-init : goal.loop-slot-init
+loop-slot-init g c = search rules
+
+pub offset_bounds-table-slot-index : goal.offset_bounds-table-slot-index
+offset_bounds-table-slot-index g c = search rules
+
+pub bounds-table-slot-index : goal.bounds-table-slot-index
+bounds-table-slot-index g c = search rules
+
+pub words-words-requires : goal.words-words-requires
+words-words-requires g c κs = search rules
+
+pub len-requires : goal.len-requires
+len-requires g c κs = search rules
+
+pub overflow_add-count : goal.overflow_add-count
+overflow_add-count g c = search rules
+
+pub used-requires : goal.used-requires
+used-requires g c κs = search rules
+
+pub overflow_add-count-in-Some : goal.overflow_add-count-in-Some
+overflow_add-count-in-Some g c = search rules
+
+pub loop-slot-smaller : goal.loop-slot-smaller
+loop-slot-smaller g c = search rules
+
+pub returns-clause-generation : goal.returns-clause-generation
+returns-clause-generation g c = search rules
+
+pub returns-clause-step : goal.returns-clause-step
+returns-clause-step g c = search rules
+
+pub returns-clause-objects : goal.returns-clause-objects
+returns-clause-objects g c = grind (arith, common_steps)
+
+pub returns-clause-words : goal.returns-clause-words
+returns-clause-words g c = grind (arith, common_steps)

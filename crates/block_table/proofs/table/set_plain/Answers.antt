@@ -1,4 +1,4 @@
-use Rattle.std.proofs.Common.{Some, sym, ap, set, ◌∙◌}
+use Rattle.std.proofs.Common.{Some, sym, ap, set, ◌∙◌, rules}
 use Rattle.block_pool.specs.BlockValue.{BlockValue, with_plain_word}
 use Rattle.block_table.proofs.TableReads.{same_block}
 use Rattle.block_table.proofs.table.set_plain.Goals as goal
@@ -9,3 +9,15 @@ returns-in-Some g c = λ block k raw there lt at is few.
     let changed = c.set_block_plain.ensures k raw (rw (sym same) at lt) (rw (sym same) at at) (rw (sym same) at is) few in
     ap (λ (x : BlockValue). set c.args.table.now c.args.number (Some x))
     (changed ∙ ap (λ (b : BlockValue). let x : BlockValue = record b { objects = set b.objects k (with_plain_word raw c.args.i c.args.word) } in x) same)
+
+pub offset_bounds-table-number : goal.offset_bounds-table-number
+offset_bounds-table-number g c = search rules
+
+pub bounds-table-number : goal.bounds-table-number
+bounds-table-number g c = search rules
+
+pub set_block_plain-requires : goal.set_block_plain-requires
+set_block_plain-requires g c κs = search rules
+
+pub returns-in-None : goal.returns-in-None
+returns-in-None g c = search rules

@@ -1,4 +1,4 @@
-use Rattle.std.proofs.Common.{◌≡◌, ap, arith, length}
+use Rattle.std.proofs.Common.{◌≡◌, ap, arith, length, rules}
 use Rattle.block_pool.proofs.PoolLemmas.{length-set_from-le, free-rises}
 use Rattle.block_pool.proofs.pool.Pool.free_count.Goals as goal
 
@@ -9,3 +9,6 @@ returns-clause-in_limit g c =
 
 pub returns-clause-rising : goal.returns-clause-rising
 returns-clause-rising g c = free-rises c.self.inside.flags.items _ (ap (λ v. v.free) c.self.view_is)
+
+pub returns-clause-value : goal.returns-clause-value
+returns-clause-value g c = search rules

@@ -1,4 +1,4 @@
-use Rattle.std.proofs.Common.{◌≡◌, ◌∙◌, ◌<◌, ◌++◌, ◌∷◌, [], ap, sym, arith, length, get_or, take, true, false, List, ℕ, subst}
+use Rattle.std.proofs.Common.{◌≡◌, ◌∙◌, ◌<◌, ◌++◌, ◌∷◌, [], ap, sym, arith, length, get_or, take, true, false, List, ℕ, subst, rules}
 use Rattle.std.specs.List.{Contains}
 use Rattle.std.proofs.lemmas.List.{length_push, length-set, take-append-drop}
 use Rattle.block_pool.specs.PoolValue.{set_from, NoneSetBelow}
@@ -56,3 +56,6 @@ returns-clause-apart g c =
     granted-apart c.args.self.now.free (length c.loop-self.granted.items) n (free-rises c.self.inside.flags.items _ (ap (λ v. v.free) c.self.view_is))
     (subst P c.loop-self.invariant.granted here)
     (subst P c.loop-self.invariant.rest there)
+
+pub returns-then-self-count-clause-full : goal.returns-then-self-count-clause-full
+returns-then-self-count-clause-full g c = search rules

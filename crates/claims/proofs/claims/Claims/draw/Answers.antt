@@ -20,3 +20,9 @@ returns-clause-fresh g c =
     let source = ap (λ s. s.source) c.seat.view_is ∙ (c.requires.seat ∙ sym (ap (λ v. v.source) c.self.view_is)) in
     let same = ap (λ s. s.free) source ∙ sym c.deref.ensures.value in
     rw (sym (ap (λ s. s.drawn) c.seat.view_is)) (fresh_read _ _ _ c.fetch_add-at.result c.get.result c.copied-number.result same c.copied-number.ensures c.get.ensures.lookup.3 c.fetch_add-at.ensures.2.fresh)
+
+pub invariant_of-seat : goal.invariant_of-seat
+invariant_of-seat g c = search rules
+
+pub returns-clause-drawn : goal.returns-clause-drawn
+returns-clause-drawn g c = search rules

@@ -1,4 +1,4 @@
-use Rattle.std.proofs.Common.{◌≡◌, ◌∙◌, ap, subst, map}
+use Rattle.std.proofs.Common.{◌≡◌, ◌∙◌, ap, subst, map, rules}
 use Rattle.plain_cells.specs.Plain.{PlainValue, ArePlainCells, known_by, place_of}
 use Rattle.cells.proofs.Agreeing.{agrees}
 use Rattle.plain_cells.proofs.PlainSettled.{plain_settles}
@@ -12,3 +12,6 @@ returns-clause-settled g c =
 
 pub returns-clause-agree : goal.returns-clause-agree
 returns-clause-agree g c = agrees known_by _ _ (returns-clause-settled g c).known_settled
+
+pub returns-in_default-clause-never_unsettled : goal.returns-in_default-clause-never_unsettled
+returns-in_default-clause-never_unsettled g c = search rules

@@ -1,4 +1,4 @@
-use Rattle.std.proofs.Common.{ap, sym, subst, ◌∙◌, ◌≡◌}
+use Rattle.std.proofs.Common.{ap, sym, subst, ◌∙◌, ◌≡◌, rules}
 use Rattle.atomic_table.specs.Table.{State, Seen}
 use Rattle.word_cells.specs.declared.plays.Mind.{Mind}
 use Rattle.word_cells.specs.declared.plays.Plan.{Plan}
@@ -17,3 +17,6 @@ returns-clause-settled g c =
 
 pub returns-clause-agree : goal.returns-clause-agree
 returns-clause-agree g c = agrees (λ (p : WordPassValue). known_in p.known) _ _ (returns-clause-settled g c).known_settled
+
+pub returns-in_default-clause-never_unsettled : goal.returns-in_default-clause-never_unsettled
+returns-in_default-clause-never_unsettled g c = search rules

@@ -1,0 +1,8 @@
+use Rattle.std.proofs.Common.{rules}
+use Rattle.layout.proofs.place.Place.large.Goals as goal
+
+pub returns-clause-at : goal.returns-clause-at
+returns-clause-at c = search rules
+
+pub returns-clause-word : goal.returns-clause-word
+returns-clause-word c = search rules
