@@ -12,20 +12,8 @@ loop-number-preserved g c =
       others = clear_others cleared c.args.table.now c.loop-number.table c.loop-number.number c.clear_slot.new.slot lt c.loop-number.invariant.others;
     }
 
-pub loop-number-init : goal.loop-number-init
-loop-number-init g c = search rules
-
 pub offset_bounds-table-number : goal.offset_bounds-table-number
 offset_bounds-table-number g c = grind (arith, common_steps)
-
-pub bounds-table-number : goal.bounds-table-number
-bounds-table-number g c = search rules
-
-pub clear_slot-requires : goal.clear_slot-requires
-clear_slot-requires g c κs = search rules
-
-pub loop-number-smaller : goal.loop-number-smaller
-loop-number-smaller g c = search rules
 
 pub returns-clause-first : goal.returns-clause-first
 returns-clause-first g c = search rules

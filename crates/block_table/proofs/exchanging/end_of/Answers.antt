@@ -10,30 +10,6 @@ loop-block-preserved g c =
       least = λ limit all. omega (arith, more, c.loop-block.invariant.least limit all, all c.loop-block.block-index c.block-item.result c.loop-block-test.true, ap (λ b. b.number) c.block-item.is);
     }
 
-pub loop-block-init : goal.loop-block-init
-loop-block-init g c = search rules
-
-pub offset_bounds-blocks-block-index : goal.offset_bounds-blocks-block-index
-offset_bounds-blocks-block-index g c = search rules
-
-pub bounds-blocks-block-index : goal.bounds-blocks-block-index
-bounds-blocks-block-index g c = search rules
-
-pub number-requires : goal.number-requires
-number-requires g c κs = search rules
-
-pub overflow_cast-number : goal.overflow_cast-number
-overflow_cast-number g c = search rules
-
-pub overflow_add-number : goal.overflow_add-number
-overflow_add-number g c = search rules
-
-pub max-end-requires : goal.max-end-requires
-max-end-requires g c κs = search rules
-
-pub loop-block-smaller : goal.loop-block-smaller
-loop-block-smaller g c = search rules
-
 pub returns-clause-above : goal.returns-clause-above
 returns-clause-above g c = search rules
 

@@ -16,35 +16,14 @@ returns-clause-table g c = λ n.
 pub returns-clause-free : goal.returns-clause-free
 returns-clause-free g c = λ n. c.install.ensures.free n ∙ ap (λ b. b && not (is_some (installed c.args.blocks.items n))) (c.drop_area.ensures.free n)
 
-pub clear_blocks-requires : goal.clear_blocks-requires
-clear_blocks-requires g c = search rules
-
 pub drop_area-requires-clause-in_table : goal.drop_area-requires-clause-in_table
 drop_area-requires-clause-in_table g c = grind (arith, common_steps)
-
-pub drop_area-requires-clause-in_pool : goal.drop_area-requires-clause-in_pool
-drop_area-requires-clause-in_pool g c = search rules
-
-pub drop_area-requires-clause-not_free : goal.drop_area-requires-clause-not_free
-drop_area-requires-clause-not_free g c = search rules
-
-pub drop_area-requires-clause-once : goal.drop_area-requires-clause-once
-drop_area-requires-clause-once g c = search rules
 
 pub install-requires-clause-in_table : goal.install-requires-clause-in_table
 install-requires-clause-in_table g c = grind (arith, common_steps)
 
 pub install-requires-clause-free : goal.install-requires-clause-free
 install-requires-clause-free g c = grind arith
-
-pub install-requires-clause-once : goal.install-requires-clause-once
-install-requires-clause-once g c = search rules
-
-pub install-requires-clause-empty : goal.install-requires-clause-empty
-install-requires-clause-empty g c = search rules
-
-pub install-requires-clause-room : goal.install-requires-clause-room
-install-requires-clause-room g c = search rules
 
 pub returns-clause-limit : goal.returns-clause-limit
 returns-clause-limit g c = search rules

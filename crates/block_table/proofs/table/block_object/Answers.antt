@@ -21,15 +21,6 @@ returns-then-number-table-clause-some g c = search rules
 pub returns-then-number-table-clause-none : goal.returns-then-number-table-clause-none
 returns-then-number-table-clause-none g c = grind (arith, common_steps)
 
-pub offset_bounds-table-number : goal.offset_bounds-table-number
-offset_bounds-table-number g c = search rules
-
-pub bounds-table-number : goal.bounds-table-number
-bounds-table-number g c = search rules
-
-pub object_at-requires : goal.object_at-requires
-object_at-requires g c κs = search rules
-
 pub returns-in-None-clause-some : goal.returns-in-None-clause-some
 returns-in-None-clause-some g c = search rules
 

@@ -38,36 +38,6 @@ loop-slot-preserved g c =
           })
     ]
 
-pub default-count-requires : goal.default-count-requires
-default-count-requires g c = search rules
-
-pub loop-slot-init : goal.loop-slot-init
-loop-slot-init g c = search rules
-
-pub offset_bounds-table-slot-index : goal.offset_bounds-table-slot-index
-offset_bounds-table-slot-index g c = search rules
-
-pub bounds-table-slot-index : goal.bounds-table-slot-index
-bounds-table-slot-index g c = search rules
-
-pub words-words-requires : goal.words-words-requires
-words-words-requires g c κs = search rules
-
-pub len-requires : goal.len-requires
-len-requires g c κs = search rules
-
-pub overflow_add-count : goal.overflow_add-count
-overflow_add-count g c = search rules
-
-pub used-requires : goal.used-requires
-used-requires g c κs = search rules
-
-pub overflow_add-count-in-Some : goal.overflow_add-count-in-Some
-overflow_add-count-in-Some g c = search rules
-
-pub loop-slot-smaller : goal.loop-slot-smaller
-loop-slot-smaller g c = search rules
-
 pub returns-clause-generation : goal.returns-clause-generation
 returns-clause-generation g c = search rules
 

@@ -10,14 +10,5 @@ returns-in-Some g c = λ block k raw there lt at is few.
     ap (λ (x : BlockValue). set c.args.table.now c.args.number (Some x))
     (changed ∙ ap (λ (b : BlockValue). let x : BlockValue = record b { objects = set b.objects k (with_plain_word raw c.args.i c.args.word) } in x) same)
 
-pub offset_bounds-table-number : goal.offset_bounds-table-number
-offset_bounds-table-number g c = search rules
-
-pub bounds-table-number : goal.bounds-table-number
-bounds-table-number g c = search rules
-
-pub set_block_plain-requires : goal.set_block_plain-requires
-set_block_plain-requires g c κs = search rules
-
 pub returns-in-None : goal.returns-in-None
 returns-in-None g c = search rules

@@ -1,3 +1,4 @@
+use Rattle.std.proofs.lemmas.Grind.{common_steps}
 use Rattle.std.proofs.Common.{arith, ◌≡◌, ◌∙◌, ap, sym, map}
 use Rattle.box_cells.specs.Boxed.{note_cell, names_of}
 use Rattle.box_cells.proofs.Noting.{same_many, has_cell, of_cell, still_of, looked, noted_set}
@@ -21,3 +22,6 @@ returns-clause-pass c = record {
   number = ap (λ v. v.number) c.pass.view_is;
   cells = still_of _ _ _ _ c.index_mut.ensures.value c.get_as.ensures.cell ∙ ap (λ v. v.cells) c.pass.view_is;
 }
+
+pub returns-clause-known : goal.returns-clause-known
+returns-clause-known c = grind (arith, common_steps)

@@ -1,4 +1,4 @@
-use Rattle.std.proofs.Common.{arith, ◌∙◌, ◌++◌, ◌∷◌, [], List, ap, sym, subst}
+use Rattle.std.proofs.Common.{arith, ◌∙◌, ◌++◌, ◌∷◌, [], List, ap, sym, subst, rules}
 use Rattle.std.specs.Prelude.{All, AllPairs}
 use Rattle.std.proofs.lemmas.List.{length_push}
 use Rattle.std.proofs.lemmas.List.FromFn.{map-range_with_len_more}
@@ -25,3 +25,6 @@ returns-clause-apart c =
 pub returns-clause-fits : goal.returns-clause-fits
 returns-clause-fits c =
     subst (λ (ps : List NotedValue). All (IsPassOf (names_of c.in_ok-empty_cells.field-0.items)) ps) (sym c.loop-number.invariant.made) (new_passes-fit (names_of c.in_ok-empty_cells.field-0.items) c.loop-number.number)
+
+pub loop-number-init : goal.loop-number-init
+loop-number-init c = search rules

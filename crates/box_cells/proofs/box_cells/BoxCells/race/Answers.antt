@@ -1,3 +1,4 @@
+use Rattle.std.proofs.lemmas.Grind.{common_steps}
 use Rattle.std.proofs.Common.{arith, ◌≡◌, ◌∙◌, ap, sym, map, Some, None, rules, length, ◌<◌}
 use Rattle.std.specs.Prelude.{Option}
 use Rattle.std.specs.Option.{unwrap_or}
@@ -61,3 +62,12 @@ returns-in-Some-clause-pass c = record {
   number = ap (λ v. v.number) c.pass.view_is;
   cells = still_of _ _ _ _ c.index_mut.ensures.value c.offer-lost.ensures.cell ∙ ap (λ v. v.cells) c.pass.view_is;
 }
+
+pub returns-in-Some-clause-known : goal.returns-in-Some-clause-known
+returns-in-Some-clause-known c = grind (arith, common_steps)
+
+pub returns-in-Some-clause-won : goal.returns-in-Some-clause-won
+returns-in-Some-clause-won c = search rules
+
+pub returns-in-None-clause-won : goal.returns-in-None-clause-won
+returns-in-None-clause-won c = grind (arith, common_steps)

@@ -1,4 +1,4 @@
-use Rattle.std.proofs.Common.{◌≡◌, ap, sym, ◌∙◌, None, arith}
+use Rattle.std.proofs.Common.{◌≡◌, ap, sym, ◌∙◌, None, arith, rules}
 use Rattle.std.specs.Prelude.{slice_index_or}
 use Rattle.std.specs.FinMap.{insert}
 use Rattle.layout.specs.Place.{place_word}
@@ -26,3 +26,9 @@ returns-in-Some-clause-ok g c =
     let vacant = sym (ap (λ s. slice_index_or s c.insert_reserved.result None) kept) ∙ c.insert_reserved.ensures.was_vacant in
     let roots = roots-insert c.reserve.new.self c.insert_reserved.new.self c.insert_reserved.result c.in-Some.place c.insert_reserved.ensures.updates ∙ ap (λ s. insert (roots_map s) c.insert_reserved.result (place_word c.in-Some.place)) kept in
     rw (← c.self.view_is) (allocates_is c.self.inside.space c.allocate.new.self c.self.inside.roots.slots c.insert_reserved.new.self.slots c.args.mutator c.args.p c.args.q c.insert_reserved.result (place_word c.in-Some.place) first some vacant roots)
+
+pub returns-then-p-gt-MOST_FIELDS-clause-too_big : goal.returns-then-p-gt-MOST_FIELDS-clause-too_big
+returns-then-p-gt-MOST_FIELDS-clause-too_big g c = search rules
+
+pub returns-then-p-gt-MOST_FIELDS-clause-full : goal.returns-then-p-gt-MOST_FIELDS-clause-full
+returns-then-p-gt-MOST_FIELDS-clause-full g c = search rules

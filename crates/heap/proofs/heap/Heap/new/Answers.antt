@@ -1,4 +1,4 @@
-use Rattle.std.proofs.Common.{◌≡◌, [], sym, ap, subst, ◌∙◌}
+use Rattle.std.proofs.Common.{◌≡◌, [], sym, ap, subst, ◌∙◌, rules}
 use Rattle.model.specs.Graph.{IsClosed}
 use Rattle.model.proofs.ClosedLemmas.{closed_empty}
 use Rattle.heap_data.specs.HeapValue.{HeapValue, empty_heap}
@@ -14,3 +14,6 @@ pub invariant_of-result : goal.invariant_of-result
 invariant_of-result g c =
     let empty : heap_of c.in-Ok-new.space [] ≡ empty_heap c.args.config = ap (λ s. heap_of s []) c.in-Ok-new.ensures ∙ empty_view c.args.config c.nursery_blocks.ensures.in_range in
     rw c.new-in-Ok-new.ensures.empty (subst (λ (h : HeapValue). IsClosed h.graph) (sym empty) closed_empty)
+
+pub returns-then-blocks-nursery_blocks-clause-full : goal.returns-then-blocks-nursery_blocks-clause-full
+returns-then-blocks-nursery_blocks-clause-full g c = search rules

@@ -1,4 +1,4 @@
-use Rattle.std.proofs.Common.{◌≡◌, ap, ◌∙◌, sym, refl}
+use Rattle.std.proofs.Common.{◌≡◌, ap, ◌∙◌, sym, refl, rules}
 use Rattle.std.specs.Option.{option_map}
 use Rattle.layout.specs.Place.{place_word}
 use Rattle.heap.specs.Commands.{value_at}
@@ -16,3 +16,15 @@ invariant_of-self g c =
       | in-Some-value+in-Some-target w ↦ rw (w.target-is, w.in-Some-value.is) (sym (ap (option_map place_word) w.in-Some-target.is) ∙ (rw (← c.self.view_is) at w.target-in-Some-value.ensures))
     ] in
     pointer_stored c.self.inside.space c.set_pointer.new.self c.self.inside.roots.slots c.args.root.number _ c.self.invariant h c.args.field _ _ to (c.set_pointer.ensures h.object h.there)
+
+pub returns-in-None-target-clause-no_root : goal.returns-in-None-target-clause-no_root
+returns-in-None-target-clause-no_root g c = search rules
+
+pub returns-in-None-target-clause-bad_field : goal.returns-in-None-target-clause-bad_field
+returns-in-None-target-clause-bad_field g c = search rules
+
+pub returns-then-field-pointer_count-clause-no_root : goal.returns-then-field-pointer_count-clause-no_root
+returns-then-field-pointer_count-clause-no_root g c = search rules
+
+pub returns-then-field-pointer_count-clause-bad_field : goal.returns-then-field-pointer_count-clause-bad_field
+returns-then-field-pointer_count-clause-bad_field g c = search rules

@@ -1,4 +1,4 @@
-use Rattle.std.proofs.Common.{◌≡◌, true, get_or, subst}
+use Rattle.std.proofs.Common.{◌≡◌, true, get_or, subst, rules}
 use Rattle.model.specs.Reached.{has}
 use Rattle.block_table.proofs.Areas.{has_at}
 use Rattle.block_table.proofs.TableSteps.{get_or_any}
@@ -11,3 +11,6 @@ returns-clause-blocks g c =
       rising = c.free_count.ensures.rising;
       in_range = λ k d lt. (c.self.invariant.are_free (get_or free k d) (subst (λ n. has free n ≡ true) (get_or_any free k 0 d lt) (has_at free k lt))).1;
     }
+
+pub returns-clause-value : goal.returns-clause-value
+returns-clause-value g c = search rules

@@ -1,4 +1,4 @@
-use Rattle.std.proofs.Common.{refl, sym}
+use Rattle.std.proofs.Common.{refl, sym, rules}
 use Rattle.std.proofs.lemmas.Bool.{true≢false}
 use Rattle.trace_session.proofs.SessionSteps.{steps_drop, root_there}
 use Rattle.trace_session.proofs.session.Session.remove.Goals as goal
@@ -10,3 +10,6 @@ returns-in-Ok-clause-ok g c = λ config store stands.
 pub returns-in-Err-clause-err : goal.returns-in-Err-clause-err
 returns-in-Err-clause-err g c =
     (refl, λ config store stands. absurd (true≢false (sym (c.in-Err.ensures.known.1 (root_there _ _ config store stands c.args.name.now c.in-Some.root.number (sym c.in-Some.ensures.root))))))
+
+pub returns-in_default-clause-err : goal.returns-in_default-clause-err
+returns-in_default-clause-err g c = search rules
