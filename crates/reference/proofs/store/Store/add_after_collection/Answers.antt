@@ -1,0 +1,5 @@
+use Rattle.std.proofs.Common.{rules}
+use Rattle.reference.proofs.store.Store.add_after_collection.Goals as goal
+
+pub returns : goal.returns
+returns g c = search rules
