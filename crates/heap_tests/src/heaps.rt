@@ -1,6 +1,6 @@
 //! Heaps of any size, and collections of them.
 use collector::{CollectError, collect_one};
-use heap::{Config, Heap, Sizes};
+use heap::{AllocateError, Config, Heap, Sizes};
 use std::alloc::Allocator;
 use std::test::Fail;
 
@@ -22,6 +22,30 @@ pub(crate) fn config_of(
         Ok(config) => Ok(config),
         Err(_) => Err(Fail::from("bad sizes")),
     }
+}
+
+/// A heap of that many blocks of so many words, with one generation.
+pub(crate) fn heap_of<A: Allocator + Clone>(
+    alloc: A,
+    block_words: u64,
+    nursery_blocks: u64,
+    blocks: u64,
+) -> Result<Heap<A>, Fail> {
+    let config = config_of(block_words, nursery_blocks, blocks)?;
+    Ok(Heap::new(alloc, config)?)
+}
+
+/// Allocates so many objects of these sizes.
+pub(crate) fn add_objects<A: Allocator + Clone>(
+    heap: &mut Heap<A>,
+    count: u32,
+    pointers: u64,
+    words: u64,
+) -> Result<(), AllocateError> {
+    for _object in 0..count {
+        let _root = heap.allocate(0, pointers, words)?;
+    }
+    Ok(())
 }
 
 /// Collects, and tells how many objects were kept and freed.

@@ -1,7 +1,7 @@
 //! The fields of objects, and the order in which a collection copies what they lead to.
-use crate::heaps::{collected, config_of};
+use crate::heaps::{collected, heap_of};
 use collector::collect_one;
-use heap::{FieldError, Heap, RootId, StoreError, WorkerReport};
+use heap::{FieldError, Heap, Report, RootId, StoreError, WorkerReport};
 use layout::Place;
 use std::alloc::Global;
 use std::process::Abort;
@@ -9,8 +9,7 @@ use std::test::Fail;
 
 /// A heap of blocks of 16 words.
 fn small_heap(alloc: Global) -> Result<Heap<Global>, Fail> {
-    let config = config_of(16, 8, 40)?;
-    Ok(Heap::new(alloc, config)?)
+    heap_of(alloc, 16, 8, 40)
 }
 
 /// A new object of two pointers, marked by its plain word.
@@ -73,17 +72,37 @@ fn assert_in_order(rt: &impl Abort, heap: &Heap<Global>, worker: &WorkerReport<G
     }
 }
 
+/// Asserts that the tree was copied breadth first, and that one object was freed.
+fn assert_breadth_first(
+    rt: &impl Abort,
+    heap: &Heap<Global>,
+    report: &Report<Global>,
+) -> Result<(), Fail> {
+    assert_eq!(rt; (report.kept, report.freed), (7, 1));
+    let worker = report.workers.first().ok_or("no worker")?;
+    assert_eq!(rt; (worker.won().len(), worker.scanned().len()), (7, 7));
+    assert_in_order(rt, heap, worker);
+    Ok(())
+}
+
+/// Collects a tree, and asserts what is told and left of it.
+fn assert_tree_is_copied(
+    rt: &impl Abort,
+    alloc: Global,
+    heap: &mut Heap<Global>,
+    top: RootId,
+) -> Result<(), Fail> {
+    let report = collect_one(alloc, heap, 0)?;
+    assert_breadth_first(rt, heap, &report)?;
+    assert_eq!(rt; heap.get(top, 0), Ok(0));
+    Ok(())
+}
+
 #[test]
 fn breadth_first(rt: HostRuntime) -> Result<(), Fail> {
     let mut heap = small_heap(rt.alloc())?;
     let top = add_tree(&mut heap)?;
-    let report = collect_one(rt.alloc(), &mut heap, 0)?;
-    assert_eq!(rt; (report.kept, report.freed), (7, 1));
-    let worker = report.workers.first().ok_or("no worker")?;
-    assert_eq!(rt; (worker.won().len(), worker.scanned().len()), (7, 7));
-    assert_in_order(&rt, &heap, worker);
-    assert_eq!(rt; heap.get(top, 0), Ok(0));
-    Ok(())
+    assert_tree_is_copied(&rt, rt.alloc(), &mut heap, top)
 }
 
 /// Adds the next object of a chain, which leads to it alone.
@@ -113,31 +132,57 @@ fn add_chain(heap: &mut Heap<Global>) -> Result<RootId, Fail> {
     Ok(first)
 }
 
-#[test]
-fn a_chain_over_many_blocks(rt: HostRuntime) -> Result<(), Fail> {
-    let mut heap = small_heap(rt.alloc())?;
-    let first = add_chain(&mut heap)?;
+/// Collects a chain three times, cuts it behind its first object, and collects what is left.
+fn assert_chain_is_kept(
+    rt: &impl Abort,
+    alloc: Global,
+    heap: &mut Heap<Global>,
+    first: RootId,
+) -> Result<(), Fail> {
     for _turn in 0..3 {
-        assert_eq!(rt; collected(rt.alloc(), &mut heap), Ok((32, 0)));
+        assert_eq!(rt; collected(alloc, heap), Ok((32, 0)));
     }
     heap.store(first, 1, None)?;
-    assert_eq!(rt; collected(rt.alloc(), &mut heap), Ok((1, 31)));
+    assert_eq!(rt; collected(alloc, heap), Ok((1, 31)));
     Ok(())
 }
 
 #[test]
-fn refused_fields(rt: HostRuntime) -> Result<(), Fail> {
+fn a_chain_over_many_blocks(rt: HostRuntime) -> Result<(), Fail> {
     let mut heap = small_heap(rt.alloc())?;
-    let root = marked(&mut heap, 6)?;
-    let gone = marked(&mut heap, 7)?;
-    heap.release(gone)?;
+    let first = add_chain(&mut heap)?;
+    assert_chain_is_kept(&rt, rt.alloc(), &mut heap, first)
+}
+
+/// Asserts the faults of pointers, by a root and by one that was released.
+fn assert_no_pointers(rt: &impl Abort, heap: &mut Heap<Global>, root: RootId, gone: RootId) {
     assert_eq!(rt; heap.store(root, 2, Some(gone)), Err(StoreError::BadField));
     assert_eq!(rt; heap.store(root, 1, Some(gone)), Err(StoreError::NoRoot));
     assert_eq!(rt; heap.store(gone, 2, Some(root)), Err(StoreError::NoRoot));
+}
+
+/// Asserts the faults of plain words, by a root whose mark is 6 and by one that was released.
+fn assert_no_words(rt: &impl Abort, heap: &mut Heap<Global>, root: RootId, gone: RootId) {
     assert_eq!(rt; heap.put(root, 1, 0), Err(FieldError::BadField));
     assert_eq!(rt; heap.put(gone, 0, 0), Err(FieldError::NoRoot));
     assert_eq!(rt; heap.get(root, 1), Err(FieldError::BadField));
     assert_eq!(rt; heap.get(gone, 0), Err(FieldError::NoRoot));
     assert_eq!(rt; heap.get(root, 0), Ok(6));
+}
+
+/// Two new objects, marked 6 and 7. The second one's root is released.
+fn root_and_gone(heap: &mut Heap<Global>) -> Result<(RootId, RootId), Fail> {
+    let root = marked(heap, 6)?;
+    let gone = marked(heap, 7)?;
+    heap.release(gone)?;
+    Ok((root, gone))
+}
+
+#[test]
+fn refused_fields(rt: HostRuntime) -> Result<(), Fail> {
+    let mut heap = small_heap(rt.alloc())?;
+    let (root, gone) = root_and_gone(&mut heap)?;
+    assert_no_pointers(&rt, &mut heap, root, gone);
+    assert_no_words(&rt, &mut heap, root, gone);
     Ok(())
 }

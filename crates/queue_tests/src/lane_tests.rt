@@ -92,6 +92,48 @@ fn receive_next<R: Wait>(
     Some((block.number(), position))
 }
 
+/// Whether no block may be there, and none is.
+fn is_empty<R: Wait>(rt: &R, lane: &Lane<Any>, pass: &mut LanePass<Numbers>) -> bool
+    requires lane { pass.old.lane ≡ lane.now }
+    requires parts { 0 < pass.old.parts }
+    ensures { pass.new ≡ record pass.old { taken = pass.new.taken } }
+{
+    let maybe = lane.maybe(pass);
+    receive_next(rt, lane, pass).is_none() && !maybe
+}
+
+/// The next two blocks, of which each pass takes one.
+fn receive_two<R: Wait>(
+    rt: &R,
+    lane: &Lane<Any>,
+    first: &mut LanePass<Numbers>,
+    second: &mut LanePass<Numbers>,
+) -> (Option<(u32, u64)>, Option<(u32, u64)>)
+    requires lane { (first.old.lane ≡ lane.now) × (second.old.lane ≡ lane.now) }
+    requires parts { (0 < first.old.parts) × (0 < second.old.parts) }
+    ensures first { first.new ≡ record first.old { taken = first.new.taken } }
+    ensures second { second.new ≡ record second.old { taken = second.new.taken } }
+{
+    let block = receive_next(rt, lane, first);
+    (block, receive_next(rt, lane, second))
+}
+
+/// Takes a block by two passes in one: how many are left before, the block, and how many are left after.
+fn gather_and_receive<R: Wait>(
+    rt: &R,
+    lane: &Lane<Any>,
+    mut pass: LanePass<Numbers>,
+    other: LanePass<Numbers>,
+) -> (usize, Option<(u32, u64)>, usize)
+    requires lane { (pass.lane ≡ lane.now) × (other.lane ≡ lane.now) }
+    requires parts { (pass.parts ≡ 1) × (other.parts ≡ 1) × (pass.about.seats ≡ 2) }
+{
+    lane.gather(&mut pass, other);
+    let before = lane.settle(rt, &mut pass);
+    let block = receive_next(rt, lane, &mut pass);
+    (before, block, lane.settle(rt, &mut pass))
+}
+
 /// Sends blocks with the numbers 40, 30 and 20.
 fn send_three<R: Wait>(
     rt: &R,
@@ -111,16 +153,13 @@ fn send_three<R: Wait>(
 #[test]
 fn blocks_come_in_order(rt: HostRuntime) -> Result<(), Fail> {
     let (lane, mut sender, mut taker) = open_pair(rt.alloc())?;
-    assert!(rt; !lane.maybe(&mut taker));
-    assert_eq!(rt; receive_next(&rt, &lane, &mut taker), None);
+    assert!(rt; is_empty(&rt, &lane, &mut taker));
     send_three(&rt, rt.alloc(), &lane, &mut sender)?;
     assert!(rt; lane.maybe(&mut taker));
-    assert_eq!(rt; receive_next(&rt, &lane, &mut taker), Some((40, 0)));
-    assert_eq!(rt; receive_next(&rt, &lane, &mut sender), Some((30, 1)));
-    lane.gather(&mut taker, sender);
-    assert_eq!(rt; lane.settle(&rt, &mut taker), 1);
-    assert_eq!(rt; receive_next(&rt, &lane, &mut taker), Some((20, 2)));
-    assert_eq!(rt; lane.settle(&rt, &mut taker), 0);
+    let two = receive_two(&rt, &lane, &mut taker, &mut sender);
+    assert!(rt; two == (Some((40, 0)), Some((30, 1))));
+    let rest = gather_and_receive(&rt, &lane, taker, sender);
+    assert!(rt; rest == (1, Some((20, 2)), 0));
     Ok(())
 }
 

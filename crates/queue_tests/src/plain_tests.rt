@@ -1,8 +1,9 @@
 ghost use Rattle.std.specs.Prelude.{◌≡◌, ◌<◌, ◌≤◌, length, IfOk};
 
-use crate::test_blocks::{OfWords, block_of};
-use pending_queues::{Deliveries, Delivery, PlainPending, PlainSeat};
+use crate::test_blocks::{OfWords, Seen, assert_delivered, assert_in_order, block_of};
+use pending_queues::{Deliveries, PlainPending, PlainSeat};
 use std::alloc::Global;
+use std::process::Abort;
 use std::test::Fail;
 
 /// Exports a block of so many objects.
@@ -37,9 +38,6 @@ fn export_three(
     export(alloc, pending, seat, 2)?;
     export(alloc, pending, seat, 3)
 }
-
-/// The label, the objects and the front of a block that was taken.
-type Seen = Option<(Option<(u32, u64)>, usize, usize)>;
 
 /// Takes from a queue, and tells of the block.
 fn take(
@@ -86,16 +84,24 @@ fn take_in_turn(
     Ok((first, second, third))
 }
 
+/// Asserts that three blocks are taken in order, and that there is no fourth.
+fn assert_three(
+    rt: &impl Abort,
+    pending: &mut PlainPending<OfWords>,
+    pair: &mut Pair,
+) -> Result<(), Fail>
+    requires lanes { 0 < length pending.old.lanes }
+{
+    assert_in_order(rt, take_in_turn(pending, pair, 0)?);
+    assert_eq!(rt; take(pending, &mut pair.one, 0)?, None);
+    Ok(())
+}
+
 #[test]
 fn blocks_are_taken_in_order(rt: HostRuntime) -> Result<(), Fail> {
     let (mut pending, mut pair) = open_pair(rt.alloc())?;
     export_three(rt.alloc(), &mut pending, &mut pair.zero)?;
-    let (first, second, third) = take_in_turn(&mut pending, &mut pair, 0)?;
-    assert_eq!(rt; first, Some((Some((0, 0)), 1, 1)));
-    assert_eq!(rt; second, Some((Some((0, 1)), 2, 1)));
-    assert_eq!(rt; third, Some((Some((0, 2)), 3, 1)));
-    assert_eq!(rt; take(&mut pending, &mut pair.one, 0)?, None);
-    Ok(())
+    assert_three(&rt, &mut pending, &mut pair)
 }
 
 /// What became of the blocks of both exporters.
@@ -105,10 +111,6 @@ fn close(alloc: Global, pending: PlainPending<OfWords>, pair: Pair) -> Result<De
     seats.push_reserved(zero);
     seats.push_reserved(one);
     Ok(pending.close(alloc, seats)?)
-}
-
-fn delivery(objects: usize, taker: Option<u32>) -> Delivery {
-    Delivery { objects, taker }
 }
 
 /// Seat 1 and then seat 0 take from the queue of seat 0, and nothing is in that of seat 1.
@@ -127,24 +129,33 @@ fn closing_names_the_takers_and_what_is_left(rt: HostRuntime) -> Result<(), Fail
     export_three(rt.alloc(), &mut pending, &mut pair.zero)?;
     assert!(rt; take_two(&mut pending, &mut pair)?);
     let deliveries = close(rt.alloc(), pending, pair)?;
-    let told = [
-        delivery(1, Some(1)),
-        delivery(2, Some(0)),
-        delivery(3, None),
-    ];
-    assert_eq!(rt; deliveries.of(0), told.as_slice());
-    assert!(rt; deliveries.of(1).is_empty() && deliveries.of(2).is_empty());
+    assert_delivered(&rt, &deliveries, 0, [Some(1), Some(0), None]);
+    assert!(rt; deliveries.of(2).is_empty());
     Ok(())
+}
+
+/// The first seat takes a block that the second one exports. Whether one may be there just then.
+fn may_be_there_between(
+    alloc: Global,
+    pending: &mut PlainPending<OfWords>,
+    pair: &mut Pair,
+) -> Result<bool, Fail>
+    requires seat { pair.old.one < length pending.old.lanes }
+    requires lanes { 1 < length pending.old.lanes }
+    requires key { pending.old.key ≡ 16 }
+{
+    let before = pending.maybe(0) || pending.maybe(1);
+    export(alloc, pending, &mut pair.one, 1)?;
+    let between = !pending.maybe(0) && pending.maybe(1);
+    let taken = take(pending, &mut pair.zero, 1)?;
+    Ok(!before && between && taken.is_some() && !pending.maybe(1))
 }
 
 #[test]
 fn a_block_may_be_there_exactly_where_one_is(rt: HostRuntime) -> Result<(), Fail> {
     let (mut pending, mut pair) = open_pair(rt.alloc())?;
-    assert!(rt; !pending.maybe(0) && !pending.maybe(1));
-    export(rt.alloc(), &mut pending, &mut pair.one, 1)?;
-    assert!(rt; !pending.maybe(0) && pending.maybe(1));
-    assert!(rt; take(&mut pending, &mut pair.zero, 1)?.is_some());
-    assert!(rt; !pending.maybe(1));
+    let is_between = may_be_there_between(rt.alloc(), &mut pending, &mut pair)?;
+    assert!(rt; is_between);
     assert!(rt; pair.zero.index() == 0 && pair.one.index() == 1);
     Ok(())
 }

@@ -1,9 +1,10 @@
 ghost use Rattle.std.specs.Prelude.{◌≡◌, ◌<◌, length, IfOk};
 ghost use Rattle.pending_queues.specs.PendingValue.{IsSeatOf};
 
-use crate::test_blocks::{OfWords, block_of};
-use pending_queues::{Deliveries, Delivery, PendingSeat, RuledPending};
+use crate::test_blocks::{OfWords, Seen, assert_delivered, assert_in_order, block_of};
+use pending_queues::{Deliveries, PendingSeat, RuledPending};
 use std::alloc::{AllocError, Global};
+use std::process::Abort;
 use std::sync::Wait;
 use std::test::Fail;
 
@@ -41,9 +42,6 @@ fn export_three<R: Wait>(
     export(rt, alloc, pending, seat, 2)?;
     export(rt, alloc, pending, seat, 3)
 }
-
-/// The label, the objects and the front of a block that was taken.
-type Seen = Option<(Option<(u32, u64)>, usize, usize)>;
 
 /// Takes from a queue, and tells of the block.
 fn take<R: Wait>(
@@ -97,18 +95,31 @@ fn take_in_turn<R: Wait>(
     Ok((first, second, third))
 }
 
+/// Asserts that a block may be there once three are exported, which the seats then take in order, and no fourth.
+fn assert_three<R: Wait + Abort>(
+    rt: &R,
+    alloc: Global,
+    pending: &RuledPending<OfWords>,
+    pair: &mut Pair,
+) -> Result<(), AllocError>
+    requires zero { IsSeatOf pending.now pair.old.zero }
+    requires one { IsSeatOf pending.now pair.old.one }
+    requires lanes { 0 < length pending.now.lanes }
+    requires key { pending.now.key ≡ 16 }
+{
+    assert!(rt; !pending.maybe(&mut pair.one, 0));
+    export_three(rt, alloc, pending, &mut pair.zero)?;
+    assert!(rt; pending.maybe(&mut pair.one, 0));
+    assert_in_order(rt, take_in_turn(rt, pending, pair, 0)?);
+    let (first, second, third) = take_in_turn(rt, pending, pair, 0)?;
+    assert!(rt; first.is_none() && second.is_none() && third.is_none());
+    Ok(())
+}
+
 #[test]
 fn blocks_are_taken_in_order(rt: HostRuntime) -> Result<(), Fail> {
     let (pending, mut pair) = open_pair(rt.alloc())?;
-    assert!(rt; !pending.maybe(&mut pair.one, 0));
-    export_three(&rt, rt.alloc(), &pending, &mut pair.zero)?;
-    assert!(rt; pending.maybe(&mut pair.one, 0));
-    let (first, second, third) = take_in_turn(&rt, &pending, &mut pair, 0)?;
-    assert_eq!(rt; first, Some((Some((0, 0)), 1, 1)));
-    assert_eq!(rt; second, Some((Some((0, 1)), 2, 1)));
-    assert_eq!(rt; third, Some((Some((0, 2)), 3, 1)));
-    let (first, second, third) = take_in_turn(&rt, &pending, &mut pair, 0)?;
-    assert!(rt; first.is_none() && second.is_none() && third.is_none());
+    assert_three(&rt, rt.alloc(), &pending, &mut pair)?;
     assert!(rt; pair.zero.index() == 0 && pair.one.index() == 1);
     Ok(())
 }
@@ -131,34 +142,58 @@ fn close<R: Wait>(
     pending.close(rt, alloc, seats)
 }
 
-fn delivery(objects: usize, taker: Option<u32>) -> Delivery {
-    Delivery { objects, taker }
+/// The seats take all blocks of the first one, in turn.
+fn export_and_take_all<R: Wait>(
+    rt: &R,
+    alloc: Global,
+    pending: &RuledPending<OfWords>,
+    pair: &mut Pair,
+) -> Result<(), AllocError>
+    requires zero { IsSeatOf pending.now pair.old.zero }
+    requires one { IsSeatOf pending.now pair.old.one }
+    requires lanes { 0 < length pending.now.lanes }
+    requires key { pending.now.key ≡ 16 }
+    ensures zero { IsSeatOf pending.now pair.new.zero }
+    ensures one { IsSeatOf pending.now pair.new.one }
+{
+    export_three(rt, alloc, pending, &mut pair.zero)?;
+    take_in_turn(rt, pending, pair, 0)?;
+    Ok(())
 }
 
 #[test]
 fn closing_names_the_takers(rt: HostRuntime) -> Result<(), Fail> {
     let (pending, mut pair) = open_pair(rt.alloc())?;
-    export_three(&rt, rt.alloc(), &pending, &mut pair.zero)?;
-    take_in_turn(&rt, &pending, &mut pair, 0)?;
+    export_and_take_all(&rt, rt.alloc(), &pending, &mut pair)?;
     let deliveries = close(&rt, rt.alloc(), pending, pair)?;
-    let takers = [
-        delivery(1, Some(1)),
-        delivery(2, Some(0)),
-        delivery(3, Some(1)),
-    ];
-    assert_eq!(rt; deliveries.of(0), takers.as_slice());
-    assert!(rt; deliveries.of(1).is_empty());
+    assert_delivered(&rt, &deliveries, 0, [Some(1), Some(0), Some(1)]);
     Ok(())
+}
+
+/// The first seat takes one of the second one's three blocks.
+fn export_and_take_one<R: Wait>(
+    rt: &R,
+    alloc: Global,
+    pending: &RuledPending<OfWords>,
+    pair: &mut Pair,
+) -> Result<Seen, AllocError>
+    requires zero { IsSeatOf pending.now pair.old.zero }
+    requires one { IsSeatOf pending.now pair.old.one }
+    requires lanes { 1 < length pending.now.lanes }
+    requires key { pending.now.key ≡ 16 }
+    ensures zero { IsSeatOf pending.now pair.new.zero }
+    ensures one { IsSeatOf pending.now pair.new.one }
+{
+    export_three(rt, alloc, pending, &mut pair.one)?;
+    take(rt, pending, &mut pair.zero, 1)
 }
 
 #[test]
 fn closing_tells_what_is_left(rt: HostRuntime) -> Result<(), Fail> {
     let (pending, mut pair) = open_pair(rt.alloc())?;
-    export_three(&rt, rt.alloc(), &pending, &mut pair.one)?;
-    let taken = take(&rt, &pending, &mut pair.zero, 1)?;
-    assert_eq!(rt; taken, Some((Some((1, 0)), 1, 1)));
+    let taken = export_and_take_one(&rt, rt.alloc(), &pending, &mut pair)?;
+    assert!(rt; taken == Some((Some((1, 0)), 1, 1)));
     let deliveries = close(&rt, rt.alloc(), pending, pair)?;
-    let left = [delivery(1, Some(0)), delivery(2, None), delivery(3, None)];
-    assert_eq!(rt; deliveries.of(1), left.as_slice());
+    assert_delivered(&rt, &deliveries, 1, [Some(0), None, None]);
     Ok(())
 }

@@ -24,6 +24,18 @@ fn read_by(tally: &Tally, seats: &mut Vec<TallySeat>, at: usize) -> u64
     tally.read(&mut seats[at])
 }
 
+/// One seat raises once and the other one twice. Whether each of both reads three then, and the first one none before.
+fn raises_add_up(tally: &Tally, seats: &mut Vec<TallySeat>) -> bool
+    requires seats { All (λ s. s.name ≡ tally.now.name) seats.old.items }
+    requires two { 1 < length seats.old.items }
+{
+    let before = read_by(tally, seats, 0);
+    raise_by(tally, seats, 0);
+    raise_by(tally, seats, 1);
+    raise_by(tally, seats, 1);
+    before == 0 && read_by(tally, seats, 0) == 3 && read_by(tally, seats, 1) == 3
+}
+
 /// Both seats in one, once it has shown that what they saw was raised.
 fn gather_two(tally: &Tally, mut seats: Vec<TallySeat>) -> Option<TallySeat>
     requires seats { All (λ s. (s.name ≡ tally.now.name) × (s.parts ≡ 1)) seats.items }
@@ -40,12 +52,7 @@ fn gather_two(tally: &Tally, mut seats: Vec<TallySeat>) -> Option<TallySeat>
 #[test]
 fn seats_count_together(rt: HostRuntime) -> Result<(), Fail> {
     let (tally, mut seats) = Tally::new(rt.alloc(), 2)?;
-    assert_eq!(rt; read_by(&tally, &mut seats, 0), 0);
-    raise_by(&tally, &mut seats, 0);
-    raise_by(&tally, &mut seats, 1);
-    raise_by(&tally, &mut seats, 1);
-    assert_eq!(rt; read_by(&tally, &mut seats, 0), 3);
-    assert_eq!(rt; read_by(&tally, &mut seats, 1), 3);
+    assert!(rt; raises_add_up(&tally, &mut seats));
     Ok(())
 }
 

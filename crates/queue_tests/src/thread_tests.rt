@@ -4,8 +4,9 @@ ghost use Rattle.std.specs.Prelude.{◌≡◌, length, IfOk};
 ghost use Rattle.pending_queues.specs.PendingValue.{IsSeatOf};
 
 use crate::test_blocks::{OfWords, block_of};
-use pending_queues::{Delivery, PendingSeat, RuledPending};
+use pending_queues::{Deliveries, Delivery, PendingSeat, RuledPending};
 use std::alloc::{AllocError, Global};
+use std::process::Abort;
 use std::snapshot::Snapshot;
 use std::sync::Wait;
 use std::test::Fail;
@@ -112,13 +113,13 @@ fn open_trio(alloc: Global) -> Result<(RuledPending<OfWords>, Trio), Fail>
     ))
 }
 
-/// One thread exports, two others take.
+/// One thread exports, two others take. Says last whether all were exported.
 fn export_and_take<R: Threads + Wait + Sync>(
     rt: &R,
     alloc: Global,
     pending: &RuledPending<OfWords>,
     trio: Trio,
-) -> Result<(PendingSeat<OfWords>, Done, Done), Fail>
+) -> Result<(PendingSeat<OfWords>, Done, Done, bool), Fail>
     requires exporter { IsSeatOf pending.now trio.exporter }
     requires takers { IsSeatOf pending.now trio.first × IsSeatOf pending.now trio.second }
     requires key { pending.now.key ≡ 16 }
@@ -132,7 +133,7 @@ fn export_and_take<R: Threads + Wait + Sync>(
     thread::scope(
         thread::scope_env(),
         rt,
-        |scope| -> Result<(PendingSeat<OfWords>, Done, Done), Fail>
+        |scope| -> Result<(PendingSeat<OfWords>, Done, Done, bool), Fail>
             requires runtime { IsSync R.row }
             requires key { pending.now.key ≡ 16 }
             requires seats { IsSeatOf pending.now exporter × IsSeatOf pending.now first × IsSeatOf pending.now second }
@@ -144,8 +145,8 @@ fn export_and_take<R: Threads + Wait + Sync>(
             let two = scope.spawn_with(OfQueues(Snapshot::of(pending)), move || {
                 take_some(rt, pending, second)
             })?;
-            export_all(rt, alloc, pending, &mut exporter)?;
-            Ok((exporter, one.join(rt), two.join(rt)))
+            let is_exported = export_all(rt, alloc, pending, &mut exporter).is_ok();
+            Ok((exporter, one.join(rt), two.join(rt), is_exported))
         },
     )
 }
@@ -158,20 +159,47 @@ fn count_taken(deliveries: &[Delivery], taker: u32) -> usize {
         .count()
 }
 
+/// Asserts that all blocks were sent, that the exporter took none, and how many each of the takers took.
+fn assert_taken(rt: &impl Abort, sent: &[Delivery], counts: (usize, usize)) {
+    assert!(rt; sent.len() == BLOCKS && count_taken(sent, 0) == 0);
+    assert_eq!(rt; (count_taken(sent, 1), count_taken(sent, 2)), counts);
+}
+
+/// What became of the blocks.
+fn close<R: Wait>(
+    rt: &R,
+    alloc: Global,
+    pending: RuledPending<OfWords>,
+    trio: Trio,
+) -> Result<Deliveries, AllocError>
+    requires queues { length pending.lanes ≡ 3 }
+    requires exporter { IsSeatOf pending trio.exporter }
+    requires takers { IsSeatOf pending trio.first × IsSeatOf pending trio.second }
+{
+    let Trio {
+        exporter,
+        first,
+        second,
+    } = trio;
+    let mut seats = Vec::with_capacity(alloc, 3)?;
+    seats.push_reserved(exporter);
+    seats.push_reserved(first);
+    seats.push_reserved(second);
+    pending.close(rt, alloc, seats)
+}
+
 #[test]
 fn seats_go_to_threads(rt: HostRuntime) -> Result<(), Fail> {
     let (pending, trio) = open_trio(rt.alloc())?;
-    let (exporter, first, second) = export_and_take(&rt, rt.alloc(), &pending, trio)?;
-    assert!(rt; first.rising && second.rising);
+    let (exporter, first, second, is_exported) = export_and_take(&rt, rt.alloc(), &pending, trio)?;
+    assert!(rt; is_exported && first.rising && second.rising);
     let counts = (first.count, second.count);
-    let mut seats = Vec::with_capacity(rt.alloc(), 3)?;
-    seats.push_reserved(exporter);
-    seats.push_reserved(first.seat);
-    seats.push_reserved(second.seat);
-    let deliveries = pending.close(&rt, rt.alloc(), seats)?;
-    let sent = deliveries.of(0);
-    assert_eq!(rt; sent.len(), BLOCKS);
-    assert_eq!(rt; count_taken(sent, 0), 0);
-    assert_eq!(rt; (count_taken(sent, 1), count_taken(sent, 2)), counts);
+    let trio = Trio {
+        exporter,
+        first: first.seat,
+        second: second.seat,
+    };
+    let deliveries = close(&rt, rt.alloc(), pending, trio)?;
+    assert_taken(&rt, deliveries.of(0), counts);
     Ok(())
 }

@@ -1,12 +1,13 @@
-ghost use Rattle.std.specs.Prelude.{◌≡◌, IfOk, length};
+ghost use Rattle.std.specs.Prelude.{◌≡◌, ◌<◌, IfOk, length};
 ghost use Rattle.box_cells.specs.Noted.{IsPassOf, IsApart};
 
+use crate::cell_tests::{first_place_stays, is_second};
 use forwarding::{BoxCells, BoxPass, Cells, Forwards, Outcome, SettleError, look_then_race};
 use layout::Place;
-use std::alloc::Global;
+use std::alloc::{AllocError, Global};
 use std::test::Fail;
 
-// Cells for so many names, and two passes.
+/// Cells for so many names, and two passes.
 fn two_passes(alloc: Global, count: u32) -> Result<(BoxCells, BoxPass, BoxPass), Fail>
     ensures count { IfOk result (λ r. length r.0 ≡ count) }
     ensures passes { IfOk result (λ r. IsPassOf r.0 r.1 × IsPassOf r.0 r.2) }
@@ -19,7 +20,25 @@ fn two_passes(alloc: Global, count: u32) -> Result<(BoxCells, BoxPass, BoxPass),
     Ok((cells, zero, one))
 }
 
-// What two passes settle.
+/// The first pass wins name 1, and the second one does not. Whether the first place stays.
+fn first_box_stays(
+    cells: &BoxCells,
+    zero: &mut BoxPass,
+    one: &mut BoxPass,
+    a: Place,
+    b: Place,
+) -> Result<bool, AllocError>
+    requires name { 1 < length cells.now }
+    requires passes { IsPassOf cells.now zero.old × IsPassOf cells.now one.old }
+    requires apart { IsApart zero.old one.old }
+    ensures passes { IsPassOf cells.now zero.new × IsPassOf cells.now one.new }
+    ensures apart { IsApart zero.new one.new }
+{
+    let mut shared = cells;
+    first_place_stays(&mut shared, zero, one, a, b)
+}
+
+/// What two passes settle.
 fn settle_two(
     cells: BoxCells,
     alloc: Global,
@@ -29,9 +48,22 @@ fn settle_two(
     requires passes { IsPassOf cells zero × IsPassOf cells one }
     requires apart { IsApart zero one }
 {
-    let Ok(passes) = vec![in alloc; zero, one] else {
+    let Ok(mut passes) = Vec::with_capacity(alloc, 2) else {
         return Err(SettleError::NoMemory);
     };
+    passes.push_reserved(zero);
+    passes.push_reserved(one);
+    cells.settle(alloc, passes)
+}
+
+/// What one pass alone settles.
+fn settle_one(cells: BoxCells, alloc: Global, pass: BoxPass) -> Result<Forwards, SettleError>
+    requires { IsPassOf cells pass }
+{
+    let Ok(mut passes) = Vec::with_capacity(alloc, 1) else {
+        return Err(SettleError::NoMemory);
+    };
+    passes.push_reserved(pass);
     cells.settle(alloc, passes)
 }
 
@@ -40,18 +72,10 @@ fn settle_two(
 fn two_passes_race_for_a_box(rt: HostRuntime) -> Result<(), Fail> {
     let (a, b) = (Place::small(0, 4), Place::small(7, 0));
     let (cells, mut zero, mut one) = two_passes(rt.alloc(), 2)?;
-    assert!(rt; cells.look(&mut zero, 1).is_none());
-    assert_eq!(rt; cells.race(&mut zero, 1, a), Ok(Outcome::Won));
-    assert_eq!(rt; cells.race(&mut one, 1, b), Ok(Outcome::Lost(a)));
-    assert_eq!(rt; cells.look(&mut zero, 1), Some(a));
-    let Ok(forwards) = settle_two(cells, rt.alloc(), zero, one) else {
-        return Err(Fail::from("not settled"));
-    };
-    assert_eq!(rt;
-        (forwards.place(0), forwards.place(1), forwards.place(2)),
-        (None, Some(a), None)
-    );
-    assert_eq!(rt; forwards.as_slice(), [None, Some(a)].as_slice());
+    let stays = first_box_stays(&cells, &mut zero, &mut one, a, b)?;
+    assert!(rt; stays);
+    let forwards = settle_two(cells, rt.alloc(), zero, one)?;
+    assert!(rt; is_second(&forwards, a));
     Ok(())
 }
 
@@ -60,39 +84,64 @@ fn two_passes_race_for_a_box(rt: HostRuntime) -> Result<(), Fail> {
 fn two_passes_race_with_a_large_place(rt: HostRuntime) -> Result<(), Fail> {
     let (a, b) = (Place::large(65534), Place::small(65533, 511));
     let (cells, mut zero, mut one) = two_passes(rt.alloc(), 2)?;
-    assert!(rt; cells.look(&mut zero, 1).is_none());
-    assert_eq!(rt; cells.race(&mut zero, 1, a), Ok(Outcome::Won));
-    assert_eq!(rt; cells.race(&mut one, 1, b), Ok(Outcome::Lost(a)));
-    assert_eq!(rt; cells.look(&mut zero, 1), Some(a));
-    let Ok(forwards) = settle_two(cells, rt.alloc(), zero, one) else {
-        return Err(Fail::from("not settled"));
-    };
-    assert_eq!(rt;
-        forwards.into_places().as_slice(),
-        [None, Some(a)].as_slice()
-    );
+    let stays = first_box_stays(&cells, &mut zero, &mut one, a, b)?;
+    assert!(rt; stays);
+    let forwards = settle_two(cells, rt.alloc(), zero, one)?;
+    let places = forwards.into_places();
+    assert!(rt; places.as_slice() == [None, Some(a)].as_slice());
     Ok(())
+}
+
+/// Whether both passes are answered the place that the first one proposes for name 2 of three.
+fn first_answer_is_for_both(
+    cells: &BoxCells,
+    zero: &mut BoxPass,
+    one: &mut BoxPass,
+) -> Result<bool, AllocError>
+    requires name { 2 < length cells.now }
+    requires passes { IsPassOf cells.now zero.old × IsPassOf cells.now one.old }
+{
+    let (a, b) = (Place::small(7, 0), Place::small(8, 2));
+    let (mut shared, mut again) = (cells, cells);
+    let first = look_then_race(&mut shared, zero, 2, a)?;
+    let second = look_then_race(&mut again, one, 2, b)?;
+    Ok(first == a && second == a && Cells::count(&shared) == 3)
 }
 
 // Whoever comes second gets the place of who came first, through the trait.
 #[test]
 fn boxes_show_the_first_place(rt: HostRuntime) -> Result<(), Fail> {
-    let (a, b) = (Place::small(7, 0), Place::small(8, 2));
     let (cells, mut zero, mut one) = two_passes(rt.alloc(), 3)?;
-    let (mut shared, mut again) = (&cells, &cells);
-    assert_eq!(rt; look_then_race(&mut shared, &mut zero, 2, a), Ok(a));
-    assert_eq!(rt; look_then_race(&mut again, &mut one, 2, b), Ok(a));
-    assert_eq!(rt; (Cells::count(&shared), cells.count()), (3, 3));
+    let shown = first_answer_is_for_both(&cells, &mut zero, &mut one)?;
+    assert!(rt; shown);
+    assert_eq!(rt; cells.count(), 3);
     Ok(())
+}
+
+/// The first pass wins name 0, and the second one, which knows nothing, looks. Whether it finds what the first one set.
+fn finds_what_is_set(
+    cells: &BoxCells,
+    zero: &mut BoxPass,
+    one: &mut BoxPass,
+) -> Result<bool, AllocError>
+    requires name { 0 < length cells.now }
+    requires passes { IsPassOf cells.now zero.old × IsPassOf cells.now one.old }
+    requires apart { IsApart zero.old one.old }
+    ensures passes { IsPassOf cells.now zero.new × IsPassOf cells.now one.new }
+    ensures apart { IsApart zero.new one.new }
+{
+    let a = Place::small(1, 1);
+    let won = cells.race(zero, 0, a)?;
+    let seen = cells.look(one, 0);
+    Ok(won == Outcome::Won && seen == Some(a))
 }
 
 // A pass that knows nothing finds what another one set.
 #[test]
 fn a_new_pass_finds_a_set_box(rt: HostRuntime) -> Result<(), Fail> {
-    let a = Place::small(1, 1);
     let (cells, mut zero, mut one) = two_passes(rt.alloc(), 1)?;
-    assert_eq!(rt; cells.race(&mut zero, 0, a), Ok(Outcome::Won));
-    assert_eq!(rt; cells.look(&mut one, 0), Some(a));
+    let found = finds_what_is_set(&cells, &mut zero, &mut one)?;
+    assert!(rt; found);
     assert!(rt; settle_two(cells, rt.alloc(), zero, one).is_ok());
     Ok(())
 }
@@ -100,16 +149,10 @@ fn a_new_pass_finds_a_set_box(rt: HostRuntime) -> Result<(), Fail> {
 // Where the pass that won is not there, what the other one knows is not settled.
 #[test]
 fn a_place_that_nobody_won_is_unsettled(rt: HostRuntime) -> Result<(), Fail> {
-    let a = Place::small(1, 1);
     let (cells, mut zero, mut one) = two_passes(rt.alloc(), 1)?;
-    assert_eq!(rt; cells.race(&mut zero, 0, a), Ok(Outcome::Won));
-    assert_eq!(rt; cells.look(&mut one, 0), Some(a));
-    let passes = vec![in rt.alloc(); one]?;
-    assert!(rt;
-        matches!(
-            cells.settle(rt.alloc(), passes),
-            Err(SettleError::Unsettled)
-        )
-    );
+    let found = finds_what_is_set(&cells, &mut zero, &mut one)?;
+    assert!(rt; found);
+    let refusal = settle_one(cells, rt.alloc(), one).err();
+    assert!(rt; refusal == Some(SettleError::Unsettled));
     Ok(())
 }

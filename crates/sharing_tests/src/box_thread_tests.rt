@@ -5,6 +5,7 @@ ghost use Rattle.box_cells.specs.Noted.{IsPassOf};
 use forwarding::{BoxCells, BoxPass, Forwards, Outcome, SettleError};
 use layout::Place;
 use std::alloc::{AllocError, Global};
+use std::process::Abort;
 use std::test::Fail;
 use std::thread::{Threads, join};
 
@@ -138,6 +139,17 @@ fn are_settled(forwards: &Forwards, pairs: &[(u32, Place)]) -> bool {
         .all(|pair| forwards.place(pair.0) == Some(pair.1))
 }
 
+/// Asserts that each pair that a thread won shows, and that as many were won as there are names.
+fn assert_won_once(rt: &impl Abort, forwards: &Forwards, won: &[&[(u32, Place)]]) {
+    let mut wins = 0u64;
+    for pairs in won {
+        assert!(rt; are_settled(forwards, pairs));
+        wins = wins.wrapping_add(pairs.len() as u64);
+    }
+    assert_eq!(rt; wins, 1000);
+    assert!(rt; forwards.as_slice().iter().all(|place| place.is_some()));
+}
+
 // No two threads propose one place: so a name that shows the place of each pair that was won was won once. As many
 // pairs were won as there are names.
 #[test]
@@ -152,15 +164,11 @@ fn four_threads_win_each_name_once(rt: HostRuntime) -> Result<(), Fail> {
         },
         Raced { pass: four, won: d },
     ) = (third, fourth);
-    let Ok(forwards) = settle_four(cells, rt.alloc(), (one, two, three, four)) else {
-        return Err(Fail::from("not settled"));
-    };
-    let mut wins = 0u64;
-    for pairs in [&a, &b, &c, &d] {
-        assert!(rt; are_settled(&forwards, pairs));
-        wins = wins.wrapping_add(pairs.len() as u64);
-    }
-    assert_eq!(rt; wins, 1000);
-    assert!(rt; forwards.as_slice().iter().all(|place| place.is_some()));
+    let forwards = settle_four(cells, rt.alloc(), (one, two, three, four))?;
+    assert_won_once(
+        &rt,
+        &forwards,
+        &[a.as_slice(), b.as_slice(), c.as_slice(), d.as_slice()],
+    );
     Ok(())
 }

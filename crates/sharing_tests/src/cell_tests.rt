@@ -1,4 +1,4 @@
-ghost use Rattle.std.specs.Prelude.{◌≡◌, ◌<◌};
+ghost use Rattle.std.specs.Prelude.{◌≡◌, ◌<◌, IfOk};
 ghost use Rattle.plain_cells.specs.Plain.{IsFit, Differ};
 
 use forwarding::{
@@ -10,7 +10,7 @@ use std::alloc::{AllocError, Global};
 use std::test::Fail;
 
 /// Two passes race for name 1, which nobody won. Whether the first place stays.
-fn first_place_stays<C: Cells>(
+pub(crate) fn first_place_stays<C: Cells>(
     cells: &mut C,
     zero: &mut C::Pass,
     one: &mut C::Pass,
@@ -32,6 +32,18 @@ fn first_place_stays<C: Cells>(
     Ok(nothing.is_none() && won == Outcome::Won && lost == Outcome::Lost(a) && seen == Some(a))
 }
 
+/// Word cells for two names, and two passes.
+fn two_word_passes(alloc: Global) -> Result<(WordCells, WordPass, WordPass), Fail>
+    ensures cells { IfOk result (λ r. (r.0.count ≡ 2) × (r.0.passes ≡ 2)) }
+    ensures passes { IfOk result (λ r. (r.1.id ≡ r.0.id) × (r.2.id ≡ r.0.id)) }
+{
+    let (cells, mut passes) = WordCells::new(alloc, 2, 2)?;
+    let (Some(one), Some(zero)) = (passes.pop(), passes.pop()) else {
+        return Err(Fail::from("two passes were asked for"));
+    };
+    Ok((cells, zero, one))
+}
+
 /// The same for word cells that are shared.
 fn first_word_stays(
     cells: &WordCells,
@@ -46,6 +58,14 @@ fn first_word_stays(
 {
     let mut shared = cells;
     first_place_stays(&mut shared, zero, one, a, b)
+}
+
+/// Whether name 1 of two has this place, and no other name has one.
+pub(crate) fn is_second(forwards: &Forwards, place: Place) -> bool {
+    forwards.place(0).is_none()
+        && forwards.place(1) == Some(place)
+        && forwards.place(2).is_none()
+        && forwards.as_slice() == [None, Some(place)].as_slice()
 }
 
 /// The places that two passes of word cells settle on.
@@ -88,17 +108,11 @@ fn settle_plain(
 #[test]
 fn two_passes_race_for_a_word(rt: HostRuntime) -> Result<(), Fail> {
     let (a, b) = (Place::small(0, 4), Place::large(65534));
-    let (cells, mut passes) = WordCells::new(rt.alloc(), 2, 2)?;
-    let mut one = passes.pop().ok_or("no pass")?;
-    let mut zero = passes.pop().ok_or("no pass")?;
+    let (cells, mut zero, mut one) = two_word_passes(rt.alloc())?;
     let stays = first_word_stays(&cells, &mut zero, &mut one, a, b)?;
     assert!(rt; stays);
-    let Ok(forwards) = settle_words(rt.alloc(), cells, zero, one) else {
-        return Err(Fail::from("not settled"));
-    };
-    assert!(rt; forwards.place(0).is_none() && forwards.place(1) == Some(a));
-    assert!(rt; forwards.place(2).is_none());
-    assert!(rt; forwards.as_slice().len() == 2);
+    let forwards = settle_words(rt.alloc(), cells, zero, one)?;
+    assert!(rt; is_second(&forwards, a));
     Ok(())
 }
 
@@ -110,29 +124,44 @@ fn two_passes_race_for_a_plain_cell(rt: HostRuntime) -> Result<(), Fail> {
     let mut zero = passes.pop().ok_or("no pass")?;
     let stays = first_place_stays(&mut cells, &mut zero, &mut one, a, b)?;
     assert!(rt; stays);
-    let Ok(forwards) = settle_plain(rt.alloc(), cells, zero, one) else {
-        return Err(Fail::from("not settled"));
-    };
+    let forwards = settle_plain(rt.alloc(), cells, zero, one)?;
     let places = forwards.into_places();
     assert!(rt; places.as_slice() == [None, Some(a)].as_slice());
     Ok(())
 }
 
+/// Whether a second place for name 0 of one, which nobody won, is not taken.
+fn first_answer_stays<C: Cells>(
+    cells: &mut C,
+    pass: &mut C::Pass,
+    a: Place,
+    b: Place,
+) -> Result<bool, AllocError>
+    requires name { 0 < C.limit cells.old }
+    requires pass { C.fits cells.old pass.old }
+{
+    let first = look_then_race(cells, pass, 0, a)?;
+    let second = look_then_race(cells, pass, 0, b)?;
+    Ok(first == a && second == a && cells.count() == 1)
+}
+
 #[test]
-fn a_later_place_is_not_taken(rt: HostRuntime) -> Result<(), Fail> {
-    let (a, b) = (Place::small(7, 0), Place::small(8, 2));
+fn a_later_place_is_not_taken_for_a_word(rt: HostRuntime) -> Result<(), Fail> {
     let (words, mut passes) = WordCells::new(rt.alloc(), 1, 1)?;
     let mut pass = passes.pop().ok_or("no pass")?;
-    let mut shared = &words;
-    assert_eq!(rt; look_then_race(&mut shared, &mut pass, 0, a)?, a);
-    assert_eq!(rt; look_then_race(&mut shared, &mut pass, 0, b)?, a);
-    assert_eq!(rt; words.count(), 1);
+    let (a, b) = (Place::small(7, 0), Place::small(8, 2));
+    let stays = first_answer_stays(&mut &words, &mut pass, a, b)?;
+    assert!(rt; stays && words.count() == 1);
+    Ok(())
+}
 
+#[test]
+fn a_later_place_is_not_taken_for_a_plain_cell(rt: HostRuntime) -> Result<(), Fail> {
     let (mut plain, mut passes) = PlainCells::new(rt.alloc(), 1, 1)?;
     let mut pass = passes.pop().ok_or("no pass")?;
-    assert_eq!(rt; look_then_race(&mut plain, &mut pass, 0, b)?, b);
-    assert_eq!(rt; look_then_race(&mut plain, &mut pass, 0, a)?, b);
-    assert_eq!(rt; plain.count(), 1);
+    let (a, b) = (Place::small(7, 0), Place::small(8, 2));
+    let stays = first_answer_stays(&mut plain, &mut pass, b, a)?;
+    assert!(rt; stays);
     Ok(())
 }
 

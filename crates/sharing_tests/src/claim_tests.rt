@@ -4,6 +4,7 @@ ghost use Rattle.block_pool.specs.ClaimsValue.{IsSeatOf};
 
 use block_pool::{ClaimSeat, Claims, Pool};
 use std::alloc::{AllocError, Global};
+use std::process::Abort;
 use std::sync::Wait;
 use std::test::Fail;
 use std::thread;
@@ -32,41 +33,74 @@ fn draw_by(claims: &Claims, seats: &mut [ClaimSeat], at: usize) -> Option<u32>
     claims.draw(&mut seats[at])
 }
 
+/// Claims of a pool's free numbers, and their seats.
+fn claims_of(
+    alloc: Global,
+    granted: usize,
+    limit: u32,
+    seats: u32,
+) -> Result<(Claims, Vec<ClaimSeat>), Fail>
+    requires { limit ≤ 65535 }
+    ensures seats { IfOk result (λ r. All (IsSeatOf r.0.source) r.1.items) }
+    ensures count { IfOk result (λ r. length r.1.items ≡ r.0.seats) }
+{
+    let free = free_list(alloc, granted, limit)?;
+    Ok(Claims::new(alloc, free, seats)?)
+}
+
+/// Asserts what the seats draw, one after the other.
+fn assert_drawn(
+    rt: &impl Abort,
+    claims: &Claims,
+    seats: &mut [ClaimSeat],
+    turns: &[(usize, Option<u32>)],
+)
+    requires seats { All (IsSeatOf claims.now.source) seats.old }
+    ensures seats { All (IsSeatOf claims.now.source) seats.new }
+    ensures count { length seats.new ≡ length seats.old }
+{
+    for turn in turns {
+        let (at, drawn) = *turn;
+        assert!(rt; at < seats.len());
+        assert_eq!(rt; draw_by(claims, seats, at), drawn);
+    }
+}
+
 #[test]
 fn numbers_are_drawn_in_order(rt: HostRuntime) -> Result<(), Fail> {
-    let (claims, mut seats) = Claims::new(rt.alloc(), free_list(rt.alloc(), 4, 7)?, 1)?;
-    assert_eq!(rt; draw_by(&claims, &mut seats, 0), Some(4));
-    assert_eq!(rt; draw_by(&claims, &mut seats, 0), Some(5));
-    assert_eq!(rt; draw_by(&claims, &mut seats, 0), Some(6));
-    assert_eq!(rt; draw_by(&claims, &mut seats, 0), None);
-    assert_eq!(rt; draw_by(&claims, &mut seats, 0), None);
+    let (claims, mut seats) = claims_of(rt.alloc(), 4, 7, 1)?;
+    let turns = [
+        (0, Some(4)),
+        (0, Some(5)),
+        (0, Some(6)),
+        (0, None),
+        (0, None),
+    ];
+    assert_drawn(&rt, &claims, &mut seats, &turns);
     assert_eq!(rt; claims.close(seats), 3);
     Ok(())
 }
 
 #[test]
 fn two_seats_take_turns(rt: HostRuntime) -> Result<(), Fail> {
-    let (claims, mut seats) = Claims::new(rt.alloc(), free_list(rt.alloc(), 10, 15)?, 2)?;
-    assert_eq!(rt; draw_by(&claims, &mut seats, 0), Some(10));
-    assert_eq!(rt; draw_by(&claims, &mut seats, 1), Some(11));
-    assert_eq!(rt; draw_by(&claims, &mut seats, 1), Some(12));
-    assert_eq!(rt; draw_by(&claims, &mut seats, 0), Some(13));
+    let (claims, mut seats) = claims_of(rt.alloc(), 10, 15, 2)?;
+    let turns = [(0, Some(10)), (1, Some(11)), (1, Some(12)), (0, Some(13))];
+    assert_drawn(&rt, &claims, &mut seats, &turns);
     assert_eq!(rt; claims.close(seats), 4);
     Ok(())
 }
 
 #[test]
 fn an_empty_free_list_gives_none(rt: HostRuntime) -> Result<(), Fail> {
-    let (claims, mut seats) = Claims::new(rt.alloc(), free_list(rt.alloc(), 3, 3)?, 1)?;
-    assert_eq!(rt; draw_by(&claims, &mut seats, 0), None);
-    assert_eq!(rt; draw_by(&claims, &mut seats, 0), None);
+    let (claims, mut seats) = claims_of(rt.alloc(), 3, 3, 1)?;
+    assert_drawn(&rt, &claims, &mut seats, &[(0, None), (0, None)]);
     assert_eq!(rt; claims.close(seats), 0);
     Ok(())
 }
 
 #[test]
 fn claims_may_have_no_seats(rt: HostRuntime) -> Result<(), Fail> {
-    let (claims, seats) = Claims::new(rt.alloc(), free_list(rt.alloc(), 0, 2)?, 0)?;
+    let (claims, seats) = claims_of(rt.alloc(), 0, 2, 0)?;
     assert_eq!(rt; seats.len(), 0);
     assert_eq!(rt; claims.close(seats), 0);
     Ok(())
@@ -127,9 +161,10 @@ fn draw_apart<R: Threads + Wait>(
         {
             let mut handles = Vec::with_capacity(alloc, seats.len())?;
             for seat in seats {
-                handles.push(scope.spawn_with(OfClaims(claims), move || {
+                let handle = scope.spawn_with(OfClaims(claims), move || {
                     draw_all(alloc, claims, seat, count)
-                })?)?;
+                })?;
+                handles.push_reserved(handle);
             }
             Ok(thread::join_promised(rt, handles)?)
         },
@@ -175,17 +210,36 @@ fn bring_together(
     })
 }
 
+/// Draws in threads, one for each seat, and brings together what they drew.
+fn draw_together<R: Threads + Wait>(
+    rt: &R,
+    alloc: Global,
+    claims: &Claims,
+    seats: Vec<ClaimSeat>,
+    count: u32,
+) -> Result<Joined, AllocError>
+    requires { All (IsSeatOf claims.now.source) seats.items }
+    ensures { IfOk result (λ all. All (IsSeatOf claims.now.source) all.seats.items × (vec_len all.seats ≡ vec_len seats)) }
+{
+    let results = draw_apart(rt, alloc, claims, seats, count)?;
+    bring_together(alloc, claims, results)
+}
+
+/// Whether these are the first thousand numbers, in any order.
+fn are_a_thousand(alloc: Global, mut numbers: Vec<u32>) -> Result<bool, Fail> {
+    numbers.sort()?;
+    Ok(numbers == free_list(alloc, 0, 1000)?)
+}
+
 #[test]
 fn eight_threads_draw_a_thousand_numbers(rt: HostRuntime) -> Result<(), Fail> {
-    let (claims, seats) = Claims::new(rt.alloc(), free_list(rt.alloc(), 0, 1000)?, 8)?;
-    let results = draw_apart(&rt, rt.alloc(), &claims, seats, 1001)?;
+    let (claims, seats) = claims_of(rt.alloc(), 0, 1000, 8)?;
     let Joined {
         seats,
-        mut numbers,
+        numbers,
         all_out,
-    } = bring_together(rt.alloc(), &claims, results)?;
-    numbers.sort()?;
-    assert!(rt; all_out && numbers == free_list(rt.alloc(), 0, 1000)?);
+    } = draw_together(&rt, rt.alloc(), &claims, seats, 1001)?;
     assert_eq!(rt; claims.close(seats), 1000);
+    assert!(rt; all_out && are_a_thousand(rt.alloc(), numbers)?);
     Ok(())
 }

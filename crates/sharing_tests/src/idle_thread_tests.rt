@@ -68,7 +68,8 @@ fn rest_apart<R: Threads + Wait>(
         {
             let mut handles = Vec::with_capacity(alloc, seats.len())?;
             for seat in seats {
-                handles.push(scope.spawn_with(OfIdle(idle), move || rest(idle, seat, manner))?)?;
+                let handle = scope.spawn_with(OfIdle(idle), move || rest(idle, seat, manner))?;
+                handles.push_reserved(handle);
             }
             Ok(thread::join_promised(rt, handles)?)
         },
@@ -90,10 +91,23 @@ fn ended_count(idle: &Idle, seats: &mut [IdleSeat]) -> usize
     ended
 }
 
+/// A count of four workers, and their seats after each became idle in a thread of its own.
+fn four_rest<R: Threads + Wait>(
+    rt: &R,
+    alloc: Global,
+    manner: Manner,
+) -> Result<(Idle, Vec<IdleSeat>), AllocError>
+    ensures seats { IfOk result (λ r. All (IsSeatOf r.0) r.1.items) }
+    ensures all { IfOk result (λ r. length r.1.items ≡ r.0.seats) }
+{
+    let (idle, seats) = Idle::new(alloc, 4)?;
+    let seats = rest_apart(rt, alloc, &idle, seats, manner)?;
+    Ok((idle, seats))
+}
+
 #[test]
 fn four_workers_end_together(rt: HostRuntime) -> Result<(), Fail> {
-    let (idle, seats) = Idle::new(rt.alloc(), 4)?;
-    let mut seats = rest_apart(&rt, rt.alloc(), &idle, seats, Manner::Patient)?;
+    let (idle, mut seats) = four_rest(&rt, rt.alloc(), Manner::Patient)?;
     assert_eq!(rt; ended_count(&idle, &mut seats), 4);
     assert_eq!(rt; idle.close(seats), 4);
     Ok(())
@@ -102,8 +116,7 @@ fn four_workers_end_together(rt: HostRuntime) -> Result<(), Fail> {
 // Each seat says whether it woke.
 #[test]
 fn idle_workers_are_counted_where_some_wake(rt: HostRuntime) -> Result<(), Fail> {
-    let (idle, seats) = Idle::new(rt.alloc(), 4)?;
-    let seats = rest_apart(&rt, rt.alloc(), &idle, seats, Manner::Restless)?;
+    let (idle, seats) = four_rest(&rt, rt.alloc(), Manner::Restless)?;
     let resting = seats.iter().filter(|seat| seat.is_idle()).count();
     assert_eq!(rt; idle.close(seats) as usize, resting);
     Ok(())

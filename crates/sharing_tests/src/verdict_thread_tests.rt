@@ -59,10 +59,11 @@ fn raise_apart<R: Threads + Wait>(
             let mut handles = Vec::with_capacity(alloc, seats.len())?;
             let mut cause = Cause::Ended;
             for seat in seats {
-                handles.push(scope.spawn_with(
+                let handle = scope.spawn_with(
                     OfVerdict(verdict),
                     move || raise_one(verdict, seat, cause),
-                )?)?;
+                )?;
+                handles.push_reserved(handle);
                 cause = other_than(cause);
             }
             Ok(thread::join_promised(rt, handles)?)

@@ -7,6 +7,7 @@ use Rattle.sharing_tests.proofs.claim_tests.fn.draw_apart.scope.Goals as goal
 pub loop-seat-preserved : goal.loop-seat-preserved
 loop-seat-preserved g c = record {
   many = search rules;
+  room = search rules;
   rest = All-rest (IsSeatOf c.captures.claims.now.source) c.in-Some.seat _ _ c.in-Some.ensures.steps.0 c.loop-seat.invariant.rest;
-  made = subst (All (λ h. h.promise.0.now ≡ c.captures.claims.now)) (sym c.in_ok-push.ensures.items) (All-push (λ h. h.promise.0.now ≡ c.captures.claims.now) _ _ c.loop-seat.invariant.made (ap (λ p. p.0.now) c.in_ok-spawn_with.ensures.ok));
+  made = subst (All (λ h. h.promise.0.now ≡ c.captures.claims.now)) (sym c.push_reserved.ensures.items) (All-push (λ h. h.promise.0.now ≡ c.captures.claims.now) _ _ c.loop-seat.invariant.made (ap (λ p. p.0.now) c.in_ok-handle.ensures.ok));
 }
