@@ -1,3 +1,4 @@
+use Rattle.std.proofs.Common.{rules}
 use Rattle.heap_text.proofs.Opened.{has_all}
 use Rattle.heap_text.proofs.listing.text_of.Goals as goal
 
@@ -9,3 +10,6 @@ push_roots-requires-clause-all g c = has_all c.args.heap.now _ c.in_ok-all.all c
 
 pub push_objects-requires-clause-all : goal.push_objects-requires-clause-all
 push_objects-requires-clause-all g c = has_all c.args.heap.now _ c.in_ok-all.all c.in_ok-all.ensures.ok c.open_collection.ensures.closed c.open_collection.ensures.plain c.open_collection.ensures.places
+
+pub returns : goal.returns
+returns g c = search rules
