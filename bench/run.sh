@@ -1,6 +1,7 @@
 #!/usr/bin/env bash
-# Measures gctrace on one processor: objects copied a second on a graph that is collected 1,000 times, and lines carried
-# out a second, beside what `wc -l` reads of the same files. It builds gctrace first. Not part of the tests.
+# Measures gctrace on one processor, beside a plain collector of the same traces (plain.rs, which rustc builds): objects
+# copied a second, by traces that are collected again and again; and lines carried out a second, beside what `wc -l` reads
+# of the same file. It builds gctrace first, or takes the program that GCTRACE names. Not part of the tests.
 set -eu
 here=$(cd "$(dirname "$0")" && pwd)
 work=$(mktemp -d)
@@ -10,6 +11,12 @@ program=${GCTRACE:-}
 if [ -z "$program" ]; then
   (cd "$here/../crates/gctrace" && rt run -- run --generations 1 < /dev/null)
   program=$(find "$here/../crates/gctrace/out" -type f -name gctrace -perm -u+x | head -n 1)
+fi
+blocks=40000
+plain=''
+if command -v rustc > /dev/null; then
+  rustc --edition 2021 -O -o "$work/plain" "$here/plain.rs"
+  plain=$work/plain
 fi
 
 # seconds COMMAND.. : wall time of the fastest of five runs
@@ -24,24 +31,39 @@ seconds() {
   awk -v n="$best" 'BEGIN { printf "%.4f", n / 1e9 }'
 }
 
-gctrace() { "$program" run --generations 1 --nursery 64 < "$1"; }
-export -f gctrace
-export program
+gctrace() { "$program" run --generations 1 --nursery 64 --blocks "$blocks" < "$1"; }
+beside() { "$plain" "$blocks" < "$1"; }
+export -f gctrace beside
+export program plain blocks
 
-measure() { seconds bash -c 'gctrace "$1"' measure "$1"; }
+measure() { seconds bash -c "$1 \"\$1\"" measure "$2"; }
 
-"$here/traces.sh" graph 8000 0 > "$work/made"
-"$here/traces.sh" graph 8000 1000 > "$work/graph"
+# rate PROGRAM: millions of objects a second, by the time that the collections add
+rate() {
+  awk -v made="$(measure "$1" "$work/made")" -v all="$(measure "$1" "$work/all")" -v copied="$2" 'BEGIN { printf "%.2f", copied / (all - made) / 1e6 }'
+}
+
+# copies TRACE OBJECTS COLLECTIONS
+copies() {
+  local own other=''
+  "$here/traces.sh" "$1" "$2" 0 > "$work/made"
+  "$here/traces.sh" "$1" "$2" "$3" > "$work/all"
+  own=$(rate gctrace $(($2 * $3)))
+  [ -n "$plain" ] && other=$(rate beside $(($2 * $3)))
+  awk -v name="$1" -v objects="$2" -v own="$own" -v other="$other" 'BEGIN {
+    printf "%s of %d objects: %.2f million objects a second", name, objects, own
+    if (other != "") printf "; plain %.2f, so %.2f of it", other, own / other
+    print "" }'
+}
+
+copies graph 8000 1000
+copies tree 80000 100
+copies tree 800000 10
+copies mixed 80000 100
+
 "$here/traces.sh" commands 100 > "$work/commands"
-
-made=$(measure "$work/made")
-graph=$(measure "$work/graph")
-awk -v made="$made" -v graph="$graph" 'BEGIN {
-  printf "8,000,000 objects copied in %.3f s: %.1f million objects a second\n", graph - made, 8 / (graph - made) }'
-for file in graph commands; do
-  lines=$(wc -l < "$work/$file")
-  own=$(measure "$work/$file")
-  wc=$(seconds wc -l "$work/$file")
-  awk -v name="$file" -v lines="$lines" -v own="$own" -v wc="$wc" 'BEGIN {
-    printf "%s: %d lines in %.3f s, %.2f million lines a second; wc -l in %.4f s\n", name, lines, own, lines / own / 1e6, wc }'
-done
+lines=$(wc -l < "$work/commands")
+own=$(measure gctrace "$work/commands")
+wc=$(seconds wc -l "$work/commands")
+awk -v lines="$lines" -v own="$own" -v wc="$wc" 'BEGIN {
+  printf "commands: %d lines in %.3f s, %.2f million lines a second; wc -l in %.4f s\n", lines, own, lines / own / 1e6, wc }'

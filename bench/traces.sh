@@ -1,7 +1,10 @@
 #!/usr/bin/env bash
 # Prints a trace to measure with.
 #   traces.sh graph [OBJECTS] [COLLECTIONS]   objects of 4 words that share and form cycles, all reached from one name, collected again and again
+#   traces.sh tree [NODES] [COLLECTIONS]      a binary tree of such objects, reached from its root
+#   traces.sh mixed [NODES] [COLLECTIONS]     the same tree, laid out in random order by a name for each node, in that order
 #   traces.sh commands [BATCHES]              batches of 10,000 commands: new, put, set and drop of 2,500 names, and a collection after each
+# The nursery has to hold 8,000 objects of 4 words.
 set -eu
 
 graph() {
@@ -9,6 +12,36 @@ graph() {
     for (i = 0; i < objects; i++) printf "new n%d 0 2 1\nput n%d 0 %d\n", i, i, i
     for (i = 0; i < objects; i++) printf "set n%d 0 n%d\nset n%d 1 n%d\n", i, (i + 1) % objects, i, (7 * i + 3) % objects
     for (i = 1; i < objects; i++) printf "drop n%d\n", i
+    for (i = 0; i < collections; i++) print "collect 0"
+    print "census"
+  }'
+}
+
+tree() {
+  awk -v nodes="$1" -v collections="$2" 'BEGIN {
+    print "new n0 0 2 1"
+    for (i = 1; i < nodes; i++) {
+      if (i % 8000 == 0) print "collect 0"
+      parent = int((i - 1) / 2)
+      printf "new n%d 0 2 1\nput n%d 0 %d\nset n%d %d n%d\n", i, i, i, parent, (i + 1) % 2, i
+      if (i % 2 == 0 && parent > 0) printf "drop n%d\n", parent
+    }
+    for (i = int(nodes / 2); i < nodes; i++) if (i > 0) printf "drop n%d\n", i
+    for (i = 0; i < collections; i++) print "collect 0"
+    print "census"
+  }'
+}
+
+mixed() {
+  awk -v nodes="$1" -v collections="$2" 'BEGIN {
+    srand(1)
+    for (i = 0; i < nodes; i++) order[i] = i
+    for (i = nodes - 1; i > 0; i--) { j = int(rand() * (i + 1)); it = order[i]; order[i] = order[j]; order[j] = it }
+    for (i = 0; i < nodes; i++) {
+      if (i > 0 && i % 8000 == 0) print "collect 0"
+      printf "new n%d 0 2 1\n", order[i]
+    }
+    for (i = 1; i < nodes; i++) printf "set n%d %d n%d\n", int((i - 1) / 2), (i + 1) % 2, i
     for (i = 0; i < collections; i++) print "collect 0"
     print "census"
   }'
@@ -27,6 +60,8 @@ commands() {
 
 case "${1:-}" in
   graph) graph "${2:-8000}" "${3:-1000}" ;;
+  tree) tree "${2:-80000}" "${3:-100}" ;;
+  mixed) mixed "${2:-80000}" "${3:-100}" ;;
   commands) commands "${2:-100}" ;;
-  *) sed -n '2,4s/^# //p' "$0" >&2; exit 2 ;;
+  *) sed -n '2,7s/^# //p' "$0" >&2; exit 2 ;;
 esac

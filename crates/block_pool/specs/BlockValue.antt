@@ -16,19 +16,21 @@ pub record BlockValue : Type 0 where
   pub front : ℕ
   -- the exporter, and the position among its exports, once the block was exported
   pub sent : Option (ℕ × ℕ)
+  -- the words of the places that the first objects were copied from, where that was noted
+  pub origins : List ℕ
 
 abbrev pub block_code : Coded BlockValue
 block_code =
     code_by
-    ((ℕ × ℕ) × ((ℕ × ℕ) × (List Raw × (ℕ × Option (ℕ × ℕ)))))
-    (coded× (coded× coded_ℕ coded_ℕ) (coded× (coded× coded_ℕ coded_ℕ) (coded× (coded_list raw_code) (coded× coded_ℕ (coded_option (coded× coded_ℕ coded_ℕ))))))
-    (λ b. ((b.number, b.generation), ((b.step, b.words), (b.objects, (b.front, b.sent)))))
-    (λ p. record { number = p.0.0; generation = p.0.1; step = p.1.0.0; words = p.1.0.1; objects = p.1.1.0; front = p.1.1.1.0; sent = p.1.1.1.1 })
+    ((ℕ × ℕ) × ((ℕ × ℕ) × (List Raw × (ℕ × (Option (ℕ × ℕ) × List ℕ)))))
+    (coded× (coded× coded_ℕ coded_ℕ) (coded× (coded× coded_ℕ coded_ℕ) (coded× (coded_list raw_code) (coded× coded_ℕ (coded× (coded_option (coded× coded_ℕ coded_ℕ)) (coded_list coded_ℕ))))))
+    (λ b. ((b.number, b.generation), ((b.step, b.words), (b.objects, (b.front, (b.sent, b.origins))))))
+    (λ p. record { number = p.0.0; generation = p.0.1; step = p.1.0.0; words = p.1.0.1; objects = p.1.1.0; front = p.1.1.1.0; sent = p.1.1.1.1.0; origins = p.1.1.1.1.1 })
     (λ _. refl)
 
 -- a block of so many words that was just made
 abbrev pub empty_block : ℕ → BlockValue
-empty_block words = record { number = 0; generation = 0; step = 0; words = words; objects = []; front = 0; sent = None }
+empty_block words = record { number = 0; generation = 0; step = 0; words = words; objects = []; front = 0; sent = None; origins = [] }
 
 -- how many words objects take
 abbrev pub words_of : List Raw → ℕ

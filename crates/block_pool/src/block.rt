@@ -4,6 +4,7 @@ ghost use Rattle.layout.specs.Header.{size_of};
 ghost use Rattle.layout.specs.ObjectRef.{raw_of};
 ghost use Rattle.block_pool.specs.BlockValue.{BlockValue, used_of, offset_of, without_last, new_object, empty_block, with_pointer_word, with_plain_word};
 
+use boxcar::tag::{Names, Tag};
 use layout::ObjectRef;
 use std::alloc::{AllocError, Allocator, Global};
 use std::marker::Model;
@@ -28,6 +29,14 @@ pub struct Block<A: Allocator = Global> {
     generation: u8,
     step: u8,
     sent: Option<(u32, u64)>,
+    origins: Tag,
+}
+
+/// The origins that a block has, and the next one.
+struct Noted;
+
+impl Names<(&Tag, u64)> for Noted {
+    ghost numbers = { λ p. p.0.now.numbers ++ p.1 ∷ [] };
 }
 
 impl<A: Allocator> Model for Block<A> {
@@ -48,6 +57,7 @@ impl<A: Allocator> Model for Block<A> {
       objects = map (raw_at b.words.items) (take b.len b.offsets.items);
       front = b.front;
       sent = b.sent;
+      origins = b.origins.numbers;
     } };
 
     ghost invariant = { λ b. IsSound b.words.items b.offsets.items b.len b.used b.front b.number };
@@ -73,6 +83,7 @@ impl<A: Allocator + Clone> Block<A> {
             generation: 0,
             step: 0,
             sent: None,
+            origins: Tag::empty(),
         })
     }
 }
@@ -90,12 +101,13 @@ impl<A: Allocator> Block<A> {
 
     /// Takes out all objects.
     pub fn clear(&mut self)
-        ensures { self.new ≡ record self.old { objects = []; front = 0; sent = None } }
+        ensures { self.new ≡ record self.old { objects = []; front = 0; sent = None; origins = [] } }
     {
         self.len = 0;
         self.used = 0;
         self.front = 0;
         self.sent = None;
+        self.origins = Tag::empty();
     }
 
     /// Whether an object of `size` words fits at the end.
@@ -314,6 +326,14 @@ impl<A: Allocator> Block<A> {
         ensures { self.new ≡ record self.old { sent = Some (exporter, position) } }
     {
         self.sent = Some((exporter, position));
+    }
+
+    /// Notes what the next of the objects is a copy of, from the first on: the word of the place of its original. This is
+    /// remembered for contracts alone, and takes no bytes.
+    pub fn note_origin(&mut self, origin: u64)
+        ensures { self.new ≡ record self.old { origins = self.old.origins ++ origin ∷ [] } }
+    {
+        self.origins = Tag::of::<(&Tag, u64), Noted>(&(&self.origins, origin));
     }
 
     /// Puts back what `sent` answered before.

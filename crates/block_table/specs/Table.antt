@@ -39,7 +39,7 @@ with_more block raw = record block { objects = block.objects ++ raw ∷ [] }
 
 abbrev pub cleared : Option BlockValue → Option BlockValue
 cleared None = None
-cleared (Some block) = Some (record block { objects = []; front = 0; sent = None })
+cleared (Some block) = Some (record block { objects = []; front = 0; sent = None; origins = [] })
 
 -- how many objects a block holds, and how many words they take
 abbrev pub slot_len : Option BlockValue → ℕ

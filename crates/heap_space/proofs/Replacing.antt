@@ -116,7 +116,7 @@ module _ (config : Config) (old new : List (Option BlockValue)) (area area' : Li
   cleared_block : (o : Option BlockValue) (block : BlockValue) (n : ℕ) → cleared o ≡ Some block → ((b : BlockValue) → o ≡ Some b → IsHeapBlock config n b) → IsHeapBlock config n block × (block.objects ≡ [])
   cleared_block None block n is h = absurd (cc)
   cleared_block (Some b) block n is h =
-      let same : record b { objects = []; front = 0; sent = None } ≡ block = cc in
+      let same : record b { objects = []; front = 0; sent = None; origins = [] } ≡ block = cc in
       let was : IsHeapBlock config n b = h b refl in
       subst (λ x. IsHeapBlock config n x × (x.objects ≡ [])) same (
         record {
@@ -131,7 +131,7 @@ module _ (config : Config) (old new : List (Option BlockValue)) (area area' : Li
       )
 
   cleared_there : (o : Option BlockValue) (b : BlockValue) → o ≡ Some b → (block : BlockValue) × (cleared o ≡ Some block)
-  cleared_there o b is = (record b { objects = []; front = 0; sent = None }, ap cleared is)
+  cleared_there o b is = (record b { objects = []; front = 0; sent = None; origins = [] }, ap cleared is)
 
   installed_sound : (n : ℕ) (block : BlockValue) → installed blocks n ≡ Some block → IsHeapBlock config n block
   installed_sound n block is =

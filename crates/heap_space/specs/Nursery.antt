@@ -4,7 +4,7 @@ use Rattle.block_pool.specs.BlockValue.{BlockValue}
 
 -- a block with no object
 abbrev pub empty_block : ℕ → ℕ → BlockValue
-empty_block number words = record { number = number; generation = 0; step = 0; words = words; objects = []; front = 0; sent = None }
+empty_block number words = record { number = number; generation = 0; step = 0; words = words; objects = []; front = 0; sent = None; origins = [] }
 
 -- where an object of so many words goes: to the current block of so many, where it fits there, else to the next
 abbrev pub block_after : (words count current used size : ℕ) → Option ℕ

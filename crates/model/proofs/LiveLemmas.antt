@@ -2,7 +2,8 @@
 use Rattle.std.proofs.Common.{◌≡◌, ℕ, Bool, true, false, refl, sym, ◌∙◌}
 use Rattle.std.proofs.lemmas.Map.Made.{length-from_same_keys}
 use Rattle.std.specs.Cmp.{nat_eq_equiv}
-use Rattle.model.specs.LiveCount.{LiveCount}
+use Rattle.model.specs.LiveCount.{LiveCount, LiveWords, small_words}
+use Rattle.model.proofs.Same.{same_sum_by}
 use Rattle.model.specs.Reached.{has}
 use Rattle.model.specs.Graph.{Graph}
 use Rattle.model.specs.Reached.{Reached, first, later}
@@ -34,3 +35,10 @@ LiveCount-one graph g m n a b =
     same true y f k = sym (f refl)
     same false true f k = k refl
     same false false f k = refl
+
+-- and one sum of their sizes
+pub LiveWords-one : (graph : Graph) (g block_words x y : ℕ) → LiveWords graph g block_words x → LiveWords graph g block_words y → x ≡ y
+LiveWords-one graph g block_words x y a b =
+    a.words
+    ∙ same_sum_by a.names b.names a.lists.distinct b.lists.distinct (record { there = λ q h. b.lists.all q (a.lists.only q h); back = λ q h. a.lists.all q (b.lists.only q h) }) (small_words graph block_words)
+    ∙ sym b.words

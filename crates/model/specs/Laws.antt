@@ -6,7 +6,7 @@ use Rattle.model.specs.declared.kind.Kind.{Kind}
 use Rattle.model.specs.Graph.{Graph, Object, object_at}
 use Rattle.model.specs.Reached.{Reached, has, reached_list}
 use Rattle.model.specs.Live.{IsYoung, IsOldSlot}
-use Rattle.model.specs.LiveCount.{LiveCount}
+use Rattle.model.specs.LiveCount.{LiveCount, LiveWords}
 use Rattle.model.specs.OldSlots.{Slot, old_slots}
 use Rattle.model.specs.Destination.{Shape, dest, dest_count, all_steps}
 use Rattle.model.specs.Config.{Config}
@@ -41,6 +41,9 @@ ReachedListIsExact =
 
 abbrev pub LiveCountIsOne : Type 0
 LiveCountIsOne = (graph : Graph) (g m n : ℕ) → LiveCount graph g m → LiveCount graph g n → m ≡ n
+
+abbrev pub LiveWordsAreOne : Type 0
+LiveWordsAreOne = (graph : Graph) (g block_words x y : ℕ) → LiveWords graph g block_words x → LiveWords graph g block_words y → x ≡ y
 
 abbrev pub GenerationsBelow : Graph → ℕ → Type 0
 GenerationsBelow graph generations = (name : ℕ) (o : Object) → object_at graph name ≡ Some o → o.generation < generations

@@ -1,6 +1,6 @@
 //! What holds of the definitions: the contract of each function here is a theorem on them, and its body is empty.
 ghost use Rattle.model.specs.Rows.{config_of, first_trace, first_output, pointer_trace, pointer_output, cycle_trace, cycle_output, remembered_trace, remembered_output, dead_old_trace, dead_old_output, large_trace, large_output, full_trace, full_output, ageing_trace, ageing_output, no_generation_trace, no_generation_output, made_old_trace, made_old_output, two_mutators_trace, two_mutators_output, block_left_trace, block_left_output, get_trace, get_output};
-ghost use Rattle.model.specs.Laws.{Writes, Faults, ReachedListIsExact, LiveCountIsOne, OldSlotsAreExact, DestCountIsExact};
+ghost use Rattle.model.specs.Laws.{Writes, Faults, ReachedListIsExact, LiveCountIsOne, LiveWordsAreOne, OldSlotsAreExact, DestCountIsExact};
 ghost use Rattle.model.specs.declared.kind.Kind.TheVariants as kind;
 
 /// Each worked trace writes its output, and the last one has a fault in its fifth command.
@@ -28,6 +28,11 @@ pub fn reached_list_is_exact()
 /// A graph has one number of live objects.
 pub fn live_count_is_one()
     ensures { LiveCountIsOne }
+{}
+
+/// A graph has one size of its small live objects together.
+pub fn live_words_are_one()
+    ensures { LiveWordsAreOne }
 {}
 
 /// The list of old slots has exactly the pointers from older objects to younger ones.

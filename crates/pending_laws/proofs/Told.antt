@@ -4,7 +4,7 @@ use mathlib.Core.Logic.{dite}
 use native.Mathlib.Decide.{ℕ_discrete}
 use Rattle.std.proofs.Math.Decide.{dec_lt}
 use Rattle.std.specs.Prelude.{flat_map, is_some, option_and_then}
-use Rattle.std.specs.List.{slice_get}
+use Rattle.std.specs.List.{slice_get, sum_by}
 use Rattle.std.proofs.lemmas.Bool.{le-ltb}
 use Rattle.std.proofs.lemmas.List.{get_or-set_other, length-map, length-replicate}
 use Rattle.std.proofs.lemmas.List.Sums.{sum_by-append}
@@ -15,7 +15,7 @@ use Rattle.lanes.specs.PassValue.{PassValue, position_of}
 use Rattle.pending_laws.specs.PendingValue.{SeatValue}
 use Rattle.tally.specs.TallyValue.{TallySeatValue}
 use Rattle.pending_laws.specs.SeatPass.{AtEach, taken_from, is_from, has_exporter}
-use Rattle.pending_laws.specs.Delivered.{AreDelivered, IsDelivered, is_taker, names_taker}
+use Rattle.pending_laws.specs.Delivered.{AreDelivered, IsDelivered, is_taker, names_taker, IsLabelledBelow}
 use Rattle.pending_laws.specs.Gathered.{all_sent_to, all_taken_from, AreGathered, IsGatheredMark, IsSettled, IsTold}
 use Rattle.exports.specs.Written.{with_name, with_taker, with_takers}
 use Rattle.pending_laws.specs.Telling.{all_left, placed, named}
@@ -163,6 +163,11 @@ module _ {A K : Type 0} where
       let none : all_times u p seats ≡ 0 = once ∙ ap one_if (le-ltb p count (omega arith)) in let zero_times : times_at u p (get_or seats j e).taken ≡ 0 = omega arith in
       zero_times ∙ sym (look_there ∙ past_named (seat_takers u p seats) sent p t (omega arith)))
 
+  -- the two ways to add up
+  summed : (u p : ℕ) (seats : List (SeatValue A K)) → sum_by (λ (s : SeatValue A K). times_at u p s.taken) seats ≡ all_times u p seats
+  summed u p [] = refl
+  summed u p (s ∷ seats) = let r = summed u p seats in let h = sum_by-append (λ (x : SeatValue A K). times_at u p x.taken) (s ∷ []) seats in omega arith
+
   -- what is written down of one exporter's blocks
   pub delivered : (seats : List (SeatValue A K)) (lists : List (List Delivery)) → lists ≡ named (placed (replicate (length seats) []) seats) seats
       → ((u : ℕ) → u < length seats → IsTold seats u) → All (λ s. s.index < length seats) seats
@@ -193,6 +198,7 @@ module _ {A K : Type 0} where
         front = λ p x e. ap is_some (left_taker (seat_takers u p seats) s.sent p x (sym (look_at p) ∙ e)) ∙ is_front seats u p count (once p);
         few = (let f = t.few in omega arith);
         takers = λ j e l p. taken_named seats lists all own u p count s.sent (look_at p) (once p) (let f = t.few in omega arith) j e l;
+        once = λ p. summed u p seats ∙ once p;
         as_sent = λ j e l i b li label. ap (λ x. slice_get x (position_of (get_or (get_or seats j e).taken i b))) (sym sent)
             ∙ filtered (is_from u) (λ (x : BlockValue). slice_get (all_sent_to u seats) (position_of x) ≡ Some x) (get_or seats j e).taken
             (all_each (λ (x : BlockValue). slice_get (all_sent_to u seats) (position_of x) ≡ Some x) (λ (y : SeatValue A K). taken_from u y.taken) seats t.as_sent j e l)
@@ -202,9 +208,11 @@ module _ {A K : Type 0} where
 
   -- what is written down of all exporters' blocks
   pub all_delivered : (seats : List (SeatValue A K)) (lists : List (List Delivery)) → lists ≡ named (placed (replicate (length seats) []) seats) seats
-      → ((u : ℕ) → u < length seats → IsTold seats u) → All (λ s. s.index < length seats) seats → AreDelivered seats lists
-  all_delivered seats lists is all own = record {
+      → ((u : ℕ) → u < length seats → IsTold seats u) → All (λ s. s.index < length seats) seats
+      → All (λ (s : SeatValue A K). All (IsLabelledBelow (length seats)) s.taken) seats → AreDelivered seats lists
+  all_delivered seats lists is all own labels = record {
     many = ap length is ∙ length_named (placed (replicate (length seats) []) seats) seats ∙ length-placed (replicate (length seats) []) seats ∙ length-replicate {A = List Delivery} (length seats) [];
     numbers = λ u lt. (all u lt).one;
     each = delivered seats lists is all own;
+    labels = labels;
   }

@@ -1,8 +1,12 @@
 -- What a call changes of a seat.
-use Rattle.std.proofs.Common.{◌≡◌, ◌≢◌, ◌≤◌, ℕ, zero, suc, ◌+◌, ◌<◌, Bool, true, false, Option, Some, List, [], ◌∷◌, ◌++◌, length, map, set, get_or, sym, refl, ap, ◌∙◌, subst, ⊎_elim, All, arith, eq-eqb, ne_eqb, length-set, length-append, append-nil, cond, unwrap_or, option_map}
+use mathlib.Core.Logic.{dite}
+use Rattle.std.proofs.Math.Decide.{dec_lt}
+use Rattle.std.proofs.Common.{None, ◌≡◌, ◌≢◌, ◌≤◌, ℕ, zero, suc, ◌+◌, ◌<◌, Bool, true, false, Option, Some, List, [], ◌∷◌, ◌++◌, length, map, set, get_or, sym, refl, ap, ◌∙◌, subst, ⊎_elim, All, arith, eq-eqb, ne_eqb, length-set, length-append, append-nil, cond, unwrap_or, option_map}
 use Rattle.std.specs.List.{slice_get, filter}
 use Rattle.std.proofs.lemmas.Option.{slice_get_within, get_or_from_slice_get, slice_get-map, slice_get_read}
-use Rattle.std.proofs.lemmas.List.{map-append, map-set, length-map}
+use Rattle.std.specs.Option.{IsSomeAnd}
+use Rattle.std.proofs.lemmas.List.{map-append, map-set, length-map, get_or-map, get_or_read}
+use Rattle.pending_laws.specs.Delivered.{IsLabelledBelow}
 use Rattle.std.proofs.lemmas.List.Elements.{filter-append, All-append, All-cons, All-nil}
 use Rattle.block_pool.specs.BlockValue.{BlockValue}
 use Rattle.lanes.specs.PassValue.{About, PassValue, Meets, position_of, Took}
@@ -264,3 +268,23 @@ module _ {A K : Type 0} where
       let e : index ≡ seat.index = ap (λ s. s.index) view in
       let o = of.own in
       slice_get_read marks (length source.lanes) index m (sym (is.many ∙ many)) (omega arith) at
+
+-- each block that a seat took has the label that it wrote down
+pub labels_below : (n : ℕ) (taken : List BlockValue) (log : List Label)
+    → map (λ (b : BlockValue). b.sent) taken ≡ map (λ (t : Label). Some (t.exporter, t.position)) log
+    → All (λ (t : Label). t.exporter < n) log → All (IsLabelledBelow n) taken
+labels_below n taken log same each k d lt =
+    let first : Label = record { exporter = 0; position = 0 } in
+    let long : length taken ≡ length log = sym (length-map taken (λ (b : BlockValue). b.sent)) ∙ ap length same ∙ length-map log (λ (t : Label). Some (t.exporter, t.position)) in
+    let here : k < length log = omega arith in
+    let at : (get_or taken k d).sent ≡ Some ((get_or log k first).exporter, (get_or log k first).position) =
+    sym (get_or-map (λ (b : BlockValue). b.sent) taken k d None lt) ∙ ap (λ l. get_or l k None) same ∙ get_or-map (λ (t : Label). Some (t.exporter, t.position)) log k first None here in
+    subst (λ o. IsSomeAnd o (λ label. label.0 < n)) (sym at) (each k first here)
+
+-- what holds of the first elements and of the next one
+pub one_more : {X : Type 0} (P : X → Type 0) (xs : List X) (i : ℕ) (x : X) → x ≡ get_or xs i x → i < length xs
+    → ((k : ℕ) (d : X) → k < i → P (get_or xs k d)) → P x → (k : ℕ) (d : X) → k < i + 1 → P (get_or xs k d)
+one_more P xs i x is inside before now k d below =
+    dite (dec_lt k i)
+    (λ h. before k d h)
+    (λ h. let same : i ≡ k = omega arith in subst (λ j. P (get_or xs j d)) same (subst P (get_or_read xs i x inside is d) now))

@@ -1,9 +1,11 @@
 //! How the queues are opened, and how the seats get their parts of them.
 ghost use Rattle.std.specs.Prelude.{◌≡◌, ◌+◌, ◌-◌, ◌<◌, All, length, map, IfOk, OnOk};
 ghost use Rattle.tally.specs.TallyValue.{unraised};
+ghost use Rattle.pending_laws.specs.PendingValue.{new_seats};
 ghost use Rattle.pending_queues.specs.Dealt.{AreRoots, AreNewPasses, AreHeaps};
 
 use crate::ruled_pending::RuledPending;
+use crate::seat::PendingSeat;
 use exports::Cargo;
 use lanes::{Lane, LanePass};
 use std::alloc::{AllocError, Allocator};
@@ -91,5 +93,32 @@ impl<C: Cargo, A: Allocator> RuledPending<C, A> {
             marks.push_reserved(mark);
         }
         Ok(marks)
+    }
+}
+
+impl<C: Cargo, A: Allocator + Clone> RuledPending<C, A> {
+    /// A seat for each queue, in order, with a part of each.
+    pub(crate) fn deal_seats(
+        &self,
+        alloc: A,
+        key: &C::Key,
+        count: u32,
+        mut roots: Vec<LanePass<C::Key, A>, A>,
+        mut heaps: Vec<Vec<TallySeat, A>, A>,
+    ) -> Result<Vec<PendingSeat<C, A>, A>, AllocError>
+        requires key { key.now ≡ self.now.key }
+        requires many { length self.now.lanes ≡ count }
+        requires roots { AreRoots self.now.key self.now.lanes (length self.now.lanes) 0 roots.items }
+        requires heaps { AreHeaps self.now.tallies count (λ h. h.items) heaps.items }
+        ensures { IfOk result (λ seats. seats.items ≡ new_seats self.now count) }
+    {
+        let mut seats = Vec::with_capacity(alloc.clone()?, self.lanes.len())?;
+        for index in 0..count {
+            let passes = self.deal_passes(alloc.clone()?, &mut roots, index)?;
+            let marks = self.deal_marks(alloc.clone()?, &mut heaps, (count - index) as usize)?;
+            let seat = PendingSeat::fresh(&alloc, index, key, passes, marks)?;
+            seats.push_reserved(seat);
+        }
+        Ok(seats)
     }
 }

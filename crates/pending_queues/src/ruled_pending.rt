@@ -57,20 +57,14 @@ impl<C: Cargo, A: Allocator + Clone> RuledPending<C, A> {
         ensures many { IfOk result (λ r. length r.0.lanes ≡ count) }
         ensures seats { IfOk result (λ r. r.1.items ≡ new_seats r.0 count) }
     {
-        let (lanes, mut roots) = open_lanes(&alloc, key, count)?;
-        let (tallies, mut heaps) = open_tallies(&alloc, count)?;
+        let (lanes, roots) = open_lanes(&alloc, key, count)?;
+        let (tallies, heaps) = open_tallies(&alloc, count)?;
         let pending = RuledPending {
             lanes,
             tallies,
             key: Snapshot::of(key),
         };
-        let mut seats = Vec::with_capacity(alloc.clone()?, count as usize)?;
-        for index in 0..count {
-            let passes = pending.deal_passes(alloc.clone()?, &mut roots, index)?;
-            let marks = pending.deal_marks(alloc.clone()?, &mut heaps, (count - index) as usize)?;
-            let seat = PendingSeat::fresh(&alloc, index, key, passes, marks)?;
-            seats.push_reserved(seat);
-        }
+        let seats = pending.deal_seats(alloc, key, count, roots, heaps)?;
         Ok((pending, seats))
     }
 }

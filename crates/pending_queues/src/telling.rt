@@ -1,6 +1,7 @@
 //! How what became of each block is written down when the queues are closed.
 ghost use Rattle.std.specs.Prelude.{◌≡◌, ◌<◌, All, length, map, slice_set, OnOk};
 ghost use Rattle.exports.specs.Written.{with_takers};
+ghost use Rattle.pending_laws.specs.Delivered.{IsLabelledBelow};
 ghost use Rattle.pending_laws.specs.Telling.{all_left, placed, named};
 
 use crate::seat::PendingSeat;
@@ -19,7 +20,8 @@ impl<C: Cargo, A: Allocator + Clone> PendingSeat<C, A> {
 
     /// Names the seat as the taker of what it took.
     fn name_takes(&self, deliveries: &mut Deliveries<A>)
-        ensures { deliveries.new ≡ with_takers deliveries.old self.now.index (map (λ b. b.sent) self.now.taken) }
+        ensures told { deliveries.new ≡ with_takers deliveries.old self.now.index (map (λ b. b.sent) self.now.taken) }
+        ensures labels { All (IsLabelledBelow (length self.now.source.lanes)) self.now.taken }
     {
         for label in &self.log {
             deliveries.name_taker(*label, self.index);
@@ -47,7 +49,8 @@ pub(crate) fn name_all<C: Cargo, A: Allocator + Clone>(
     seats: &[PendingSeat<C, A>],
     deliveries: &mut Deliveries<A>,
 )
-    ensures { deliveries.new ≡ named deliveries.old seats.now }
+    ensures told { deliveries.new ≡ named deliveries.old seats.now }
+    ensures labels { All (λ s. All (IsLabelledBelow (length s.source.lanes)) s.taken) seats.now }
 {
     for seat in seats {
         seat.name_takes(deliveries);

@@ -1,0 +1,18 @@
+-- A collection by several workers, event by event, over names.
+pub mod Block
+pub mod Setting
+pub mod Worker
+pub mod WorkerSteps
+pub mod System
+pub mod Steps
+pub mod WorkerRun
+pub mod Laid
+pub mod Kept
+pub mod Refused
+pub mod Ordered
+pub mod Joined
+pub mod Total
+pub mod Places
+pub mod Lawful
+pub mod Measure
+pub mod Finish
