@@ -1,11 +1,11 @@
 -- What a call changes of a seat.
 use mathlib.Core.Logic.{dite}
 use Rattle.std.proofs.Math.Decide.{dec_lt}
-use Rattle.std.proofs.Common.{None, ◌≡◌, ◌≢◌, ◌≤◌, ℕ, zero, suc, ◌+◌, ◌<◌, Bool, true, false, Option, Some, List, [], ◌∷◌, ◌++◌, length, map, set, get_or, sym, refl, ap, ◌∙◌, subst, ⊎_elim, All, arith, eq-eqb, ne_eqb, length-set, length-append, append-nil, cond, unwrap_or, option_map}
-use Rattle.std.specs.List.{slice_get, filter}
+use Rattle.std.proofs.Common.{None, ◌≡◌, ◌≢◌, ◌≤◌, ℕ, ◌+◌, ◌<◌, true, false, Option, Some, List, [], ◌∷◌, ◌++◌, length, map, set, get_or, sym, refl, ap, ◌∙◌, subst, ⊎_elim, All, arith, eq-eqb, ne_eqb, length-set, length-append, append-nil, unwrap_or}
+use Rattle.std.specs.List.{slice_get}
 use Rattle.std.proofs.lemmas.Option.{slice_get_within, get_or_from_slice_get, slice_get-map, slice_get_read}
 use Rattle.std.specs.Option.{IsSomeAnd}
-use Rattle.std.proofs.lemmas.List.{map-append, map-set, length-map, get_or-map, get_or_read}
+use Rattle.std.proofs.lemmas.List.{map-append, length-map, get_or-map, get_or_read}
 use Rattle.pending_laws.specs.Delivered.{IsLabelledBelow}
 use Rattle.std.proofs.lemmas.List.Elements.{filter-append, All-append, All-cons, All-nil}
 use Rattle.block_pool.specs.BlockValue.{BlockValue}

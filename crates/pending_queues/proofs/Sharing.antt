@@ -1,22 +1,14 @@
 -- What one seat has of the queues.
-use Rattle.std.proofs.Common.{◌≡◌, ◌≢◌, ◌≤◌, ℕ, suc, ◌+◌, ◌<◌, ◌==◌, max, Some, List, [], ◌∷◌, ◌++◌, All, length, map, set, get_or, sym, refl, ap, ◌∙◌, subst, arith, append-nil, length-append}
-use mathlib.Core.Logic.{dite}
-use native.Mathlib.Decide.{ℕ_discrete}
-use Rattle.std.specs.List.{slice_get, sum_by}
-use Rattle.std.proofs.Math.Nat.{le-max_left, le-max_right}
-use Rattle.std.proofs.lemmas.List.{length-map, set-get_or}
+use Rattle.std.proofs.Common.{◌≡◌, ◌≤◌, ℕ, List, [], ◌∷◌, length, map, sym, ap, ◌∙◌, subst, append-nil}
+use Rattle.std.proofs.lemmas.List.{length-map}
 use Rattle.std.proofs.lemmas.List.Elements.{All-cons, All-nil}
-use Rattle.std.proofs.lemmas.List.Sums.{sum_by-cons}
-use Rattle.std.proofs.lemmas.Option.{slice_get_within, slice_get_read, slice_get-get_or}
-use Rattle.crossbeam_queue.specs.SegTies.{SegId}
 use Rattle.block_pool.specs.BlockValue.{BlockValue}
-use Rattle.views.specs.Total.{one_if}
-use Rattle.lanes.specs.PassValue.{PassValue, both}
-use Rattle.pending_laws.specs.PendingValue.{Source, SeatValue}
-use Rattle.tally.specs.TallyValue.{TallySeatValue, both_seats}
-use Rattle.pending_laws.specs.SeatPass.{AtEach, pass_of, sent_to, taken_from}
+use Rattle.lanes.specs.PassValue.{PassValue}
+use Rattle.pending_laws.specs.PendingValue.{SeatValue}
+use Rattle.tally.specs.TallyValue.{TallySeatValue}
+use Rattle.pending_laws.specs.SeatPass.{AtEach, pass_of, taken_from}
 use Rattle.pending_queues.specs.Seated.{IsSeated, sent_by}
-use Rattle.pending_laws.specs.Gathered.{all_sent_to, all_taken_from, gathered_pass, AreGathered, IsGatheredMark}
+use Rattle.pending_laws.specs.Gathered.{AreGathered, IsGatheredMark}
 use Rattle.exports.specs.declared.label.Label.{Label}
 use Rattle.pending_laws.proofs.Gathering.{one_pass}
 
