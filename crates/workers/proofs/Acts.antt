@@ -35,13 +35,13 @@ pub record Stepped (setting : Setting) (w : Worker) (h : History) (w' : Worker) 
 some_same : {A : Type 0} {x y : A} → Some x ≡ Some y → x ≡ y
 some_same e = cc
 
-is_open-true : (d : ℕ) (hand : Hand) → is_open_at d hand ≡ true → hand ≡ Open d
+pub is_open-true : (d : ℕ) (hand : Hand) → is_open_at d hand ≡ true → hand ≡ Open d
 is_open-true d Nothing e = absurd (true≢false (sym e))
 is_open-true d (Open x) e = ap Open (sym (eqb-true d x e))
 is_open-true d (Holding b) e = absurd (true≢false (sym e))
 is_open-true d (HoldingLarge n) e = absurd (true≢false (sym e))
 
-is_open-false : (d : ℕ) (hand : Hand) → is_open_at d hand ≡ false → hand ≢ Open d
+pub is_open-false : (d : ℕ) (hand : Hand) → is_open_at d hand ≡ false → hand ≢ Open d
 is_open-false d hand e p = true≢false (sym (eq-eqb d d refl) ∙ ap (is_open_at d) (sym p) ∙ e)
 
 is_some-there : {A : Type 0} (o : Option A) → is_some o ≡ true → (x : A) × (o ≡ Some x)

@@ -197,7 +197,7 @@ module _ (L : ℕ → Type 0) where
     TakesLive (Owned d) = Unit {0}
     TakesLive OwnedLarge = Unit {0}
 
-    act_live : (w : Worker) (act : Act) → TakesLive act → OwnLive w → OwnLive (after setting w act)
+    pub act_live : (w : Worker) (act : Act) → TakesLive act → OwnLive w → OwnLive (after setting w act)
     act_live w (Looked cell number) t h = look_live w cell number h
     act_live w (Raced lost) t h = race_live w w.proposal lost h.proposal h
     act_live w Scanned t h = scan_hand_live (log_scan w (current_object w)) w.hand h.hand (log_live w (current_object w) h)

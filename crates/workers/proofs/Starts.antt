@@ -82,7 +82,7 @@ replicate-none : (k : ℕ) → Each (λ (b : Option Block). b ≡ None) (replica
 replicate-none zero = tt
 replicate-none (suc k) = (refl, replicate-none k)
 
-length-replicate-none : (k : ℕ) → length (replicate {A = Option Block} k None) ≡ k
+pub length-replicate-none : (k : ℕ) → length (replicate {A = Option Block} k None) ≡ k
 length-replicate-none zero = refl
 length-replicate-none (suc k) = ap suc (length-replicate-none k)
 

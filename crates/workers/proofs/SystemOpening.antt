@@ -103,7 +103,7 @@ module _ (setting : Setting) (d n : ℕ) (slots free : List ℕ)
       → (parts : List Part) × (Joined setting (λ name. find nat_cmp name s.forwarded) parts × (map (λ (p : Part). p.start) parts ≡ map (λ (p : Part). p.start) (open_parts d n slots 0 n)))
   ended_joined s events run ended =
       let r = run_held setting run (open_parts d n slots 0 n) opening_held in
-      (r.0, (joined setting s r.0 r.1.0 (λ t p g. ended t (within r.0 r.1.1 t p g)), r.1.1))
+      (r.0, (joined setting s r.0 r.1.0 (λ t p g. ended t (within r.0 r.1.1.0 t p g)), r.1.1.0))
     where
       counted : (t k : ℕ) → length (open_parts d n slots t k) ≡ k
       counted t zero = refl

@@ -99,7 +99,7 @@ module _ where
       go [] = refl
       go (n ∷ ns) = refl
 
-  quiet-noted : (setting : Setting) (w : Worker) (act : Act) (h : History) → IsQuiet act → ((noted setting w act h).known ≡ h.known) × ((noted setting w act h).drawn ≡ h.drawn)
+  pub quiet-noted : (setting : Setting) (w : Worker) (act : Act) (h : History) → IsQuiet act → ((noted setting w act h).known ≡ h.known) × ((noted setting w act h).drawn ≡ h.drawn)
   quiet-noted setting w (Looked cell number) h q = absurd q
   quiet-noted setting w (Raced lost) h q = absurd q
   quiet-noted setting w Scanned h q = (refl, refl)
@@ -164,7 +164,7 @@ times-without_other k n (x ∷ xs) ne = go (nat_eq x n) refl (times-without_othe
     go true e h = let z : one_if (nat_eq x k) ≡ 0 = ap one_if (ne_eqb x k (λ p. ne (sym p ∙ eqb-true x n e))) in omega arith
     go false e h = ap (λ m. one_if (nat_eq x k) + m) h
 
-member-times : (xs : List ℕ) (x i : ℕ) → i < length xs → slice_index_or xs i x ≡ x → 0 < times x xs
+pub member-times : (xs : List ℕ) (x i : ℕ) → i < length xs → slice_index_or xs i x ≡ x → 0 < times x xs
 member-times [] x i l e = absurd (omega arith)
 member-times (y ∷ xs) x zero l e = let o : one_if (nat_eq y x) ≡ 1 = ap one_if (eq-eqb y x e) in omega arith
 member-times (y ∷ xs) x (suc i) l e = let h : 0 < times x xs = member-times xs x i (omega arith) e in omega arith

@@ -7,6 +7,7 @@ pub mod System
 pub mod Steps
 pub mod WorkerRun
 pub mod Laid
+pub mod Ready
 pub mod Kept
 pub mod Refused
 pub mod Ordered
@@ -16,3 +17,4 @@ pub mod Places
 pub mod Lawful
 pub mod Measure
 pub mod Finish
+pub mod Alone

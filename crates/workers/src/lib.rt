@@ -1,6 +1,9 @@
 //! What several workers of a collection do together: the contract of each function is a theorem, and its body is empty.
 #![tactic(auto)]
 
+mod alone;
+mod ready;
+
 ghost use Rattle.std.specs.Prelude.{◌≡◌, ◌<◌, ◌≤◌, ◌⊎◌, ◌+◌, ◌*◌, ℕ, true, List, length, Option, Some, None, slice_get};
 ghost use Rattle.model.specs.Graph.{Graph};
 ghost use Rattle.model.specs.Destination.{Shape};
@@ -16,6 +19,9 @@ ghost use Rattle.model.specs.LiveCount.{LiveWords};
 ghost use Rattle.model.specs.SpaceBound.{space_bound};
 ghost use Rattle.workers.specs.Refused.{Refused};
 ghost use Rattle.workers.specs.Ordered.{TurnRun, Ordered, AreHandedOn, GoOn, ScanOwn};
+
+pub use alone::{alone_in_order, ended_run_brings, refused_run_below_bound};
+pub use ready::{exports_are_handed, run_is_ready};
 
 /// Whatever workers brought together, it is what a collection keeps.
 pub fn parts_suffice()
