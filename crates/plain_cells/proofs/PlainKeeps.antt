@@ -1,36 +1,24 @@
 -- A race of plain cells keeps what holds of the passes.
-use Rattle.std.proofs.Common.{◌≡◌, ◌≢◌, ℕ, suc, ◌<◌, ◌≤◌, List, [], ◌∷◌, ◌++◌, set, length, get_or, Some, None, refl, sym, ap, ◌∙◌, arith, eq-eqb, ne_eqb, length-set, get_or-set_same, get_or-set_other}
+use Rattle.std.proofs.Common.{◌≡◌, ◌≢◌, ℕ, ◌<◌, List, [], ◌∷◌, ◌++◌, set, length, get_or, Some, None, refl, sym, ap, ◌∙◌, arith, eq-eqb, ne_eqb, length-set, get_or-set_same, get_or-set_other}
 use Rattle.std.specs.Prelude.{Option}
-use Rattle.std.proofs.lemmas.List.{get_or_past}
+use Rattle.std.proofs.lemmas.List.{get_or-map, length-map, map-set}
 use Rattle.std.proofs.lemmas.List.Elements.{All-push, All-weaker, All-set}
 use mathlib.Core.Logic.{dite}
-use native.Mathlib.Decide.{ℕ_discrete, dec_le}
+use native.Mathlib.Decide.{ℕ_discrete}
 use Rattle.layout.specs.declared.place.Place.{Place}
+use Rattle.layout.specs.Place.{place_word, pointer_word}
 use Rattle.plain_cells.specs.declared.held.Held.{Held}
+use Rattle.cells.specs.Learned.{Learns}
 use Rattle.cells.specs.Settled.{Pairs}
-use Rattle.plain_cells.specs.Plain.{PlainValue, PlainPassValue, place_of, by_of, IsWinOf, IsFit, IsWonBelow, ArePlainCells}
-use Rattle.cells.proofs.Few.{few}
-use Rattle.cells.proofs.PairLemmas.{wins_of-append, wins_of-itself, wins_of-another}
+use Rattle.plain_cells.specs.Plain.{PlainValue, PlainPassValue, place_of, by_of, IsWinOf, IsFit, IsWonBelow, word_of, ArePlainCells}
+use Rattle.plain_cells.specs.Minds.{filled}
+use Rattle.cells.proofs.PairLemmas.{none_unless, wins_of-append, wins_of-itself, wins_of-another}
 
 pub by_of-itself : (number : ℕ) (held : Held) → number ≡ held.winner → by_of number (Some held) ≡ 1
 by_of-itself number held is = rw (eq-eqb number held.winner is)
 
 pub by_of-another : (number : ℕ) (held : Held) → number ≢ held.winner → by_of number (Some held) ≡ 0
 by_of-another number held ne = rw (ne_eqb number held.winner ne)
-
-by_of-most : (number : ℕ) (o : Option Held) → by_of number o ≤ 1
-by_of-most number None = omega arith
-by_of-most number (Some held) = dite (ℕ_discrete number held.winner) (λ is. let b = by_of-itself number held is in omega arith) (λ ne. let b = by_of-another number held ne in omega arith)
-
-within : (held : List (Option Held)) (number : ℕ) (x : ℕ × Place) → IsWinOf held number x → x.0 < length held
-within held number x won = dite (dec_le (suc x.0) (length held)) (λ (l : x.0 < length held). l)
-    (λ high. let e : get_or held x.0 None ≡ None = get_or_past held x.0 None (omega arith) in absurd (cc))
-
--- a pass has fewer wins than there are cells, where one holds nothing
-pub room_for : (cells : PlainValue) (p : PlainPassValue) (at : ℕ) → IsFit cells p → get_or cells.held at None ≡ None → at < length cells.held → length p.won < length cells.held
-room_for cells p at fit empty l =
-    few (λ (x : ℕ × Place). x.0) (length cells.held) p.won at (λ k. let e = fit.once k in let b = by_of-most p.number (get_or cells.held k None) in omega arith) l (fit.once at ∙ ap (by_of p.number) empty)
-    (All-weaker (IsWinOf cells.held p.number) (λ (x : ℕ × Place). x.0 < length cells.held) (within cells.held p.number) p.won fit.won)
 
 -- a pair that stands elsewhere is still held
 still : (held : List (Option Held)) (number at : ℕ) (mine : Option Held) → get_or held at None ≡ None → (x : ℕ × Place) → IsWinOf held number x → IsWinOf (set held at mine) number x
@@ -86,8 +74,64 @@ others_fit held passes at winner place p fit empty l differ =
           (λ ne. sym (ap (by_of p.number) (get_or-set_other held at name mine None ne)));
     }
 
-pub winners_set : (held : List (Option Held)) (passes at : ℕ) (mine : Held) → mine.winner < passes → ArePlainCells held passes → ArePlainCells (set held at (Some mine)) passes
-winners_set held passes at mine l are = record {
-  few = (let n = length-set held at (Some mine) in let f = are.few in omega arith);
-  winners = All-set (IsWonBelow passes) held at (Some mine) l are.winners;
+-- the name's word is that of the place held
+pub shows : (words : List ℕ) (held : List (Option Held)) (passes name word : ℕ) → ArePlainCells words held passes → name < length held → word ≡ get_or words name word
+    → pointer_word (place_of (get_or held name None)) ≡ word
+shows words held passes name word are below at = sym (at ∙ (ap (λ (ws : List ℕ). get_or ws name word) are.shown ∙ get_or-map word_of held name None word below))
+
+-- what is read off it is the place held
+pub reads : (words : List ℕ) (held : List (Option Held)) (passes name word : ℕ) (r : Option Place) → ArePlainCells words held passes → name < length held → word ≡ get_or words name word
+    → ((pointer : Option Place) → pointer_word pointer ≡ word → r ≡ pointer) → r ≡ place_of (get_or held name None)
+reads words held passes name word r are below at is = is (place_of (get_or held name None)) (shows words held passes name word are below at)
+
+pub none_held : (o : Option Held) → None ≡ place_of o → o ≡ None
+none_held None e = refl
+none_held (Some held) e = absurd (cc)
+
+-- who learns the place that a cell holds fits the cells
+pub learner_fits : (cells : PlainValue) (pass : PlainPassValue) (name : ℕ) (place : Place) → IsFit cells pass → place_of (get_or cells.held name None) ≡ Some place → name < length cells.held
+    → IsFit cells (record pass { known = set pass.known name (Some place) })
+learner_fits cells pass name place fit here below =
+    let known' : List (Option Place) = set pass.known name (Some place) in
+    let many = fit.many in
+    record {
+      mine = fit.mine;
+      many = length-set pass.known name (Some place) ∙ fit.many;
+      known = λ k r e. dite (ℕ_discrete k name)
+          (λ is. let a : get_or known' k None ≡ Some place = ap (λ (j : ℕ). get_or known' j None) is ∙ get_or-set_same pass.known name (Some place) None (omega arith) in
+          ap (λ (j : ℕ). place_of (get_or cells.held j None)) is ∙ (here ∙ (sym a ∙ e)))
+          (λ ne. fit.known k r (sym (get_or-set_other pass.known name k (Some place) None ne) ∙ e));
+      won = fit.won;
+      once = fit.once;
+    }
+
+-- the place that the cell shows, or gets, is learned
+pub learns : (held : List (Option Held)) (known : List (Option Place)) (name : ℕ) (place : Place) → name < length known
+    → ((p : Place) → get_or known name None ≡ Some p → place_of (get_or held name None) ≡ Some p) → ((p : Place) → place_of (get_or held name None) ≡ Some p → Some place ≡ Some p)
+    → Learns (λ k. get_or known k None) (λ k. get_or (set known name (Some place)) k None) name (Some place)
+learns held known name place below fits is = record {
+  told = get_or-set_same known name (Some place) None below;
+  lasting = λ p e. is p (fits p e);
+  others = λ m ne. get_or-set_other known name m (Some place) None ne;
 }
+
+-- of an empty cell nothing is learned
+pub learns_nothing : (held : List (Option Held)) (known : List (Option Place)) (name : ℕ) → None ≡ place_of (get_or held name None)
+    → ((p : Place) → get_or known name None ≡ Some p → place_of (get_or held name None) ≡ Some p) → Learns (λ k. get_or known k None) (λ k. get_or known k None) name None
+learns_nothing held known name empty fits = record {
+  told = none_unless (get_or known name None) (λ p e. let some = fits p e in absurd (cc));
+  lasting = λ p e. empty ∙ fits p e;
+  others = λ m ne. refl;
+}
+
+-- the cells after a race that is won
+pub cells_set : (words : List ℕ) (held : List (Option Held)) (passes at number : ℕ) (place : Place) → number < passes → ArePlainCells words held passes → ArePlainCells (set words at (place_word place)) (filled held number at place) passes
+cells_set words held passes at number place l are =
+    let mine : Held = record { place = place; winner = number } in record {
+      shown = ap (λ (ws : List ℕ). set ws at (place_word place)) are.shown ∙ sym (map-set word_of held at (Some mine));
+      few = (let n = length-set held at (Some mine) in let f = are.few in omega arith);
+      winners = All-set (IsWonBelow passes) held at (Some mine) l are.winners;
+    }
+
+pub as_many_words : (words : List ℕ) (held : List (Option Held)) (passes : ℕ) → ArePlainCells words held passes → length words ≡ length held
+as_many_words words held passes are = ap length are.shown ∙ length-map held word_of

@@ -7,12 +7,18 @@ use Rattle.std.proofs.lemmas.List.Elements.{All-nil, All-head, All-tail, All-app
 use mathlib.Core.Logic.{dite}
 use native.Mathlib.Decide.{dec_le}
 use Rattle.layout.specs.declared.place.Place.{Place}
+use Rattle.layout.specs.Place.{pointer_word}
 use Rattle.plain_cells.specs.declared.held.Held.{Held}
 use Rattle.cells.specs.Settled.{Pairs, wins_of, ones, all_pairs, KnowsOnly, IsSettled}
 use Rattle.views.specs.Total.{times}
-use Rattle.plain_cells.specs.Plain.{PlainValue, PlainPassValue, known_by, place_of, by_of, IsWinOf, IsFit, Differ, IsWonBelow, ArePlainCells}
+use Rattle.plain_cells.specs.Plain.{PlainValue, PlainPassValue, known_by, place_of, by_of, IsWinOf, IsFit, Differ, IsWonBelow, word_of, ArePlainCells}
 use Rattle.cells.proofs.Few.{once_each}
 use Rattle.cells.proofs.PairLemmas.{wins_of-append}
+
+-- the words are those of the places that the cells hold
+pub words_of_places : (held : List (Option Held)) → map pointer_word (map place_of held) ≡ map word_of held
+words_of_places [] = refl
+words_of_places (x ∷ xs) = ap (λ (ws : List ℕ). word_of x ∷ ws) (words_of_places xs)
 
 -- the places that the cells hold
 abbrev places : List (Option Held) → ℕ → Option Place
@@ -65,7 +71,7 @@ winner_below : (held : List (Option Held)) (passes : ℕ) → All (IsWonBelow pa
 winner_below held passes each name = dite (dec_le (suc name) (length held)) (λ (l : name < length held). All-get_or (IsWonBelow passes) held name None l each)
     (λ high. subst (λ (o : Option Held). IsWonBelow passes o) (sym (get_or_past held name None (omega arith))) tt)
 
-module _ (cells : PlainValue) (ps : List PlainPassValue) (are : ArePlainCells cells.held cells.passes) (fits : All (IsFit cells) ps) (differ : AllPairs Differ ps) (many : length ps ≡ cells.passes) where
+module _ (cells : PlainValue) (ps : List PlainPassValue) (words : List ℕ) (are : ArePlainCells words cells.held cells.passes) (fits : All (IsFit cells) ps) (differ : AllPairs Differ ps) (many : length ps ≡ cells.passes) where
   once_by : (o : Option Held) → IsWonBelow cells.passes o → by_all o ps ≡ ones o
   once_by None l = by_all-None ps
   once_by (Some held) l =

@@ -2,3 +2,4 @@
 pub use Rattle.cells.specs.Learned
 pub use Rattle.cells.specs.Settled
 pub mod Plain
+pub mod Minds

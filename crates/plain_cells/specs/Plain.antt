@@ -2,6 +2,7 @@
 use Rattle.std.specs.Prelude.{◌≡◌, ◌≢◌, ◌<◌, ◌^◌, ℕ, List, [], ◌==◌, if◌then◌else◌, All, length, map, replicate, slice_index_or, Option, Some, None}
 use Rattle.std.specs.List.{range_with_len}
 use Rattle.layout.specs.declared.place.Place.{Place}
+use Rattle.layout.specs.Place.{pointer_word}
 use Rattle.cells.specs.declared.outcome.Outcome.{Outcome}
 use Rattle.cells.specs.declared.outcome.Outcome.TheVariants.{Won, Lost}
 use Rattle.plain_cells.specs.declared.held.Held.{Held}
@@ -78,7 +79,16 @@ abbrev pub IsWonBelow : ℕ → Option Held → Type 0
 IsWonBelow passes None = Unit {0}
 IsWonBelow passes (Some held) = held.winner < passes
 
--- what holds of the cells
-pub record ArePlainCells (held : List (Option Held)) (passes : ℕ) : Type 0 where
+-- the word of a cell: that of the place which it holds, or 0
+abbrev pub word_of : Option Held → ℕ
+word_of held = pointer_word (place_of held)
+
+-- the word is 0 or that of a place
+abbrev pub IsPointer : ℕ → Type 0
+IsPointer word = (pointer : Option Place) × (pointer_word pointer ≡ word)
+
+-- What holds of the cells: the words are those of what they hold
+pub record ArePlainCells (words : List ℕ) (held : List (Option Held)) (passes : ℕ) : Type 0 where
+  pub shown : words ≡ map word_of held
   pub few : length held < 2 ^ 32
   pub winners : All (IsWonBelow passes) held

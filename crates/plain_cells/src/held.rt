@@ -1,8 +1,7 @@
-//! What a plain cell holds.
+//! What a plain cell holds, as contracts see it.
 use layout::Place;
 
-/// The place of a cell, and the number of the pass that won it.
-#[derive(Clone, Copy)]
+/// The place of a cell, and the number of the pass that won it. No value of it is made.
 pub struct Held {
     pub place: Place,
     pub winner: usize,

@@ -2,7 +2,12 @@
 #![tactic(auto)]
 
 mod held;
+mod minds;
 mod plain_cells;
 mod plain_ends;
+mod plain_pass;
+mod remembered;
+mod words;
 
-pub use crate::plain_cells::{PlainCells, PlainPass};
+pub use crate::plain_cells::PlainCells;
+pub use crate::plain_pass::PlainPass;

@@ -1,18 +1,24 @@
 //! Plain cells, which are exact, for one thread.
-ghost use Rattle.std.specs.Prelude.{◌≡◌, ◌≢◌, ◌<◌, ◌≤◌, ℕ, [], None, All, length, map, replicate, slice_index_or, vec_capacity};
+ghost use Rattle.std.specs.Prelude.{◌≡◌};
+ghost use Rattle.plain_cells.specs.Minds.{filled};
 
-use crate::held::Held;
+use crate::minds::{Filled, Holdings};
+use crate::plain_pass::PlainPass;
+use crate::remembered::Remembered;
+use crate::words::place_in;
 use cells::{Cells, Outcome};
 use layout::Place;
 use std::alloc::{AllocError, Allocator, Global};
 use std::marker::Model;
 
 /// Cells of one thread, with passes for several workers. A look gives what was won, and a race is won exactly when
-/// nothing was.
+/// nothing was. A cell is one word: 0, or the word of the place that was won. A look reads it and writes nothing; a
+/// race reads it, and writes it where it was 0.
 #[derive(Drop)]
 pub struct PlainCells<A: Allocator = Global> {
-    pub(crate) held: Vec<Option<Held>, A>,
+    pub(crate) words: Vec<u64, A>,
     pub(crate) passes: usize,
+    pub(crate) held: Remembered<Holdings>,
 }
 
 impl<A: Allocator> Model for PlainCells<A> {
@@ -20,36 +26,31 @@ impl<A: Allocator> Model for PlainCells<A> {
 
     ghost Value = { PlainValue };
 
-    ghost view = { λ c. record { held = c.held.items; passes = c.passes } };
+    ghost view = { λ c. record { held = c.held.value; passes = c.passes } };
 
-    ghost invariant = { λ c. ArePlainCells c.held.items c.passes };
+    ghost invariant = { λ c. ArePlainCells c.words.items c.held.value c.passes };
 }
 
-/// What one worker knows and has won, with room for every name.
-#[derive(Drop)]
-pub struct PlainPass<A: Allocator = Global> {
-    pub(crate) number: usize,
-    pub(crate) passes: usize,
-    pub(crate) known: Vec<Option<Place>, A>,
-    pub(crate) won: Vec<(u32, Place), A>,
-}
-
-impl<A: Allocator> Model for PlainPass<A> {
-    ghost use Rattle.std.specs.Prelude.{◌≤◌, length, vec_capacity};
-    ghost use Rattle.plain_cells.specs.Plain.{PlainPassValue};
-
-    ghost Value = { PlainPassValue };
-
-    ghost view = { λ p. record { number = p.number; passes = p.passes; known = p.known.items; won = p.won.items } };
-
-    ghost invariant = { λ p. length p.known.items ≤ vec_capacity p.won };
+/// The name's cell holds the place, which the pass has won. This is remembered for contracts alone.
+#[inline(always)]
+fn holding(
+    held: &Remembered<Holdings>,
+    pass: &PlainPass,
+    name: u32,
+    place: Place,
+) -> Remembered<Holdings>
+    ensures { result.value ≡ filled held.now.value pass.now.number name place }
+{
+    Remembered::of::<(&Remembered<Holdings>, &PlainPass, u32, Place), Filled>(&(
+        held, pass, name, place,
+    ))
 }
 
 impl<A: Allocator> Cells for PlainCells<A> {
     ghost use Rattle.std.specs.Prelude.{◌≡◌, ◌<◌, length};
     ghost use Rattle.plain_cells.specs.Plain.{IsAtHome, IsFit, Differ, RacesTo, place_held, known_by};
 
-    type Pass = PlainPass<A>;
+    type Pass = PlainPass;
 
     ghost limit = { λ c. length c.held };
 
@@ -70,34 +71,32 @@ impl<A: Allocator> Cells for PlainCells<A> {
     ghost may_refuse = { ⊥ };
 
     fn count(&self) -> u32 {
-        self.held.len() as u32
+        self.words.len() as u32
     }
 
-    fn look(&mut self, pass: &mut PlainPass<A>, name: u32) -> Option<Place> {
-        let place = self.held[name as usize]?.place;
-        pass.known[name as usize] = Some(place);
-        Some(place)
+    fn look(&mut self, pass: &mut PlainPass, name: u32) -> Option<Place> {
+        let shown = place_in(self.words[name as usize])?;
+        pass.learn(name, shown);
+        Some(shown)
     }
 
     fn race(
         &mut self,
-        pass: &mut PlainPass<A>,
+        pass: &mut PlainPass,
         name: u32,
         place: Place,
     ) -> Result<Outcome, AllocError> {
         let at = name as usize;
-        match self.held[at] {
-            Some(held) => {
-                pass.known[at] = Some(held.place);
-                Ok(Outcome::Lost(held.place))
+        match place_in(self.words[at]) {
+            Some(first) => {
+                pass.learn(name, first);
+                Ok(Outcome::Lost(first))
             }
             None => {
-                self.held[at] = Some(Held {
-                    place,
-                    winner: pass.number,
-                });
-                pass.known[at] = Some(place);
-                pass.won.push_reserved((name, place));
+                self.words[at] = place.to_word();
+                self.held = holding(&self.held, pass, name, place);
+                pass.learn(name, place);
+                pass.win(name, place);
                 Ok(Outcome::Won)
             }
         }

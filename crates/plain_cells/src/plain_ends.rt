@@ -1,53 +1,31 @@
 //! Plain cells as they are made, and what they answer in the end.
-ghost use Rattle.std.specs.Prelude.{◌≡◌, ◌≢◌, ◌<◌, ◌≤◌, ℕ, [], None, Err, All, length, map, replicate, slice_index_or, vec_capacity, IfOk, OnOk};
+ghost use Rattle.std.specs.Prelude.{◌≡◌, ◌≢◌, ◌≤◌, List, [], Option, None, Err, All, length, map, slice_index_or, vec_capacity, IfOk, OnOk};
+ghost use Rattle.layout.specs.declared.place.Place.{Place as At};
+ghost use Rattle.layout.specs.Place.{pointer_word};
 ghost use Rattle.std.specs.List.{AllPairs};
 ghost use Rattle.cells.specs.Settled.{Agree, IsSettled};
-ghost use Rattle.plain_cells.specs.Plain.{IsFit, Differ, known_by, place_of, empty_cells, fresh_pass, fresh_passes};
+ghost use Rattle.plain_cells.specs.Plain.{IsFit, Differ, known_by, place_of, empty_cells, fresh_passes};
 
-use crate::held::Held;
-use crate::plain_cells::{PlainCells, PlainPass};
+use crate::minds::Empty;
+use crate::plain_cells::PlainCells;
+use crate::plain_pass::PlainPass;
+use crate::remembered::Remembered;
+use crate::words::place_in;
 use cells::{Forwards, SettleError};
 use layout::Place;
 use std::alloc::{AllocError, Allocator};
 
-/// That many times none.
-fn nones<T: Copy, A: Allocator>(alloc: A, count: u32) -> Result<Vec<Option<T>, A>, AllocError>
-    ensures { IfOk result (λ v. v.items ≡ replicate count None) }
-{
-    let mut items = Vec::with_capacity(alloc, count as usize)?;
-    for _ in 0..count {
-        items.push_reserved(None);
-    }
-    Ok(items)
-}
-
-/// A pass that knows nothing and has won nothing.
-fn new_pass<A: Allocator + Clone>(
-    alloc: &A,
-    count: u32,
-    passes: usize,
-    number: usize,
-) -> Result<PlainPass<A>, AllocError>
-    ensures { IfOk result (λ p. p ≡ fresh_pass count passes number) }
-{
-    Ok(PlainPass {
-        number,
-        passes,
-        known: nones(alloc.clone()?, count)?,
-        won: Vec::with_capacity(alloc.clone()?, count as usize)?,
-    })
-}
-
-/// The places that the cells hold.
+/// The places whose words these are.
 fn places_of<A: Allocator>(
-    held: &[Option<Held>],
+    words: &[u64],
     mut places: Vec<Option<Place>, A>,
 ) -> Vec<Option<Place>, A>
-    requires { (places.items ≡ []) × (length held.now ≤ vec_capacity places) }
-    ensures { result.items ≡ map place_of held.now }
+    requires shown { (pointers : List (Option At)) × (map pointer_word pointers ≡ words.now) }
+    requires room { (places.items ≡ []) × (length words.now ≤ vec_capacity places) }
+    ensures { (pointers : List (Option At)) → map pointer_word pointers ≡ words.now → result.items ≡ pointers }
 {
-    for cell in held {
-        places.push_reserved(cell.map(|held| held.place));
+    for &word in words {
+        places.push_reserved(place_in(word));
     }
     places
 }
@@ -59,7 +37,7 @@ impl<A: Allocator> PlainCells<A> {
         alloc: A,
         count: u32,
         passes: usize,
-    ) -> Result<(PlainCells<A>, Vec<PlainPass<A>, A>), AllocError>
+    ) -> Result<(PlainCells<A>, Vec<PlainPass, A>), AllocError>
     where
         A: Clone,
         ensures cells { IfOk result (λ r. r.0 ≡ empty_cells count passes) }
@@ -72,16 +50,24 @@ impl<A: Allocator> PlainCells<A> {
     {
         let mut made = Vec::with_capacity(alloc.clone()?, passes)?;
         for number in 0..passes {
-            made.push_reserved(new_pass(&alloc, count, passes, number)?);
+            made.push_reserved(PlainPass::new(count, passes, number));
         }
-        let held = nones(alloc, count)?;
-        Ok((PlainCells { held, passes }, made))
+        let words = vec![in alloc; 0; count as usize]?;
+        let held = Remembered::of::<u32, Empty>(&count);
+        Ok((
+            PlainCells {
+                words,
+                passes,
+                held,
+            },
+            made,
+        ))
     }
 
     /// The place of each name that was won. It takes the passes that `new` gave with these cells, each once: each name
     /// that has a place was won once, by one pass, and what the passes know is what they won. `NoMemory` says that
     /// memory ran out; `Unsettled` never comes.
-    pub fn settle(self, alloc: A, passes: Vec<PlainPass<A>, A>) -> Result<Forwards<A>, SettleError>
+    pub fn settle(self, alloc: A, passes: Vec<PlainPass, A>) -> Result<Forwards<A>, SettleError>
         requires fits { All (IsFit self) passes.items }
         requires apart { AllPairs Differ passes.items }
         requires all { length passes.items ≡ self.passes }
@@ -90,9 +76,9 @@ impl<A: Allocator> PlainCells<A> {
         ensures agree { OnOk result (Agree known_by passes.items) }
         ensures never_unsettled { result ≢ Err SettleError.Unsettled }
     {
-        let Ok(places) = Vec::with_capacity(alloc, self.held.len()) else {
+        let Ok(places) = Vec::with_capacity(alloc, self.words.len()) else {
             return Err(SettleError::NoMemory);
         };
-        Ok(Forwards::of(places_of(&self.held, places)))
+        Ok(Forwards::of(places_of(&self.words, places)))
     }
 }
