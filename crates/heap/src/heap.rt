@@ -12,8 +12,9 @@ ghost use Rattle.model.specs.LiveCount.{LiveCount};
 ghost use Rattle.layout.specs.ObjectRef.{raw_of};
 ghost use Rattle.heap_data.specs.Words.{IsShownAs};
 ghost use Rattle.heap_data.specs.Plain.{IsPlainHeap, NamesArePlaces};
+ghost use Rattle.steps.specs.ConfigRange.{IsInRange};
 ghost use Rattle.steps.specs.StepPairs.{step_pair, stands_at};
-ghost use Rattle.heap_data.specs.CollectionValue.{IsOpened, AreFreeBlocks, young_names};
+ghost use Rattle.heap_data.specs.CollectionValue.{IsOpened, AreFreeBlocks, FreeBlocksAreEmpty, young_names};
 ghost use Rattle.heap_data.specs.ReportValue.{all_won, renaming_of};
 ghost use Rattle.heap_data.specs.SettledValue.{IsSettled};
 ghost use Rattle.heap_data.specs.CollectedHeap.{CollectedHeap};
@@ -287,10 +288,12 @@ impl<A: Allocator + Clone> Heap<A> {
         ensures ok { IfOk result (λ collection. IsOpened self.now g collection) }
         ensures no_generation { (result ≡ Err OpenError.NoGeneration) ↔ (self.now.config.shape.generations ≤ g) }
         // What holds of every heap.
+        ensures range { IsInRange self.now.config }
         ensures closed { IsClosed self.now.graph }
         ensures plain { IsPlainHeap self.now }
         ensures places { NamesArePlaces self.now.graph }
         ensures free { AreFreeBlocks self.now.config.blocks self.now.free }
+        ensures empty { FreeBlocksAreEmpty self.now }
     {
         let _free = self.space.free_count();
         if g >= self.space.config().generations() as u64 {

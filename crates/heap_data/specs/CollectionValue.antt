@@ -1,10 +1,11 @@
 -- What contracts see of a collection that was opened.
-use Rattle.std.specs.Prelude.{◌≡◌, ℕ, ◌<◌, List, ◌++◌, map, filter, length, slice_index, count_by, nat_lt, All}
+use Rattle.std.specs.Prelude.{◌≡◌, ℕ, ◌<◌, List, ◌++◌, map, filter, length, None, IsTrue, slice_index, count_by, nat_lt, All}
 use Rattle.std.specs.List.Sorted.{IsStrictlyIncreasing}
 use Rattle.std.specs.FinMap.{entries, keys}
-use Rattle.model.specs.Graph.{Graph}
+use Rattle.model.specs.Graph.{Graph, object_at}
 use Rattle.model.specs.Live.{IsYoung}
 use Rattle.model.specs.OldSlots.{Slot, old_slots, is_young_name}
+use Rattle.model.specs.Reached.{has}
 use Rattle.layout.specs.Place.{small_word}
 use Rattle.heap_data.specs.HeapValue.{HeapValue}
 
@@ -47,6 +48,10 @@ rank_below word names = count_by (λ name. nat_lt name word) names
 pub record AreFreeBlocks (blocks : ℕ) (free : List ℕ) : Type 0 where
   pub rising : IsStrictlyIncreasing free
   pub in_range : All (λ block. block < blocks) free
+
+-- no object stands in a free block
+abbrev pub FreeBlocksAreEmpty : HeapValue → Type 0
+FreeBlocksAreEmpty heap = (block offset : ℕ) → IsTrue (has heap.free block) → offset < 65536 → object_at heap.graph (small_word block offset) ≡ None
 
 -- the collection of the generations 0 to g was opened on this heap as it is
 pub record IsOpened (heap : HeapValue) (g : ℕ) (collection : CollectionValue) : Type 0 where

@@ -104,6 +104,10 @@ module _ (config : Config) (table : List (Option BlockValue)) (area : List ℕ) 
       (λ at. past_none at.0 (large_word number) at.1 (omega (arith, at.1.low, at.1.high, sound.short, sound.in_range.most_blocks)))
       (word_cases (large_word number))
 
+  -- a number without a block names no object
+  pub no_block : (number offset : ℕ) → offset < 65536 → slot_at table number ≡ None → get (objects_map table) (small_word number offset) ≡ None
+  no_block number offset lt is = at_word number offset lt ∙ ap (λ s. find nat_cmp (small_word number offset) (slot_objects number s)) is
+
   pub covered : (number offset : ℕ) → offset < 65536 → IsSome (get (objects_map table) (small_word number offset)) → number < length table
   covered number offset lt some = ⊎_elim
       (λ h. h)

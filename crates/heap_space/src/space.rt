@@ -3,6 +3,7 @@ ghost use Rattle.std.specs.Prelude.{◌≡◌, ℕ, ◌+◌, ◌/◌, ◌<◌, �
 ghost use Rattle.std.specs.FinMap.{keys, values, get, insert};
 ghost use Rattle.std.specs.Option.{option_map};
 ghost use Rattle.model.specs.Graph.{size_of, Object, with_pointer};
+ghost use Rattle.model.specs.Reached.{has};
 ghost use Rattle.heap_data.specs.Plain.{IsPlain, ArePlain};
 ghost use Rattle.model.specs.Room.{room_after};
 ghost use Rattle.layout.specs.Place.{place_word, pointer_word, small_word};
@@ -224,6 +225,8 @@ impl<A: Allocator + Clone> Space<A> {
         ensures value { result ≡ length self.now.free }
         // What holds of the free blocks.
         ensures blocks { AreFreeBlocks self.now.config.blocks self.now.free }
+        ensures empty { (block offset : ℕ) → IsTrue (has self.now.free block) → offset < 65536
+            → get self.now.objects (small_word block offset) ≡ None }
     {
         self.pool.free_count()
     }
