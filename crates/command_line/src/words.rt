@@ -1,4 +1,7 @@
 //! The words of a command line.
+ghost use Rattle.clap.specs.Values.{kind_of};
+ghost use Rattle.command_line.specs.Refusals.{IsToldOf};
+
 use clap::error::ErrorKind;
 use clap::{Arg, ArgMatches, Command, Error, value_parser};
 use std::alloc::{AllocError, Global};
@@ -86,7 +89,10 @@ fn parsed_words<'a, T: AsStr>(alloc: Global, words: &'a [T]) -> Result<Options, 
     }
 }
 
-fn refused_by(alloc: Global, error: &Error) -> Refused {
+/// What is told of an error.
+fn refused_by(alloc: Global, error: &Error) -> Refused
+    ensures { IsToldOf (kind_of error.now) result }
+{
     if error.kind() == ErrorKind::OutOfMemory {
         return Refused::NoMemory;
     }
