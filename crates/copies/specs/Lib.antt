@@ -1,0 +1,2 @@
+-- What queues hand over in a collection.
+pub mod Handed

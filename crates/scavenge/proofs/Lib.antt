@@ -1,0 +1,10 @@
+mod Fields
+mod Winning
+mod Scanning
+mod Made
+mod SlotLemmas
+mod Renewing
+mod Copying
+mod Proposing
+mod Looking
+mod Begun

@@ -1,0 +1,42 @@
+-- A look whose cell is empty.
+use Rattle.std.proofs.Common.{◌≡◌, ℕ, true, cond, Option, Some, None, Result, Ok, Err, sym, ap, subst, ◌∙◌}
+use Rattle.std.specs.Prelude.{OnOk}
+use Rattle.layout.specs.declared.place.Place.{Place}
+use Rattle.block_pool.specs.ClaimsValue.{SeatValue}
+use Rattle.heap.specs.HeapValue.{HeapValue}
+use Rattle.heap.specs.CollectionValue.{CollectionValue}
+use Rattle.workers.specs.Setting.{is_collected}
+use Rattle.workers.specs.Worker.{Worker}
+use Rattle.workers.specs.WorkerSteps.{current_slot, cell_wanted, collected_target, draw_at, after_look, look_slot, look_at, finish_slot, draws_for}
+use Rattle.scavenge.specs.Shown.{WorkspaceValue}
+use Rattle.scavenge.specs.Told.{Tells}
+use Rattle.scavenge.specs.Slots.{seen, objects_of, Looks, WantsBlock, Proposes, IsTold, cell_of, seat_after}
+
+pub on_ok : {A E P Q : Type 0} (r : Result A E) → (P → Q) → OnOk r P → OnOk r Q
+on_ok (Ok x) f p = f p
+on_ok (Err x) f p = p
+
+pub looks_none : (heap : HeapValue) (c : CollectionValue) (gives : ℕ → Option Place → Type 0) (old_known new_known : ℕ → Option Place) (seat seat' : SeatValue) (old new : WorkspaceValue) (name : ℕ)
+    → current_slot (seen heap c) old.worker ≡ Some (Some name) → is_collected (seen heap c) name ≡ true → Tells heap c gives old_known new_known name None → Proposes (objects_of heap) name seat seat' old new → Looks heap c gives old_known new_known seat seat' old new
+looks_none heap c gives old_known new_known seat seat' old new name current young tells p =
+    record {
+      shown = None;
+      number = p.number;
+      told = subst (IsTold heap c gives old_known new_known None) (sym wanted) tells;
+      drawn = p.drawn ∙ sym (ap (λ b. seat_after seat b p.number) (ap (λ x. draw_at (seen heap c) old.worker x (cell_of (seen heap c) x None)) wanted));
+      worker = p.worker ∙ ap (λ (w : Worker). (let x : WorkspaceValue = record old { worker = w } in x))
+          (sym (ap (λ x. after_look (seen heap c) old.worker (cell_of (seen heap c) x None) p.number) wanted
+          ∙ ap (look_slot (seen heap c) old.worker None p.number) current
+          ∙ ap (λ b. cond b (look_at (seen heap c) old.worker None p.number name) (finish_slot (Some name) old.worker)) young));
+    }
+  where
+    wanted : cell_wanted (seen heap c) old.worker ≡ Some name
+    wanted = ap (collected_target (seen heap c)) current ∙ ap (λ b. cond b (Some name) None) young
+
+pub wants_none : (heap : HeapValue) (c : CollectionValue) (gives : ℕ → Option Place → Type 0) (old_known new_known : ℕ → Option Place) (w : WorkspaceValue) (name : ℕ)
+    → current_slot (seen heap c) w.worker ≡ Some (Some name) → is_collected (seen heap c) name ≡ true → Tells heap c gives old_known new_known name None → draws_for (objects_of heap) w.worker name ≡ true → WantsBlock heap c gives old_known new_known w
+wants_none heap c gives old_known new_known w name current young tells d =
+    record { told = subst (IsTold heap c gives old_known new_known None) (sym wanted) tells; wanted = ap (λ x. draw_at (seen heap c) w.worker x None) wanted ∙ d }
+  where
+    wanted : cell_wanted (seen heap c) w.worker ≡ Some name
+    wanted = ap (collected_target (seen heap c)) current ∙ ap (λ b. cond b (Some name) None) young

@@ -1,0 +1,66 @@
+-- What the cells tell a worker of a name.
+use Rattle.std.specs.Prelude.{◌≡◌, ℕ, ◌<◌, List, slice_index, Option, Some, None}
+use Rattle.layout.specs.declared.place.Place.{Place}
+use Rattle.layout.specs.Place.{place_word}
+use Rattle.heap.specs.HeapValue.{HeapValue}
+use Rattle.workers.specs.Worker.{Proposal, Copied, Claimed}
+use Rattle.workers.specs.WorkerRun.{proposed_name}
+use Rattle.workers.specs.WorkerSteps.{after_race}
+use Rattle.scavenge.specs.Shown.{WorkspaceValue, lost_to}
+use Rattle.scavenge.specs.declared.proposed.Proposed.{Proposed}
+use Rattle.heap.specs.CollectionValue.{CollectionValue, young_names}
+use Rattle.cells.specs.declared.outcome.Outcome.{Outcome}
+use Rattle.cells.specs.declared.outcome.Outcome.TheVariants.{Won, Lost}
+use Rattle.cells.specs.Learned.{Learns, RaceEnds, place_after}
+
+-- the name's number in the collection
+pub record IsNumberOf (heap : HeapValue) (c : CollectionValue) (name number : ℕ) : Type 0 where
+  pub in_range : number < c.cells
+  pub is : slice_index (young_names heap.graph c.generation) number ≡ name
+
+-- a look told the pass this of the name, and the cells give it so
+pub record Tells (heap : HeapValue) (c : CollectionValue) (gives : ℕ → Option Place → Type 0) (old new : ℕ → Option Place) (name : ℕ) (shown : Option Place) : Type 0 where
+  pub number : ℕ
+  pub of : IsNumberOf heap c name number
+  pub given : gives number shown
+  pub learns : Learns old new number shown
+
+-- a race with this place told the pass how it ended, and the cells give it so
+pub record Ends (heap : HeapValue) (c : CollectionValue) (gives : ℕ → Place → Outcome → Type 0) (old new : ℕ → Option Place) (old_won new_won : List (ℕ × Place)) (name : ℕ) (place : Place) (o : Outcome) : Type 0 where
+  pub number : ℕ
+  pub of : IsNumberOf heap c name number
+  pub given : gives number place o
+  pub learns : Learns old new number (Some (place_after o place))
+  pub won : RaceEnds (old number) old_won new_won number place o
+
+-- what a worker races with for its proposal: the place of a copy, or for a large object the worker's claim
+abbrev pub IsBid : Place → Option Proposal → Place → Type 0
+IsBid claim None place = ⊥
+IsBid claim (Some (Copied copy d)) place = place_word place ≡ copy.place
+IsBid claim (Some (Claimed name)) place = place ≡ claim
+
+-- the place that a lost race gives the slot
+abbrev pub lost_of : Option Proposal → Outcome → Option ℕ
+lost_of proposal Won = None
+lost_of proposal (Lost first) = Some (lost_to (place_word first) proposal)
+
+-- the proposal is this one
+abbrev pub IsFor : Proposal → Place → Place → Option ℕ → Type 0
+IsFor (Copied copy d) name place to = (copy.name ≡ place_word name) × (copy.place ≡ place_word place) × (to ≡ Some d)
+IsFor (Claimed n) name place to = (n ≡ place_word name) × (to ≡ None)
+
+abbrev pub IsProposed : Option Proposal → Proposed → Type 0
+IsProposed None p = ⊥
+IsProposed (Some q) p = IsFor q p.name p.place p.destination
+
+abbrev pub name_of : Option Proposal → ℕ
+name_of None = 0
+name_of (Some p) = proposed_name p
+
+-- a worker raced: the cells said how it ended, and the worker went on so
+pub record Races (heap : HeapValue) (c : CollectionValue) (gives : ℕ → Place → Outcome → Type 0) (old_known new_known : ℕ → Option Place) (old_won new_won : List (ℕ × Place)) (old new : WorkspaceValue) : Type 0 where
+  pub outcome : Outcome
+  pub bid : Place
+  pub fits : IsBid old.claim old.worker.proposal bid
+  pub ends : Ends heap c gives old_known new_known old_won new_won (name_of old.worker.proposal) bid outcome
+  pub worker : new ≡ record old { worker = after_race old.worker (lost_of old.worker.proposal outcome) }

@@ -1,0 +1,15 @@
+//! One worker of a collection.
+#![tactic(auto)]
+
+mod hand;
+mod look;
+mod names;
+mod opening;
+mod proposed;
+mod racing;
+mod slots;
+mod workspace;
+
+pub use look::LookError;
+pub use proposed::Proposed;
+pub use workspace::{Parts, Workspace};

@@ -1,0 +1,79 @@
+//! What a slot of the heap holds, and where an object goes.
+ghost use Rattle.std.specs.Prelude.{◌≡◌, ◌+◌, ◌<◌, Some};
+ghost use Rattle.std.specs.Option.{option_map};
+ghost use Rattle.model.specs.Graph.{IsClosed, field_at};
+ghost use Rattle.model.specs.Destination.{dest};
+ghost use Rattle.layout.specs.Place.{place_word};
+ghost use Rattle.heap.specs.Plain.{NamesArePlaces};
+ghost use Rattle.workers.specs.Setting.{is_collected as is_collected_name, destination_number};
+ghost use Rattle.scavenge.specs.Slots.{seen};
+
+use heap::{Collection, Config, Heap, StepId};
+use layout::Place;
+use std::alloc::Allocator;
+use to_space::pointer_of;
+
+/// Pointer `i` of an object of the heap, where it has one.
+pub(crate) fn heap_pointer<A: Allocator + Clone>(
+    heap: &Heap<A>,
+    name: Place,
+    i: usize,
+) -> Option<Option<Place>>
+    requires closed { IsClosed heap.now.graph }
+    requires places { NamesArePlaces heap.now.graph }
+    ensures { option_map (option_map place_word) result ≡ field_at heap.now.graph (place_word name) i }
+{
+    let object = heap.object(name)?;
+    if i < object.pointers.len() {
+        return Some(pointer_of(object.pointers[i]));
+    }
+    None
+}
+
+/// Whether the object at a place is of a generation that is collected.
+pub(crate) fn is_collected<A: Allocator + Clone>(
+    heap: &Heap<A>,
+    collection: &Collection<A>,
+    name: Place,
+) -> bool
+    ensures { result ≡ is_collected_name (seen heap.now collection.now) (place_word name) }
+{
+    match heap.step_of(name) {
+        Some(at) => at.generation <= collection.generation(),
+        None => false,
+    }
+}
+
+/// Where an object goes when it survives.
+pub(crate) fn destination(config: Config, at: StepId) -> StepId
+    ensures { (result.generation, result.step) ≡ dest config.shape (at.generation, at.step) }
+{
+    let oldest = config.generations() - 1;
+    if (at.generation as usize) < oldest {
+        if (at.step as usize) < config.steps() - 1 {
+            return StepId {
+                generation: at.generation,
+                step: at.step + 1,
+            };
+        }
+        return StepId {
+            generation: at.generation + 1,
+            step: 0,
+        };
+    }
+    StepId {
+        generation: oldest as u8,
+        step: 0,
+    }
+}
+
+/// The number of a destination.
+pub(crate) fn number_of(config: Config, to: StepId) -> usize
+    ensures { result ≡ destination_number config.shape (to.generation, to.step) }
+{
+    let at = to.generation as usize * config.steps() + to.step as usize;
+    if at == 0 {
+        return 0;
+    }
+    at - 1
+}

@@ -1,0 +1,2 @@
+-- What the workers of a collection bring to its commit.
+pub mod Brings
