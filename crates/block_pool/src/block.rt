@@ -187,6 +187,16 @@ impl<A: Allocator> Block<A> {
         }
     }
 
+    /// The object that begins at an offset in words where one does. It reads the header, and looks for no other word.
+    #[inline]
+    pub fn object_from(&self, offset: usize) -> ObjectRef<'_>
+        requires { (k : ℕ) × (k < length self.now.objects) × (offset_of self.now.objects k ≡ offset) }
+        ensures { (k : ℕ) → k < length self.now.objects → offset_of self.now.objects k ≡ offset →
+            (result.header.ordinal ≡ k) × (slice_get self.now.objects k ≡ Some (raw_of result)) }
+    {
+        read_object(&self.words, offset)
+    }
+
     /// How many pointers the object with the ordinal `k` has.
     pub fn pointer_count(&self, k: usize) -> usize
         requires { k < length self.now.objects }

@@ -7,13 +7,16 @@ ghost use Rattle.block_pool.specs.Words.{raw_at, span, ordinal_of, IsWritten};
 
 use layout::{Header, ObjectRef};
 
-/// Copies words to a place.
+/// Copies words to a place, one by one, since most objects are small.
+#[inline(always)]
 fn copy_to(words: &mut [u64], at: usize, from: &[u64])
     requires { at + length from.now ≤ length words.old }
     ensures kept { take at words.new ≡ take at words.old }
     ensures copied { take (length from.now) (drop at words.new) ≡ from.now }
 {
-    words[at..at + from.len()].copy_from_slice(from);
+    for i in 0..from.len() {
+        words[at + i] = from[i];
+    }
 }
 
 /// Writes zeros from a place on.

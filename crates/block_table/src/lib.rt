@@ -5,4 +5,6 @@ mod exchanging;
 mod table;
 
 pub use exchanging::{end_of, exchange, grow};
-pub use table::{Table, bases, block_object, count_blocks, ordinal_at, set_plain, set_pointer};
+pub use table::{
+    Table, bases, block_object, count_blocks, object_from, ordinal_at, set_plain, set_pointer,
+};

@@ -3,6 +3,7 @@ ghost use Rattle.std.specs.Prelude.{◌≡◌, ◌≢◌, ℕ, ◌+◌, ◌<◌,
 ghost use Rattle.layout.specs.Object.{Raw};
 ghost use Rattle.layout.specs.ObjectRef.{raw_of};
 ghost use Rattle.block_pool.specs.BlockValue.{BlockValue, offset_of, with_pointer_word, with_plain_word};
+ghost use Rattle.block_table.specs.Begins.{HasObjectAt};
 ghost use Rattle.block_table.specs.Table.{slot_len, slot_words, objects_before};
 
 use block_pool::Block;
@@ -32,6 +33,24 @@ pub fn block_object<A: Allocator>(
     match &table[number] {
         Some(block) => block.object_at(offset),
         None => None,
+    }
+}
+
+/// The object that begins at an offset of a block where one does.
+#[inline]
+pub fn object_from<A: Allocator>(
+    table: &[Option<Block<A>>],
+    number: usize,
+    offset: usize,
+) -> ObjectRef<'_>
+    requires { HasObjectAt table.now number offset }
+    ensures { (block : BlockValue) (k : ℕ) → slice_index_or table.now number None ≡ Some block
+        → k < length block.objects → offset_of block.objects k ≡ offset
+        → (result.header.ordinal ≡ k) × (slice_get block.objects k ≡ Some (raw_of result)) }
+{
+    match &table[number] {
+        Some(block) => block.object_from(offset),
+        None => unreachable!(),
     }
 }
 

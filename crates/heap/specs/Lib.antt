@@ -3,6 +3,7 @@ pub mod Commands
 pub mod Roots
 pub mod RootView
 pub mod HeapView
+pub mod Found
 pub use Rattle.steps.specs.ConfigRange
 pub use Rattle.steps.specs.ConfigView
 pub use Rattle.steps.specs.StepPairs

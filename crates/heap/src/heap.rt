@@ -4,8 +4,9 @@ ghost use Rattle.std.specs.Option.{option_map};
 ghost use Rattle.model.specs.Graph.{root_at, without_root, with_pointer};
 ghost use Rattle.layout.specs.Place.{place_word};
 ghost use Rattle.heap_data.specs.HeapValue.{empty_heap, nursery_count};
+ghost use Rattle.heap.specs.Found.{IsFound};
 ghost use Rattle.heap.specs.Commands.{Allocates, is_too_big, room_for, heap_census, Changes, HasPointer, HasPlain, IsValue, value_at, rooted_object};
-ghost use Rattle.std.specs.Prelude.{MatchOption, IsSomeAnd, IsNone, ◌⊎◌, slice_get, slice_set, slice_index, length, Err};
+ghost use Rattle.std.specs.Prelude.{MatchOption, IsSomeAnd, IsNone, ◌⊎◌, slice_get, slice_set, slice_index, length, sum_by, Err};
 ghost use Rattle.model.specs.Graph.{IsClosed, object_at};
 ghost use Rattle.model.specs.Live.{IsYoung};
 ghost use Rattle.model.specs.LiveCount.{LiveCount};
@@ -20,6 +21,7 @@ ghost use Rattle.heap_data.specs.SettledValue.{IsSettled};
 ghost use Rattle.heap_data.specs.CollectedHeap.{CollectedHeap};
 
 use crate::commit::{all_fit, count_won, renamed_roots, write_roots};
+use crate::found::Found;
 use crate::opening::opened;
 use heap_data::{Census, Collection, Report, RootId, Settled};
 use heap_space::Space;
@@ -316,12 +318,46 @@ impl<A: Allocator + Clone> Heap<A> {
         self.space.number_of(collection.bases(), place)
     }
 
+    /// The object at a place where there is one, with its generation and step, and with its number in a collection that was
+    /// opened on this heap as it is now, where its generation is collected.
+    #[inline]
+    pub fn find_there(&self, collection: &Collection<A>, place: Place) -> Found<'_>
+        requires opened { IsOpened self.now collection.now.generation collection.now }
+        requires there { IsSome (object_at self.now.graph (place_word place)) }
+        ensures { IsFound self.now collection.now (place_word place) result }
+    {
+        let _config = self.space.config();
+        let (object, number) = self.space.find(collection.bases(), place);
+        let at = StepId {
+            generation: 0,
+            step: 0,
+        };
+        Found {
+            object,
+            at,
+            number: Some(number),
+        }
+    }
+
+    /// The same of any place. `None` says that there is no object.
+    pub fn find(&self, collection: &Collection<A>, place: Place) -> Option<Found<'_>>
+        requires opened { IsOpened self.now collection.now.generation collection.now }
+        ensures { MatchOption result (object_at self.now.graph (place_word place) ≡ None)
+            (λ found. IsFound self.now collection.now (place_word place) found) }
+    {
+        match self.space.object(place) {
+            Some(_) => Some(self.find_there(collection, place)),
+            None => None,
+        }
+    }
+
     /// Ends a collection: the heap is what the workers brought back. Where memory runs out the heap is as before.
     pub fn commit(&mut self, alloc: A, settled: Settled<A>) -> Result<Report<A>, AllocError>
         requires { IsSettled self.old settled.collection settled.places.items settled.blocks.items (all_won settled.workers.items) }
         ensures ok { IfOk result (λ _. CollectedHeap self.old settled.collection.generation
             (renaming_of (young_names self.old.graph settled.collection.generation) (all_won settled.workers.items)) self.new) }
         ensures kept { IfOk result (λ report. LiveCount self.old.graph settled.collection.generation report.kept) }
+        ensures won { IfOk result (λ report. report.kept ≡ sum_by (λ w. length w.won) settled.workers.items) }
         ensures freed { IfOk result (λ report. report.kept + report.freed
             ≡ length (young_names self.old.graph settled.collection.generation)) }
         ensures workers { IfOk result (λ report. report.workers ≡ settled.workers) }

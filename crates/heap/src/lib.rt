@@ -2,9 +2,11 @@
 #![tactic(auto)]
 
 mod commit;
+mod found;
 mod heap;
 mod opening;
 
+pub use found::Found;
 pub use heap::{AllocateError, FieldError, Heap, MakeError, NoRoot, OpenError, StoreError};
 pub use heap_data::{
     Census, Collection, Delivery, Report, RootId, Settled, Slot, StepCount, Won, WorkerReport,

@@ -16,8 +16,8 @@ ghost use Rattle.heap_space.specs.Space.{SpaceAllocates, empty_space, CanReplace
 use crate::nursery::{block_for, nursery_table, push_new};
 use block_pool::{Block, Pool};
 use block_table::{
-    Table, bases, block_object, count_blocks, end_of, exchange, grow, ordinal_at, set_plain,
-    set_pointer,
+    Table, bases, block_object, count_blocks, end_of, exchange, grow, object_from, ordinal_at,
+    set_plain, set_pointer,
 };
 use heap_data::StepCount;
 use layout::{ObjectRef, Place};
@@ -218,6 +218,27 @@ impl<A: Allocator + Clone> Space<A> {
         };
         let number = at.block as usize;
         bases[number] + ordinal_at(table, number, at.offset as usize) as u32
+    }
+
+    /// The object at a place where there is one, and its number, where the blocks' first objects have these numbers.
+    #[inline]
+    pub fn find(&self, bases: &[u32], place: Place) -> (ObjectRef<'_>, u32)
+        requires bases { (block : ℕ) → block < length bases.now
+            → slice_index bases.now block ≡ rank_below (small_word block 0) (keys self.now.objects) }
+        requires covers { (block offset : ℕ) → offset < 65536
+            → IsSome (get self.now.objects (small_word block offset)) → block < length bases.now }
+        requires there { IsSome (get self.now.objects (place_word place)) }
+        ensures object { get self.now.objects (place_word place) ≡ Some (object_of 0 0 (raw_of result.0)) }
+        ensures in_range { result.1 < length (keys self.now.objects) }
+        ensures number { slice_index (keys self.now.objects) result.1 ≡ place_word place }
+    {
+        let table = &self.table;
+        let Place::Small(at) = place else {
+            unreachable!();
+        };
+        let number = at.block as usize;
+        let object = object_from(table, number, at.offset as usize);
+        (object, bases[number] + object.header.ordinal as u32)
     }
 
     /// How many blocks are free.
