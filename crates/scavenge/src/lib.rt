@@ -1,6 +1,7 @@
 //! One worker of a collection.
 #![tactic(auto)]
 
+mod bound;
 mod hand;
 mod look;
 mod names;
@@ -10,6 +11,7 @@ mod racing;
 mod slots;
 mod workspace;
 
+pub use bound::space_bound;
 pub use look::LookError;
 pub use proposed::Proposed;
 pub use workspace::{Parts, Workspace};

@@ -1,28 +1,31 @@
 //! A look at the current slot.
-ghost use Rattle.std.specs.Prelude.{◌≡◌, ◌<◌, ◌≤◌, ◌↔◌, ◌++◌, ◌∷◌, [], ℕ, true, Some, None, Err, IsTrue, IsSome, OnOk, OnErr, length, slice_set, if◌then◌else◌};
+ghost use Rattle.std.specs.Prelude.{◌≡◌, ◌<◌, ◌≤◌, ◌↔◌, ◌++◌, ◌∷◌, [], ℕ, true, false, Some, None, Ok, Err, IsTrue, IsSome, IsSomeAnd, MatchOption, OnOk, OnErr, length, slice_set, if◌then◌else◌};
 ghost use Rattle.std.specs.List.{All, Contains};
 ghost use Rattle.std.specs.Option.{option_map};
 ghost use Rattle.model.specs.Graph.{IsClosed, object_at};
 ghost use Rattle.layout.specs.Place.{place_word};
 ghost use Rattle.block_pool.specs.ClaimsValue.{IsSeatOf};
+ghost use Rattle.layout.specs.ObjectRef.{raw_of};
 ghost use Rattle.heap.specs.CollectionValue.{IsOpened};
+ghost use Rattle.heap.specs.Found.{IsFound};
+ghost use Rattle.heap.specs.StepPairs.{step_pair, stands_at};
+ghost use Rattle.heap.specs.Words.{IsShownAs};
 ghost use Rattle.heap.specs.Plain.{NamesArePlaces};
 ghost use Rattle.workers.specs.Setting.{is_large_name, destination_of, destination_number, fits_in};
 ghost use Rattle.workers.specs.Worker.{allocation_at};
-ghost use Rattle.workers.specs.WorkerSteps.{current_slot, propose_copy, draws_for, CanLook};
+ghost use Rattle.workers.specs.WorkerSteps.{current_slot, propose_copy, draws_for};
 ghost use Rattle.to_space.specs.Named.{IsDestination};
 ghost use Rattle.scavenge.specs.Shown.{CanFinish};
 ghost use Rattle.scavenge.specs.Slots.{seen, objects_of, IsUntouched, HasRoomFor, Renews, Proposes, Looks, WantsBlock};
 
 use crate::hand::Hand;
-use crate::names::look_at;
 use crate::proposed::Proposed;
-use crate::slots::{destination, heap_pointer, is_collected, number_of};
+use crate::slots::{destination, heap_pointer, number_of};
 use crate::workspace::Workspace;
 use block_pool::{Block, ClaimSeat, Claims};
 use cells::Cells;
-use heap::{Collection, Heap, StepId};
-use layout::Place;
+use heap::{Collection, Found, Heap, StepId};
+use layout::{ObjectRef, Place};
 use std::alloc::{AllocError, Allocator};
 use to_space::front_pointer;
 
@@ -43,6 +46,23 @@ impl From<AllocError> for LookError {
     fn from(_error: AllocError) -> LookError {
         LookError::NoMemory
     }
+}
+
+/// Where an object stands whose cell shows this place: a large object at its own.
+#[inline(always)]
+fn standing<A: Allocator + Clone>(
+    heap: &Heap<A>,
+    name: Place,
+    object: ObjectRef<'_>,
+    shown: Place,
+) -> Place
+    requires shown { IsSomeAnd (object_at heap.now.graph (place_word name)) (λ o. IsShownAs o (raw_of object)) }
+    ensures { place_word result ≡ (if is_large_name (objects_of heap.now) (place_word name) then place_word name else place_word shown) }
+{
+    if object.size() as usize > heap.config().block_words() / 4 {
+        return name;
+    }
+    shown
 }
 
 impl<A: Allocator + Clone> Workspace<A> {
@@ -124,16 +144,15 @@ impl<A: Allocator + Clone> Workspace<A> {
     }
 
     /// Puts a copy at the end of the block for its destination, where it fits, and proposes it.
-    fn copy(&mut self, heap: &Heap<A>, name: Place, d: usize)
+    #[inline(always)]
+    fn copy(&mut self, heap: &Heap<A>, name: Place, object: ObjectRef<'_>, d: usize)
         requires proposal { self.old.worker.proposal ≡ None }
         requires config { self.old.config ≡ heap.now.config }
         requires fits { fits_in (objects_of heap.now) (place_word name) (allocation_at self.old.worker d) ≡ true }
-        requires there { IsSome (object_at heap.now.graph (place_word name)) }
+        requires shown { IsSomeAnd (object_at heap.now.graph (place_word name)) (λ o. IsShownAs o (raw_of object)) }
         ensures { self.new ≡ record self.old { worker = propose_copy (objects_of heap.now) self.old.worker (place_word name) d } }
     {
-        let Some(object) = heap.object(name) else {
-            return;
-        };
+        let _config = heap.config();
         let place = self.allocation.push(d, object);
         self.proposed = Some(Proposed {
             name,
@@ -148,12 +167,14 @@ impl<A: Allocator + Clone> Workspace<A> {
         alloc: A,
         heap: &Heap<A>,
         name: Place,
+        found: Found<'_>,
         claims: &Claims<A>,
         seat: &mut ClaimSeat,
     ) -> Result<(), LookError>
         requires proposal { self.old.worker.proposal ≡ None }
         requires config { self.old.config ≡ heap.now.config }
-        requires there { IsSome (object_at heap.now.graph (place_word name)) }
+        requires shown { IsSomeAnd (object_at heap.now.graph (place_word name)) (λ o. IsShownAs o (raw_of found.object)) }
+        requires stands { Some (step_pair found.at) ≡ option_map stands_at (object_at heap.now.graph (place_word name)) }
         requires room { destination_of (objects_of heap.now) (place_word name) < length self.old.worker.allocation }
         requires seat { IsSeatOf claims.now.source seat.old }
         requires numbers { All (λ number. number < 65535) claims.now.source.free }
@@ -165,13 +186,7 @@ impl<A: Allocator + Clone> Workspace<A> {
         ensures memory { result ≡ Err LookError.NoMemory → seat.new ≡ seat.old }
         ensures err { OnErr result (self.new ≡ self.old) }
     {
-        let Some(object) = heap.object(name) else {
-            return Ok(());
-        };
-        let Some(at) = heap.step_of(name) else {
-            return Ok(());
-        };
-        let size = object.size() as usize;
+        let size = found.object.size() as usize;
         if size > self.config.block_words() / 4 {
             self.proposed = Some(Proposed {
                 name,
@@ -180,19 +195,40 @@ impl<A: Allocator + Clone> Workspace<A> {
             });
             return Ok(());
         }
-        let to = destination(self.config, at);
+        let to = destination(self.config, found.at);
         let d = number_of(self.config, to);
         if self.allocation.fits(d, size) {
-            self.copy(heap, name, d);
+            self.copy(heap, name, found.object, d);
             return Ok(());
         }
         self.renew(alloc, to, d, claims, seat)?;
-        self.copy(heap, name, d);
+        self.copy(heap, name, found.object, d);
         Ok(())
     }
 
-    /// Looks at the current slot. Where its object has no copy yet, the worker then has a proposal for it; else the slot is
-    /// finished. An error says that a block was wanted and all were drawn, or that memory ran out; the worker is as before.
+    /// What stands at the current slot's target, where an object does.
+    #[inline(always)]
+    fn target<'a>(
+        &self,
+        heap: &'a Heap<A>,
+        collection: &Collection<A>,
+        name: Place,
+    ) -> Option<Found<'a>>
+        requires opened { IsOpened heap.now collection.now.generation collection.now }
+        requires closed { IsClosed heap.now.graph }
+        requires current { current_slot (objects_of heap.now) self.now.worker ≡ Some (Some (place_word name)) }
+        ensures { MatchOption result (object_at heap.now.graph (place_word name) ≡ None)
+            (λ found. IsFound heap.now collection.now (place_word name) found) }
+    {
+        if self.started < self.starts.len() {
+            return heap.find(collection, name);
+        }
+        Some(heap.find_there(collection, name))
+    }
+
+    /// Looks at the current slot, where there is one: `false` says that there is none, and then nothing changes. Where the
+    /// slot's object has no copy yet, the worker then has a proposal for it; else the slot is finished. An error says that a
+    /// block was wanted and all were drawn, or that memory ran out; the worker is as before.
     pub fn look<C: Cells>(
         &mut self,
         alloc: A,
@@ -202,13 +238,13 @@ impl<A: Allocator + Clone> Workspace<A> {
         pass: &mut C::Pass,
         claims: &Claims<A>,
         seat: &mut ClaimSeat,
-    ) -> Result<(), LookError>
+    ) -> Result<bool, LookError>
         requires opened { IsOpened heap.now collection.now.generation collection.now }
         requires closed { IsClosed heap.now.graph }
         requires places { NamesArePlaces heap.now.graph }
         requires config { self.old.config ≡ heap.now.config }
-        requires can { CanLook (seen heap.now collection.now) self.old.worker }
-        requires slot { CanFinish self.old.worker self.old.worker.starts }
+        requires proposal { self.old.worker.proposal ≡ None }
+        requires slot { IsSome (current_slot (seen heap.now collection.now) self.old.worker) → CanFinish self.old.worker self.old.worker.starts }
         requires few { self.old.worker.fields < 4294967296 }
         requires untouched { IsUntouched (seen heap.now collection.now) self.old.worker }
         requires room { HasRoomFor (seen heap.now collection.now) self.old.worker }
@@ -224,45 +260,39 @@ impl<A: Allocator + Clone> Workspace<A> {
         ensures won { C.won pass.new ≡ C.won pass.old }
         ensures seat { IsSeatOf claims.now.source seat.new }
         ensures fresh { (n : ℕ) → seat.new.drawn ≡ seat.old.drawn ++ n ∷ [] → Contains claims.now.source.free n × ¬ Contains seat.old.drawn n }
-        ensures ok { OnOk result (Looks heap.now collection.now (C.look_gives cells.old) (C.known pass.old) (C.known pass.new) seat.old seat.new self.old self.new) }
+        ensures none { (result ≡ Ok false) ↔ (current_slot (seen heap.now collection.now) self.old.worker ≡ None) }
+        ensures nothing { result ≡ Ok false → (self.new ≡ self.old) × (pass.new ≡ pass.old) × (seat.new ≡ seat.old) }
+        ensures ok { result ≡ Ok true → Looks heap.now collection.now (C.look_gives cells.old) (C.known pass.old) (C.known pass.new) seat.old seat.new self.old self.new }
         ensures full { result ≡ Err LookError.HeapFull → seat.new ≡ record seat.old { out = true } }
         ensures wanted { result ≡ Err LookError.HeapFull → WantsBlock heap.now collection.now (C.look_gives cells.old) (C.known pass.old) (C.known pass.new) self.old }
         ensures memory { result ≡ Err LookError.NoMemory → seat.new ≡ seat.old }
         ensures err { OnErr result (self.new ≡ self.old) }
     {
         let Some(target) = self.slot(heap) else {
-            return Ok(());
+            return Ok(false);
         };
         let Some(name) = target else {
             self.finish(None);
-            return Ok(());
+            return Ok(true);
         };
-        if !is_collected(heap, collection, name) {
+        let Some(found) = self.target(heap, collection, name) else {
+            self.finish(target);
+            return Ok(true);
+        };
+        let Some(number) = found.number else {
             self.finish(Some(name));
-            return Ok(());
-        }
-        let shown = look_at(heap, collection, cells, pass, name);
-        match shown {
-            None => self.propose(alloc, heap, name, claims, seat),
+            return Ok(true);
+        };
+        match cells.look(pass, number) {
+            None => {
+                self.propose(alloc, heap, name, found, claims, seat)?;
+                Ok(true)
+            }
             Some(place) => {
-                let place = self.standing(heap, name, place);
+                let place = standing(heap, name, found.object, place);
                 self.finish(Some(place));
-                Ok(())
+                Ok(true)
             }
         }
-    }
-
-    /// Where an object stands whose cell shows this place: a large object at its own.
-    fn standing(&self, heap: &Heap<A>, name: Place, shown: Place) -> Place
-        requires config { self.now.config ≡ heap.now.config }
-        ensures { place_word result ≡ (if is_large_name (objects_of heap.now) (place_word name) then place_word name else place_word shown) }
-    {
-        let Some(object) = heap.object(name) else {
-            return shown;
-        };
-        if object.size() as usize > self.config.block_words() / 4 {
-            return name;
-        }
-        shown
     }
 }

@@ -3,36 +3,12 @@ ghost use Rattle.std.specs.Prelude.{◌≡◌, ◌≤◌, IfOk, OnErr};
 ghost use Rattle.layout.specs.Place.{place_word};
 ghost use Rattle.model.specs.Live.{IsYoung};
 ghost use Rattle.heap.specs.CollectionValue.{IsOpened};
-ghost use Rattle.scavenge.specs.Told.{Tells, Ends};
+ghost use Rattle.scavenge.specs.Told.{Ends};
 
 use cells::{Cells, Outcome};
 use heap::{Collection, Heap};
 use layout::Place;
 use std::alloc::{AllocError, Allocator};
-
-/// The place that the cell of an object shows.
-pub(crate) fn look_at<C: Cells, A: Allocator + Clone>(
-    heap: &Heap<A>,
-    collection: &Collection<A>,
-    cells: &mut C,
-    pass: &mut C::Pass,
-    name: Place,
-) -> Option<Place>
-    requires opened { IsOpened heap.now collection.now.generation collection.now }
-    requires young { IsYoung heap.now.graph collection.now.generation (place_word name) }
-    requires pass { C.fits cells.old pass.old }
-    requires limit { collection.now.cells ≤ C.limit cells.old }
-    ensures cells { cells.new ≡ cells.old }
-    ensures pass { C.fits cells.new pass.new }
-    ensures home { (other : C) → C.at_home other pass.old → C.at_home other pass.new }
-    ensures apart { (other : C.Pass) → C.apart pass.old other → C.apart pass.new other }
-    ensures apart_back { (other : C.Pass) → C.apart other pass.old → C.apart other pass.new }
-    ensures told { Tells heap.now collection.now (C.look_gives cells.old) (C.known pass.old) (C.known pass.new) (place_word name) result }
-    ensures won { C.won pass.new ≡ C.won pass.old }
-{
-    let number = heap.number_of(collection, name);
-    cells.look(pass, number)
-}
 
 /// Races for an object with a place.
 pub(crate) fn race_for<C: Cells, A: Allocator + Clone>(

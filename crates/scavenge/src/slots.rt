@@ -5,10 +5,9 @@ ghost use Rattle.model.specs.Graph.{IsClosed, field_at};
 ghost use Rattle.model.specs.Destination.{dest};
 ghost use Rattle.layout.specs.Place.{place_word};
 ghost use Rattle.heap.specs.Plain.{NamesArePlaces};
-ghost use Rattle.workers.specs.Setting.{is_collected as is_collected_name, destination_number};
-ghost use Rattle.scavenge.specs.Slots.{seen};
+ghost use Rattle.workers.specs.Setting.{destination_number};
 
-use heap::{Collection, Config, Heap, StepId};
+use heap::{Config, Heap, StepId};
 use layout::Place;
 use std::alloc::Allocator;
 use to_space::pointer_of;
@@ -28,20 +27,6 @@ pub(crate) fn heap_pointer<A: Allocator + Clone>(
         return Some(pointer_of(object.pointers[i]));
     }
     None
-}
-
-/// Whether the object at a place is of a generation that is collected.
-pub(crate) fn is_collected<A: Allocator + Clone>(
-    heap: &Heap<A>,
-    collection: &Collection<A>,
-    name: Place,
-) -> bool
-    ensures { result ≡ is_collected_name (seen heap.now collection.now) (place_word name) }
-{
-    match heap.step_of(name) {
-        Some(at) => at.generation <= collection.generation(),
-        None => false,
-    }
 }
 
 /// Where an object goes when it survives.

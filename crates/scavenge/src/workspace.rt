@@ -1,5 +1,5 @@
 //! What one worker of a collection has in hand and at hand.
-ghost use Rattle.std.specs.Prelude.{length, ◌≡◌, ◌≢◌, ◌<◌, ◌∷◌, [], true, Some, None, IfSome, is_some, false, IsTrue, ◌↔◌, MatchOption, IsSome, OnOk, OnErr, IfOk, ℕ, map};
+ghost use Rattle.std.specs.Prelude.{length, ◌≡◌, Ok, ◌≢◌, ◌<◌, ◌∷◌, [], true, Some, None, IfSome, is_some, false, IsTrue, ◌↔◌, MatchOption, IsSome, OnOk, OnErr, IfOk, ℕ, map};
 ghost use Rattle.workers.specs.Joined.{Each, OnSome};
 ghost use Rattle.model.specs.Destination.{dest_count};
 ghost use Rattle.heap.specs.CollectionValue.{target_of_slot};
@@ -181,6 +181,7 @@ impl<A: Allocator> Workspace<A> {
     }
 
     /// The current slot gets the value, and is finished.
+    #[inline(always)]
     pub(crate) fn finish(&mut self, value: Option<Place>)
         requires slot { CanFinish self.old.worker self.old.worker.starts }
         requires proposal { self.old.worker.proposal ≡ None }
@@ -201,8 +202,43 @@ impl<A: Allocator> Workspace<A> {
         }
     }
 
+    /// The current object is scanned, where it is one of a block in hand that has another unscanned behind it: tells whether
+    /// it is. An error says that memory ran out, and changes nothing.
+    fn scan_on(&mut self) -> Result<bool, AllocError>
+        requires proposal { self.old.worker.proposal ≡ None }
+        requires hand { CanPass self.old.worker self.old.worker.hand }
+        ensures some { result ≡ Ok true → self.new ≡ record self.old { worker = after_scan self.old.worker } }
+        ensures none { result ≡ Ok false → self.new ≡ self.old }
+        ensures err { OnErr result (self.new ≡ self.old) }
+    {
+        self.scanned.reserve(1)?;
+        let Hand::Holding(held) = &mut self.hand else {
+            return Ok(false);
+        };
+        if held.len() - held.front() < 2 {
+            return Ok(false);
+        }
+        let (place, _) = pass_front(held);
+        self.scanned.push_reserved(place);
+        self.fields = 0;
+        Ok(true)
+    }
+
     /// The current object is scanned. An error says that memory ran out, and changes nothing.
     pub fn scan(&mut self) -> Result<(), AllocError>
+        requires proposal { self.old.worker.proposal ≡ None }
+        requires hand { CanPass self.old.worker self.old.worker.hand }
+        ensures ok { OnOk result (self.new ≡ record self.old { worker = after_scan self.old.worker }) }
+        ensures err { OnErr result (self.new ≡ self.old) }
+    {
+        if self.scan_on()? {
+            return Ok(());
+        }
+        self.scan_last()
+    }
+
+    /// The same, whatever is in hand.
+    fn scan_last(&mut self) -> Result<(), AllocError>
         requires proposal { self.old.worker.proposal ≡ None }
         requires hand { CanPass self.old.worker self.old.worker.hand }
         ensures ok { OnOk result (self.new ≡ record self.old { worker = after_scan self.old.worker }) }

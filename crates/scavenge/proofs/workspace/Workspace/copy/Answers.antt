@@ -20,8 +20,8 @@ push-place-requires g c =
     let none = no_proposal c.self.inside.allocation c.self.inside.aside.items c.self.inside.done.items (held_in c.self.inside.hand) c.self.inside.proposed c.self.invariant.0 (ap (λ (v : WorkspaceValue). v.worker.proposal) c.self.view_is ∙ c.requires.proposal) in
     let n : AreNoted c.self.inside.allocation c.self.inside.aside.items c.self.inside.done.items (held_in c.self.inside.hand) None = subst (AreNoted c.self.inside.allocation c.self.inside.aside.items c.self.inside.done.items (held_in c.self.inside.hand)) none c.self.invariant.0 in
     let ke : c.self.inside.config ≡ c.args.heap.now.config = ap (λ (v : WorkspaceValue). v.config) c.self.view_is ∙ c.requires.config in
-    let f : Facts c.args.heap.now (place_word c.args.name) (raw_of c.in-Some.object) = facts c.args.heap.now (place_word c.args.name) (raw_of c.in-Some.object) c.in-Some.ensures in
-    let fits = sym (ap (fits_in (objects_of c.args.heap.now) (place_word c.args.name)) (shown_slot c.self.inside.config.shape c.self.inside.allocation c.args.d (slot_at c.self.inside.allocation c.args.d) refl) ∙ fits_same c.args.heap.now c.self.inside.config (place_word c.args.name) (raw_size (raw_of c.in-Some.object)) (slot_at c.self.inside.allocation c.args.d) ke f.words (n.in_slots c.args.d) (c.self.invariant.1.in_slots c.args.d)) ∙ ap (λ (v : WorkspaceValue). fits_in (objects_of c.args.heap.now) (place_word c.args.name) (allocation_at v.worker c.args.d)) c.self.view_is ∙ c.requires.fits in
+    let f : Facts c.args.heap.now (place_word c.args.name) (raw_of c.args.object) = facts c.args.heap.now (place_word c.args.name) (raw_of c.args.object) c.requires.shown in
+    let fits = sym (ap (fits_in (objects_of c.args.heap.now) (place_word c.args.name)) (shown_slot c.self.inside.config.shape c.self.inside.allocation c.args.d (slot_at c.self.inside.allocation c.args.d) refl) ∙ fits_same c.args.heap.now c.self.inside.config (place_word c.args.name) (raw_size (raw_of c.args.object)) (slot_at c.self.inside.allocation c.args.d) ke f.words (n.in_slots c.args.d) (c.self.invariant.1.in_slots c.args.d)) ∙ ap (λ (v : WorkspaceValue). fits_in (objects_of c.args.heap.now) (place_word c.args.name) (allocation_at v.worker c.args.d)) c.self.view_is ∙ c.requires.fits in
     fits
 
 pub invariant_of-self : goal.invariant_of-self
@@ -29,12 +29,12 @@ invariant_of-self g c =
     let none = no_proposal c.self.inside.allocation c.self.inside.aside.items c.self.inside.done.items (held_in c.self.inside.hand) c.self.inside.proposed c.self.invariant.0 (ap (λ (v : WorkspaceValue). v.worker.proposal) c.self.view_is ∙ c.requires.proposal) in
     let n : AreNoted c.self.inside.allocation c.self.inside.aside.items c.self.inside.done.items (held_in c.self.inside.hand) None = subst (AreNoted c.self.inside.allocation c.self.inside.aside.items c.self.inside.done.items (held_in c.self.inside.hand)) none c.self.invariant.0 in
     let ke : c.self.inside.config ≡ c.args.heap.now.config = ap (λ (v : WorkspaceValue). v.config) c.self.view_is ∙ c.requires.config in
-    let f : Facts c.args.heap.now (place_word c.args.name) (raw_of c.in-Some.object) = facts c.args.heap.now (place_word c.args.name) (raw_of c.in-Some.object) c.in-Some.ensures in
-    let fits = sym (ap (fits_in (objects_of c.args.heap.now) (place_word c.args.name)) (shown_slot c.self.inside.config.shape c.self.inside.allocation c.args.d (slot_at c.self.inside.allocation c.args.d) refl) ∙ fits_same c.args.heap.now c.self.inside.config (place_word c.args.name) (raw_size (raw_of c.in-Some.object)) (slot_at c.self.inside.allocation c.args.d) ke f.words (n.in_slots c.args.d) (c.self.invariant.1.in_slots c.args.d)) ∙ ap (λ (v : WorkspaceValue). fits_in (objects_of c.args.heap.now) (place_word c.args.name) (allocation_at v.worker c.args.d)) c.self.view_is ∙ c.requires.fits in
-    let t : At c.self.inside.allocation c.args.d = at_of c.self.inside.allocation c.args.d (raw_size (raw_of c.in-Some.object)) fits in
+    let f : Facts c.args.heap.now (place_word c.args.name) (raw_of c.args.object) = facts c.args.heap.now (place_word c.args.name) (raw_of c.args.object) c.requires.shown in
+    let fits = sym (ap (fits_in (objects_of c.args.heap.now) (place_word c.args.name)) (shown_slot c.self.inside.config.shape c.self.inside.allocation c.args.d (slot_at c.self.inside.allocation c.args.d) refl) ∙ fits_same c.args.heap.now c.self.inside.config (place_word c.args.name) (raw_size (raw_of c.args.object)) (slot_at c.self.inside.allocation c.args.d) ke f.words (n.in_slots c.args.d) (c.self.invariant.1.in_slots c.args.d)) ∙ ap (λ (v : WorkspaceValue). fits_in (objects_of c.args.heap.now) (place_word c.args.name) (allocation_at v.worker c.args.d)) c.self.view_is ∙ c.requires.fits in
+    let t : At c.self.inside.allocation c.args.d = at_of c.self.inside.allocation c.args.d (raw_size (raw_of c.args.object)) fits in
     let old : IsNoted 0 t.block = subst (OnSome (IsNoted 0)) t.there (n.in_slots c.args.d) in (
-      proposed_noted c.args.name c.push-place.result c.args.d t.block (raw_of c.in-Some.object) t.there (c.push-place.ensures.table t.block t.there) (c.push-place.ensures.place t.block t.there) n,
-      table_made c.self.inside.config c.args.d t.block (pushed t.block (raw_of c.in-Some.object)) t.there (λ m. record { words = m.words; destination = m.destination }) (c.push-place.ensures.table t.block t.there) refl c.self.invariant.1.in_hand c.self.invariant.1,
+      proposed_noted c.args.name c.push-place.result c.args.d t.block (raw_of c.args.object) t.there (c.push-place.ensures.table t.block t.there) (c.push-place.ensures.place t.block t.there) n,
+      table_made c.self.inside.config c.args.d t.block (pushed t.block (raw_of c.args.object)) t.there (λ m. record { words = m.words; destination = m.destination }) (c.push-place.ensures.table t.block t.there) refl c.self.invariant.1.in_hand c.self.invariant.1,
       c.self.invariant.2,
     )
 
@@ -43,11 +43,11 @@ returns g c =
     let none = no_proposal c.self.inside.allocation c.self.inside.aside.items c.self.inside.done.items (held_in c.self.inside.hand) c.self.inside.proposed c.self.invariant.0 (ap (λ (v : WorkspaceValue). v.worker.proposal) c.self.view_is ∙ c.requires.proposal) in
     let n : AreNoted c.self.inside.allocation c.self.inside.aside.items c.self.inside.done.items (held_in c.self.inside.hand) None = subst (AreNoted c.self.inside.allocation c.self.inside.aside.items c.self.inside.done.items (held_in c.self.inside.hand)) none c.self.invariant.0 in
     let ke : c.self.inside.config ≡ c.args.heap.now.config = ap (λ (v : WorkspaceValue). v.config) c.self.view_is ∙ c.requires.config in
-    let f : Facts c.args.heap.now (place_word c.args.name) (raw_of c.in-Some.object) = facts c.args.heap.now (place_word c.args.name) (raw_of c.in-Some.object) c.in-Some.ensures in
-    let fits = sym (ap (fits_in (objects_of c.args.heap.now) (place_word c.args.name)) (shown_slot c.self.inside.config.shape c.self.inside.allocation c.args.d (slot_at c.self.inside.allocation c.args.d) refl) ∙ fits_same c.args.heap.now c.self.inside.config (place_word c.args.name) (raw_size (raw_of c.in-Some.object)) (slot_at c.self.inside.allocation c.args.d) ke f.words (n.in_slots c.args.d) (c.self.invariant.1.in_slots c.args.d)) ∙ ap (λ (v : WorkspaceValue). fits_in (objects_of c.args.heap.now) (place_word c.args.name) (allocation_at v.worker c.args.d)) c.self.view_is ∙ c.requires.fits in
-    let t : At c.self.inside.allocation c.args.d = at_of c.self.inside.allocation c.args.d (raw_size (raw_of c.in-Some.object)) fits in
+    let f : Facts c.args.heap.now (place_word c.args.name) (raw_of c.args.object) = facts c.args.heap.now (place_word c.args.name) (raw_of c.args.object) c.requires.shown in
+    let fits = sym (ap (fits_in (objects_of c.args.heap.now) (place_word c.args.name)) (shown_slot c.self.inside.config.shape c.self.inside.allocation c.args.d (slot_at c.self.inside.allocation c.args.d) refl) ∙ fits_same c.args.heap.now c.self.inside.config (place_word c.args.name) (raw_size (raw_of c.args.object)) (slot_at c.self.inside.allocation c.args.d) ke f.words (n.in_slots c.args.d) (c.self.invariant.1.in_slots c.args.d)) ∙ ap (λ (v : WorkspaceValue). fits_in (objects_of c.args.heap.now) (place_word c.args.name) (allocation_at v.worker c.args.d)) c.self.view_is ∙ c.requires.fits in
+    let t : At c.self.inside.allocation c.args.d = at_of c.self.inside.allocation c.args.d (raw_size (raw_of c.args.object)) fits in
     let old : IsNoted 0 t.block = subst (OnSome (IsNoted 0)) t.there (n.in_slots c.args.d) in
     let table = c.push-place.ensures.table t.block t.there in
     copied_is c.self.view_is (objects_of c.args.heap.now) (place_word c.args.name) c.args.d _ _ (named c.self.inside.config.shape t.block) (shown_slot c.self.inside.config.shape c.self.inside.allocation c.args.d (Some t.block) t.there)
-    (ap (λ xs. proposal_of xs (Some (proposed_copy c.args.name c.push-place.result c.args.d))) table ∙ shown_copy c.args.heap.now c.self.inside.config.shape c.self.inside.allocation c.args.d t.block (raw_of c.in-Some.object) c.args.name c.push-place.result t.there old f (c.push-place.ensures.place t.block t.there))
-    (ap (slots_of c.self.inside.config.shape) table ∙ slots_pushed c.self.inside.config.shape c.self.inside.allocation c.args.d t.block (raw_of c.in-Some.object) t.there old)
+    (ap (λ xs. proposal_of xs (Some (proposed_copy c.args.name c.push-place.result c.args.d))) table ∙ shown_copy c.args.heap.now c.self.inside.config.shape c.self.inside.allocation c.args.d t.block (raw_of c.args.object) c.args.name c.push-place.result t.there old f (c.push-place.ensures.place t.block t.there))
+    (ap (slots_of c.self.inside.config.shape) table ∙ slots_pushed c.self.inside.config.shape c.self.inside.allocation c.args.d t.block (raw_of c.args.object) t.there old)

@@ -23,7 +23,7 @@ copy-requires-clause-fits g c =
     let none = no_proposal c.self.inside.allocation c.self.inside.aside.items c.self.inside.done.items (held_in c.self.inside.hand) c.self.inside.proposed c.self.invariant.0 (ap (λ (v : WorkspaceValue). v.worker.proposal) c.self.view_is ∙ c.requires.proposal) in
     let n : AreNoted c.self.inside.allocation c.self.inside.aside.items c.self.inside.done.items (held_in c.self.inside.hand) None = subst (AreNoted c.self.inside.allocation c.self.inside.aside.items c.self.inside.done.items (held_in c.self.inside.hand)) none c.self.invariant.0 in
     let ke : c.self.inside.config ≡ c.args.heap.now.config = ap (λ (v : WorkspaceValue). v.config) c.self.view_is ∙ c.requires.config in
-    let f : Facts c.args.heap.now (place_word c.args.name) (raw_of c.in-Some.object) = facts c.args.heap.now (place_word c.args.name) (raw_of c.in-Some.object) c.in-Some.ensures in
+    let f : Facts c.args.heap.now (place_word c.args.name) (raw_of c.args.found.object) = facts c.args.heap.now (place_word c.args.name) (raw_of c.args.found.object) c.requires.shown in
     let seen = ap (λ (v : WorkspaceValue). fits_in (objects_of c.args.heap.now) (place_word c.args.name) (allocation_at v.worker c.number_of-d.result)) (sym c.self.view_is) ∙ ap (fits_in (objects_of c.args.heap.now) (place_word c.args.name)) (shown_slot c.self.inside.config.shape c.self.inside.allocation c.number_of-d.result (slot_at c.self.inside.allocation c.number_of-d.result) refl) ∙ fits_same c.args.heap.now c.self.inside.config (place_word c.args.name) c.size-size.result (slot_at c.self.inside.allocation c.number_of-d.result) ke (f.words ∙ sym c.size-size.ensures) (n.in_slots c.number_of-d.result) (c.self.invariant.1.in_slots c.number_of-d.result) in
     seen ∙ c.fits.ensures.0 c.if-fits.true
 
@@ -32,10 +32,10 @@ returns-then-fits-clause-ok g c =
     let none = no_proposal c.self.inside.allocation c.self.inside.aside.items c.self.inside.done.items (held_in c.self.inside.hand) c.self.inside.proposed c.self.invariant.0 (ap (λ (v : WorkspaceValue). v.worker.proposal) c.self.view_is ∙ c.requires.proposal) in
     let n : AreNoted c.self.inside.allocation c.self.inside.aside.items c.self.inside.done.items (held_in c.self.inside.hand) None = subst (AreNoted c.self.inside.allocation c.self.inside.aside.items c.self.inside.done.items (held_in c.self.inside.hand)) none c.self.invariant.0 in
     let ke : c.self.inside.config ≡ c.args.heap.now.config = ap (λ (v : WorkspaceValue). v.config) c.self.view_is ∙ c.requires.config in
-    let f : Facts c.args.heap.now (place_word c.args.name) (raw_of c.in-Some.object) = facts c.args.heap.now (place_word c.args.name) (raw_of c.in-Some.object) c.in-Some.ensures in
+    let f : Facts c.args.heap.now (place_word c.args.name) (raw_of c.args.found.object) = facts c.args.heap.now (place_word c.args.name) (raw_of c.args.found.object) c.requires.shown in
     let seen = ap (λ (v : WorkspaceValue). fits_in (objects_of c.args.heap.now) (place_word c.args.name) (allocation_at v.worker c.number_of-d.result)) (sym c.self.view_is) ∙ ap (fits_in (objects_of c.args.heap.now) (place_word c.args.name)) (shown_slot c.self.inside.config.shape c.self.inside.allocation c.number_of-d.result (slot_at c.self.inside.allocation c.number_of-d.result) refl) ∙ fits_same c.args.heap.now c.self.inside.config (place_word c.args.name) c.size-size.result (slot_at c.self.inside.allocation c.number_of-d.result) ke (f.words ∙ sym c.size-size.ensures) (n.in_slots c.number_of-d.result) (c.self.invariant.1.in_slots c.number_of-d.result) in
-    let pair = c.in-Some-step_of.ensures in
-    let de : c.number_of-d.result ≡ destination_of (objects_of c.args.heap.now) (place_word c.args.name) = c.number_of-d.ensures ∙ ap (destination_number c.self.inside.config.shape) c.destination-to.ensures ∙ ap (λ (k : Config). destination_number k.shape (dest k.shape (c.in-Some-step_of.at.generation, c.in-Some-step_of.at.step))) ke ∙ sym (dest_of c.args.heap.now (place_word c.args.name) (c.in-Some-step_of.at.generation, c.in-Some-step_of.at.step) pair) in
+    let pair = c.requires.stands in
+    let de : c.number_of-d.result ≡ destination_of (objects_of c.args.heap.now) (place_word c.args.name) = c.number_of-d.ensures ∙ ap (destination_number c.self.inside.config.shape) c.destination-to.ensures ∙ ap (λ (k : Config). destination_number k.shape (dest k.shape (c.args.found.at.generation, c.args.found.at.step))) ke ∙ sym (dest_of c.args.heap.now (place_word c.args.name) (c.args.found.at.generation, c.args.found.at.step) pair) in
     let small : is_large_name (objects_of c.args.heap.now) (place_word c.args.name) ≡ false = f.large ∙ le-ltb _ _ (omega (arith, c.if-size-block_words.false, c.size-size.ensures, c.block_words.ensures.value, ap (λ (k : Config). k.block_words) ke)) in
     let draw : draws_for (objects_of c.args.heap.now) c.args.self.now.worker (place_word c.args.name) ≡ false = no_draw (objects_of c.args.heap.now) c.args.self.now.worker (place_word c.args.name) c.number_of-d.result small de (seen ∙ c.fits.ensures.0 c.if-fits.true) in
     record {
@@ -45,14 +45,14 @@ returns-then-fits-clause-ok g c =
     }
 
 pub renew-requires-clause-to : goal.renew-requires-clause-to
-renew-requires-clause-to g c = ((c.in-Some-step_of.at.generation, c.in-Some-step_of.at.step), c.destination-to.ensures ∙ ap (λ (v : WorkspaceValue). dest v.config.shape (c.in-Some-step_of.at.generation, c.in-Some-step_of.at.step)) c.self.view_is)
+renew-requires-clause-to g c = ((c.args.found.at.generation, c.args.found.at.step), c.destination-to.ensures ∙ ap (λ (v : WorkspaceValue). dest v.config.shape (c.args.found.at.generation, c.args.found.at.step)) c.self.view_is)
 
 pub copy-requires-2-clause-fits : goal.copy-requires-2-clause-fits
 copy-requires-2-clause-fits g c =
     let ke : c.self.inside.config ≡ c.args.heap.now.config = ap (λ (v : WorkspaceValue). v.config) c.self.view_is ∙ c.requires.config in
-    let f : Facts c.args.heap.now (place_word c.args.name) (raw_of c.in-Some.object) = facts c.args.heap.now (place_word c.args.name) (raw_of c.in-Some.object) c.in-Some.ensures in
-    let pair = c.in-Some-step_of.ensures in
-    let de : c.number_of-d.result ≡ destination_of (objects_of c.args.heap.now) (place_word c.args.name) = c.number_of-d.ensures ∙ ap (destination_number c.self.inside.config.shape) c.destination-to.ensures ∙ ap (λ (k : Config). destination_number k.shape (dest k.shape (c.in-Some-step_of.at.generation, c.in-Some-step_of.at.step))) ke ∙ sym (dest_of c.args.heap.now (place_word c.args.name) (c.in-Some-step_of.at.generation, c.in-Some-step_of.at.step) pair) in
+    let f : Facts c.args.heap.now (place_word c.args.name) (raw_of c.args.found.object) = facts c.args.heap.now (place_word c.args.name) (raw_of c.args.found.object) c.requires.shown in
+    let pair = c.requires.stands in
+    let de : c.number_of-d.result ≡ destination_of (objects_of c.args.heap.now) (place_word c.args.name) = c.number_of-d.ensures ∙ ap (destination_number c.self.inside.config.shape) c.destination-to.ensures ∙ ap (λ (k : Config). destination_number k.shape (dest k.shape (c.args.found.at.generation, c.args.found.at.step))) ke ∙ sym (dest_of c.args.heap.now (place_word c.args.name) (c.args.found.at.generation, c.args.found.at.step) pair) in
     let small : is_large_name (objects_of c.args.heap.now) (place_word c.args.name) ≡ false = f.large ∙ le-ltb _ _ (omega (arith, c.if-size-block_words.false, c.size-size.ensures, c.block_words.ensures.value, ap (λ (k : Config). k.block_words) ke)) in
     let r = c.in_ok-renew.ensures.ok in
     let bw = ap (λ (k : Config). k.block_words) ke in
@@ -64,10 +64,10 @@ returns-clause-ok g c =
     let none = no_proposal c.self.inside.allocation c.self.inside.aside.items c.self.inside.done.items (held_in c.self.inside.hand) c.self.inside.proposed c.self.invariant.0 (ap (λ (v : WorkspaceValue). v.worker.proposal) c.self.view_is ∙ c.requires.proposal) in
     let n : AreNoted c.self.inside.allocation c.self.inside.aside.items c.self.inside.done.items (held_in c.self.inside.hand) None = subst (AreNoted c.self.inside.allocation c.self.inside.aside.items c.self.inside.done.items (held_in c.self.inside.hand)) none c.self.invariant.0 in
     let ke : c.self.inside.config ≡ c.args.heap.now.config = ap (λ (v : WorkspaceValue). v.config) c.self.view_is ∙ c.requires.config in
-    let f : Facts c.args.heap.now (place_word c.args.name) (raw_of c.in-Some.object) = facts c.args.heap.now (place_word c.args.name) (raw_of c.in-Some.object) c.in-Some.ensures in
+    let f : Facts c.args.heap.now (place_word c.args.name) (raw_of c.args.found.object) = facts c.args.heap.now (place_word c.args.name) (raw_of c.args.found.object) c.requires.shown in
     let seen = ap (λ (v : WorkspaceValue). fits_in (objects_of c.args.heap.now) (place_word c.args.name) (allocation_at v.worker c.number_of-d.result)) (sym c.self.view_is) ∙ ap (fits_in (objects_of c.args.heap.now) (place_word c.args.name)) (shown_slot c.self.inside.config.shape c.self.inside.allocation c.number_of-d.result (slot_at c.self.inside.allocation c.number_of-d.result) refl) ∙ fits_same c.args.heap.now c.self.inside.config (place_word c.args.name) c.size-size.result (slot_at c.self.inside.allocation c.number_of-d.result) ke (f.words ∙ sym c.size-size.ensures) (n.in_slots c.number_of-d.result) (c.self.invariant.1.in_slots c.number_of-d.result) in
-    let pair = c.in-Some-step_of.ensures in
-    let de : c.number_of-d.result ≡ destination_of (objects_of c.args.heap.now) (place_word c.args.name) = c.number_of-d.ensures ∙ ap (destination_number c.self.inside.config.shape) c.destination-to.ensures ∙ ap (λ (k : Config). destination_number k.shape (dest k.shape (c.in-Some-step_of.at.generation, c.in-Some-step_of.at.step))) ke ∙ sym (dest_of c.args.heap.now (place_word c.args.name) (c.in-Some-step_of.at.generation, c.in-Some-step_of.at.step) pair) in
+    let pair = c.requires.stands in
+    let de : c.number_of-d.result ≡ destination_of (objects_of c.args.heap.now) (place_word c.args.name) = c.number_of-d.ensures ∙ ap (destination_number c.self.inside.config.shape) c.destination-to.ensures ∙ ap (λ (k : Config). destination_number k.shape (dest k.shape (c.args.found.at.generation, c.args.found.at.step))) ke ∙ sym (dest_of c.args.heap.now (place_word c.args.name) (c.args.found.at.generation, c.args.found.at.step) pair) in
     let small : is_large_name (objects_of c.args.heap.now) (place_word c.args.name) ≡ false = f.large ∙ le-ltb _ _ (omega (arith, c.if-size-block_words.false, c.size-size.ensures, c.block_words.ensures.value, ap (λ (k : Config). k.block_words) ke)) in
     let r = c.in_ok-renew.ensures.ok in
     let draw : draws_for (objects_of c.args.heap.now) c.args.self.now.worker (place_word c.args.name) ≡ true = a_draw (objects_of c.args.heap.now) c.args.self.now.worker (place_word c.args.name) c.number_of-d.result small de (seen ∙ not_true _ (λ e. true≢false (sym (c.fits.ensures.1 e) ∙ c.if-fits.false))) in
@@ -83,10 +83,10 @@ returns-in_err-renew-clause-wanted g c e =
     let none = no_proposal c.self.inside.allocation c.self.inside.aside.items c.self.inside.done.items (held_in c.self.inside.hand) c.self.inside.proposed c.self.invariant.0 (ap (λ (v : WorkspaceValue). v.worker.proposal) c.self.view_is ∙ c.requires.proposal) in
     let n : AreNoted c.self.inside.allocation c.self.inside.aside.items c.self.inside.done.items (held_in c.self.inside.hand) None = subst (AreNoted c.self.inside.allocation c.self.inside.aside.items c.self.inside.done.items (held_in c.self.inside.hand)) none c.self.invariant.0 in
     let ke : c.self.inside.config ≡ c.args.heap.now.config = ap (λ (v : WorkspaceValue). v.config) c.self.view_is ∙ c.requires.config in
-    let f : Facts c.args.heap.now (place_word c.args.name) (raw_of c.in-Some.object) = facts c.args.heap.now (place_word c.args.name) (raw_of c.in-Some.object) c.in-Some.ensures in
+    let f : Facts c.args.heap.now (place_word c.args.name) (raw_of c.args.found.object) = facts c.args.heap.now (place_word c.args.name) (raw_of c.args.found.object) c.requires.shown in
     let seen = ap (λ (v : WorkspaceValue). fits_in (objects_of c.args.heap.now) (place_word c.args.name) (allocation_at v.worker c.number_of-d.result)) (sym c.self.view_is) ∙ ap (fits_in (objects_of c.args.heap.now) (place_word c.args.name)) (shown_slot c.self.inside.config.shape c.self.inside.allocation c.number_of-d.result (slot_at c.self.inside.allocation c.number_of-d.result) refl) ∙ fits_same c.args.heap.now c.self.inside.config (place_word c.args.name) c.size-size.result (slot_at c.self.inside.allocation c.number_of-d.result) ke (f.words ∙ sym c.size-size.ensures) (n.in_slots c.number_of-d.result) (c.self.invariant.1.in_slots c.number_of-d.result) in
-    let pair = c.in-Some-step_of.ensures in
-    let de : c.number_of-d.result ≡ destination_of (objects_of c.args.heap.now) (place_word c.args.name) = c.number_of-d.ensures ∙ ap (destination_number c.self.inside.config.shape) c.destination-to.ensures ∙ ap (λ (k : Config). destination_number k.shape (dest k.shape (c.in-Some-step_of.at.generation, c.in-Some-step_of.at.step))) ke ∙ sym (dest_of c.args.heap.now (place_word c.args.name) (c.in-Some-step_of.at.generation, c.in-Some-step_of.at.step) pair) in
+    let pair = c.requires.stands in
+    let de : c.number_of-d.result ≡ destination_of (objects_of c.args.heap.now) (place_word c.args.name) = c.number_of-d.ensures ∙ ap (destination_number c.self.inside.config.shape) c.destination-to.ensures ∙ ap (λ (k : Config). destination_number k.shape (dest k.shape (c.args.found.at.generation, c.args.found.at.step))) ke ∙ sym (dest_of c.args.heap.now (place_word c.args.name) (c.args.found.at.generation, c.args.found.at.step) pair) in
     let small : is_large_name (objects_of c.args.heap.now) (place_word c.args.name) ≡ false = f.large ∙ le-ltb _ _ (omega (arith, c.if-size-block_words.false, c.size-size.ensures, c.block_words.ensures.value, ap (λ (k : Config). k.block_words) ke)) in
     let draw : draws_for (objects_of c.args.heap.now) c.args.self.now.worker (place_word c.args.name) ≡ true = a_draw (objects_of c.args.heap.now) c.args.self.now.worker (place_word c.args.name) c.number_of-d.result small de (seen ∙ not_true _ (λ e. true≢false (sym (c.fits.ensures.1 e) ∙ c.if-fits.false))) in
     draw

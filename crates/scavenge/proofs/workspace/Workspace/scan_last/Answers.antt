@@ -10,7 +10,7 @@ use Rattle.to_space.specs.Named.{named}
 use Rattle.scavenge.specs.Shown.{WorkspaceValue, IsNoted, AreNoted, proposal_of, slots_of, blocks_of, words_of, hand_of, held_in}
 use Rattle.scavenge.proofs.Fields.{no_proposal, slots-get, slots_noted}
 use Rattle.scavenge.proofs.Scanning.{Passing, open_passing, held_passing, passed, passed_noted, unscanned_named, front_standing, scan_open_done, scan_held_done, slots_passed}
-use Rattle.scavenge.proofs.workspace.Workspace.scan.Goals as goal
+use Rattle.scavenge.proofs.workspace.Workspace.scan_last.Goals as goal
 use Rattle.scavenge.proofs.Made.{table_made, made_more}
 use Rattle.scavenge.specs.Shown.{IsMade, AreMade}
 
