@@ -1,15 +1,9 @@
 -- Why a collection was not carried out.
 use Rattle.heap.specs.declared.heap.OpenError.{OpenError}
 use Rattle.heap.specs.declared.heap.OpenError.TheVariants as open_error
-use Rattle.collector.specs.declared.blocks.CopyError.{CopyError}
-use Rattle.collector.specs.declared.blocks.CopyError.TheVariants as copy_error
 use Rattle.collector.specs.declared.CollectError.{CollectError}
-use Rattle.collector.specs.declared.CollectError.TheVariants.{NoGeneration, HeapFull, NoMemory}
+use Rattle.collector.specs.declared.CollectError.TheVariants.{NoGeneration, NoMemory}
 
 abbrev pub error_of_open : OpenError → CollectError
 error_of_open open_error.NoGeneration = NoGeneration
 error_of_open open_error.NoMemory = NoMemory
-
-abbrev pub error_of_copy : CopyError → CollectError
-error_of_copy copy_error.HeapFull = HeapFull
-error_of_copy copy_error.NoMemory = NoMemory

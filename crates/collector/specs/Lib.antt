@@ -1,4 +1,4 @@
--- What a collection does, and what its worker keeps on the way.
+-- Collections.
 pub mod Collects
-pub mod Copied
 pub mod Errors
+pub mod Stepping

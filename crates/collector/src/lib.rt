@@ -1,20 +1,21 @@
 //! Collections.
 #![tactic(auto)]
 
-ghost use Rattle.std.specs.Prelude.{◌≡◌, ◌↔◌, ◌≤◌, [], map, IfOk, OnErr, Err};
-ghost use Rattle.layout.specs.Place.{place_word};
-ghost use Rattle.heap.specs.ReportView.{won_value};
-ghost use Rattle.collector.specs.Collects.{CollectsAlone};
-ghost use Rattle.collector.specs.Copied.{HasScanned, IsReady, IsUsedUp};
+ghost use Rattle.std.specs.Prelude.{◌≡◌, ◌≢◌, ◌↔◌, ◌≤◌, IfOk, OnErr, Err};
+ghost use Rattle.heap_data.specs.ReportValue.{all_won};
+ghost use Rattle.heap_data.specs.SettledValue.{IsSettled};
+ghost use Rattle.serial.specs.IsSerial.{IsReadyToCollect};
+ghost use Rattle.collector.specs.Collects.{CollectsAlone, ScansAlone, ScansOnce, IsShortOfBlocks};
 
-mod blocks;
-mod copier;
-mod scan;
+mod events;
+mod running;
 
-use crate::blocks::CopyError;
-use crate::copier::Copier;
-use heap::{Collection, Heap, OpenError, Report, Settled, WorkerReport};
-use std::alloc::{AllocError, AllocFailed, Allocator};
+use crate::running::run_to_end;
+use heap::{Collection, Heap, OpenError, Report, Settled};
+use scavenge::LookError;
+use serial::SerialCollection;
+use serial_settling::settle;
+use std::alloc::{AllocError, Allocator};
 
 /// Why a collection was not carried out. The heap is as before.
 #[derive(Clone, Copy, Debug, PartialEq, Eq)]
@@ -39,20 +40,6 @@ impl From<OpenError> for CollectError {
     }
 }
 
-impl From<CopyError> for CollectError {
-    ghost use Rattle.collector.specs.Errors.{error_of_copy};
-    ghost use Rattle.std.specs.Prelude.{◌≡◌};
-
-    ghost from_gives = { λ e r. r ≡ error_of_copy e };
-
-    fn from(error: CopyError) -> CollectError {
-        match error {
-            CopyError::HeapFull => CollectError::HeapFull,
-            CopyError::NoMemory => CollectError::NoMemory,
-        }
-    }
-}
-
 impl From<AllocError> for CollectError {
     ghost use Rattle.collector.specs.declared.CollectError.TheVariants.{NoMemory};
     ghost use Rattle.std.specs.Prelude.{◌≡◌};
@@ -64,35 +51,29 @@ impl From<AllocError> for CollectError {
     }
 }
 
-impl<T: Drop> From<AllocFailed<T>> for CollectError {
-    ghost use Rattle.collector.specs.declared.CollectError.TheVariants.{NoMemory};
-    ghost use Rattle.std.specs.Prelude.{◌≡◌};
-
-    ghost from_gives = { λ _ r. r ≡ NoMemory };
-
-    fn from(_error: AllocFailed<T>) -> CollectError {
-        CollectError::NoMemory
-    }
-}
-
-/// Copies all that the slots of a collection lead to, and what is reached from there.
-fn copy_live<A: Allocator + Clone>(
+/// Carries out the collection that was opened, to its commit.
+fn scavenged<A: Allocator + Clone>(
     alloc: A,
     heap: &Heap<A>,
-    collection: &Collection<A>,
-) -> Result<Copier<A>, CopyError>
-    requires { IsReady heap.now collection.now }
-    ensures ok { IfOk result (λ copier. HasScanned heap.now collection.now.generation copier.places.items copier.blocks.items
-        (map won_value copier.won.items) (map place_word copier.scanned.items)) }
-    ensures full { result ≡ Err CopyError.HeapFull → IsUsedUp heap.now collection.now.generation }
+    collection: Collection<A>,
+) -> Result<Settled<A>, CollectError>
+    requires { IsReadyToCollect heap.now collection }
+    ensures collection { IfOk result (λ s. s.collection ≡ collection) }
+    ensures settled { IfOk result (λ s. IsSettled heap.now s.collection s.places.items s.blocks.items (all_won s.workers.items)) }
+    ensures scanned { IfOk result (λ s. ScansAlone heap.now collection.generation s.workers.items s.deliveries.items) }
+    ensures once { IfOk result (λ s. ScansOnce heap.now collection.generation s.workers.items) }
+    ensures full { result ≡ Err CollectError.HeapFull → IsShortOfBlocks heap.now collection.generation }
+    ensures opened { result ≢ Err CollectError.NoGeneration }
 {
-    let slots = collection.slots();
-    let mut copier = Copier::new(alloc.clone()?, collection.cells() as usize)?;
-    for slot in slots {
-        copier.forward(alloc.clone()?, heap, collection, slot.target())?;
+    let mut serial = SerialCollection::new(alloc.clone()?, heap, &collection)?;
+    match run_to_end(alloc.clone()?, heap, &collection, &mut serial) {
+        Ok(()) => Ok(settle(alloc, heap, collection, serial)?),
+        Err(LookError::NoMemory) => Err(CollectError::NoMemory),
+        Err(LookError::HeapFull) => {
+            serial.count_drawn(alloc)?;
+            Err(CollectError::HeapFull)
+        }
     }
-    copier.scan_all(alloc, heap, collection)?;
-    Ok(copier)
 }
 
 /// Collects the generations 0 to `g` with one worker, and starts no thread.
@@ -101,25 +82,15 @@ pub fn collect_one<A: Allocator + Clone>(
     heap: &mut Heap<A>,
     g: u64,
 ) -> Result<Report<A>, CollectError>
-    ensures ok { IfOk result (λ report. CollectsAlone heap.old g report.kept report.freed report.workers.items heap.new) }
-    ensures deliveries { IfOk result (λ report. report.deliveries.items ≡ []) }
+    ensures ok { IfOk result (λ report. CollectsAlone heap.old g report.kept report.freed report.workers.items report.deliveries.items heap.new) }
     ensures no_generation { (result ≡ Err CollectError.NoGeneration) ↔ (heap.old.config.shape.generations ≤ g) }
-    ensures full { result ≡ Err CollectError.HeapFull → IsUsedUp heap.old g }
+    ensures full { result ≡ Err CollectError.HeapFull → IsShortOfBlocks heap.old g }
     ensures err { OnErr result (heap.new ≡ heap.old) }
 {
     if g >= heap.config().generations() as u64 {
         return Err(CollectError::NoGeneration);
     }
     let collection = heap.open_collection(alloc.clone()?, g)?;
-    let copier = copy_live(alloc.clone()?, heap, &collection)?;
-    let mut workers = Vec::with_capacity(alloc.clone()?, 1)?;
-    workers.push(WorkerReport::new(copier.won, copier.scanned))?;
-    let settled = Settled {
-        collection,
-        places: copier.places,
-        blocks: copier.blocks,
-        workers,
-        deliveries: Vec::new(alloc.clone()?),
-    };
+    let settled = scavenged(alloc.clone()?, heap, collection)?;
     Ok(heap.commit(alloc, settled)?)
 }

@@ -1,0 +1,123 @@
+-- What lasts from event to event, and what each makes less.
+use Rattle.std.proofs.Common.{◌≡◌, ℕ, ◌+◌, ◌<◌, ◌≤◌, Bool, true, cond, nat_eq, List, [], ◌∷◌, map, Option, Some, None, refl, sym, ap, subst, ◌∙◌, arith}
+use Rattle.claims.specs.Drawn.{times_in}
+use Rattle.claims.proofs.ClaimLemmas.{IsDistinct-rising, times-distinct}
+use Rattle.heap_data.specs.HeapValue.{HeapValue}
+use Rattle.heap_data.specs.CollectionValue.{CollectionValue, target_of_slot}
+use Rattle.model.specs.Destination.{dest_count}
+use Rattle.workers.specs.Setting.{Setting, setting_of}
+use Rattle.workers.specs.Worker.{Worker, Hand, Nothing, Open, Holding, HoldingLarge, Proposal}
+use Rattle.workers.specs.Block.{Block}
+use Rattle.workers.specs.WorkerSteps.{draw_wanted, cell_wanted, current_slot}
+use Rattle.workers.specs.System.{System, Event, Look, Race, Scan, Export, Take, Own, OwnLarge, Idle, cell_of, opening}
+use Rattle.workers.specs.Total.{times}
+use Rattle.workers.specs.Lawful.{next_alone, next_of_one, race_or, look_or, scan_or, export_or, take_or, own_or, large_or, lowest_open}
+use Rattle.workers.specs.Measure.{measure, young_names_of, IsWake}
+use Rattle.workers.specs.Finish.{Stepped, IsReached}
+use Rattle.workers.proofs.OneMore.{stepped_more, stepped_run}
+use Rattle.workers.proofs.Reached.{reached_falls, young_covers}
+use Rattle.serial.specs.SerialValue.{SerialValue, Goes, Stays, WantsDraw, system_of, setting_in, targets_in, destinations_in}
+use Rattle.serial.specs.IsSerial.{IsReadyToCollect}
+use Rattle.serial.proofs.Readiness.{room_of}
+use Rattle.collector.specs.Stepping.{IsOf, GoesOn, IsFull, HasStepped}
+
+same_times : (n : ℕ) (xs : List ℕ) → times n xs ≡ times_in n xs
+same_times n [] = refl
+same_times n (x ∷ xs) = ap (λ k. cond (nat_eq x n) 1 0 + k) (same_times n xs)
+
+-- a state that was reached
+pub reached_of : (v : SerialValue) → IsReadyToCollect v.heap v.collection → HasStepped v → IsReached (setting_in v) (destinations_in v) 1 (targets_in v) v.heap.free (system_of v)
+reached_of v ready h =
+    let r = stepped_run (setting_in v) h.run in
+    record {
+      some = omega arith;
+      room = room_of v ready;
+      distinct = λ k. (let d = times-distinct v.heap.free (IsDistinct-rising v.heap.free ready.free.rising) k in let s = same_times k v.heap.free in omega (arith, d, s));
+      events = r.0;
+      run = r.1;
+    }
+
+-- so many events, in the collection of that heap
+abbrev StepsTo : HeapValue → CollectionValue → ℕ → System → Type 0
+StepsTo heap c count s =
+    Stepped (setting_of heap.graph c.generation heap.config.shape heap.config.block_words 1) (next_alone (setting_of heap.graph c.generation heap.config.shape heap.config.block_words 1))
+    (opening (dest_count heap.config.shape c.generation) 1 (map target_of_slot c.slots) heap.free) count s
+
+pub one_more : (old new : SerialValue) → HasStepped old → GoesOn old new → HasStepped new
+one_more old new h g =
+    record {
+      count = h.count + 1;
+      run = subst (λ heap. StepsTo heap new.collection (h.count + 1) (system_of new)) (sym g.goes.heap) (subst (λ c. StepsTo old.heap c (h.count + 1) (system_of new)) (sym g.goes.collection)
+          (stepped_more (setting_in old) g.event h.run g.is_next g.goes.step));
+    }
+
+pub none_more : (old new : SerialValue) → HasStepped old → Stays old new → HasStepped new
+none_more old new h g =
+    record { count = h.count; run = subst (λ heap. StepsTo heap new.collection h.count (system_of new)) (sym g.heap) (subst (λ c. StepsTo old.heap c h.count (system_of new)) (sym g.collection) (subst (StepsTo old.heap old.collection h.count) (sym g.system) h.run)) }
+
+pub still_of : (heap : HeapValue) (c : CollectionValue) (old new : SerialValue) → IsOf heap c old → new.heap ≡ old.heap → new.collection ≡ old.collection → IsOf heap c new
+still_of heap c old new k h d = record { heap_is = k.heap_is ∙ sym h; collection_is = k.collection_is ∙ sym d }
+
+only : {x y : Worker} → x ∷ [] ≡ y ∷ [] → x ≡ y
+only {x = x} {y = y} e = cc
+
+-- what a look wants it wants where nothing came
+pub wants_still : (old new : SerialValue) → Stays old new → WantsDraw old → WantsDraw new
+wants_still old new g wants =
+    let w : new.workspace.worker ≡ old.workspace.worker = only (ap (λ (s : System). s.workers) g.system) in
+    subst (λ heap. Wants heap new.collection new.workspace.worker (system_of new)) (sym g.heap) (subst (λ c. Wants old.heap c new.workspace.worker (system_of new)) (sym g.collection)
+    (subst (λ x. Wants old.heap old.collection x (system_of new)) (sym w) (subst (Wants old.heap old.collection old.workspace.worker) (sym g.system) wants)))
+  where
+    Wants : HeapValue → CollectionValue → Worker → System → Type 0
+    Wants heap c x s = draw_wanted (setting_of heap.graph c.generation heap.config.shape heap.config.block_words 1) x (cell_of s (cell_wanted (setting_of heap.graph c.generation heap.config.shape heap.config.block_words 1) x)) ≡ true
+
+-- it is no wake
+no_wake : (setting : Setting) (w : Worker) (queue : List Block) → IsWake (next_of_one setting 0 w queue) → ⊥
+no_wake setting w queue = race w.proposal
+  where
+    large : (ns : List ℕ) → IsWake (large_or 0 ns (Idle 0)) → ⊥
+    large [] k = k
+    large (n ∷ ns) k = k
+
+    own : (o : Option ℕ) → IsWake (own_or 0 o (large_or 0 w.large (Idle 0))) → ⊥
+    own None k = large w.large k
+    own (Some d) k = k
+
+    take : (bs : List Block) → IsWake (take_or 0 bs (own_or 0 (lowest_open 0 w.allocation) (large_or 0 w.large (Idle 0)))) → ⊥
+    take [] k = own (lowest_open 0 w.allocation) k
+    take (b ∷ bs) k = k
+
+    export : (bs : List Block) → IsWake (export_or 0 bs (take_or 0 queue (own_or 0 (lowest_open 0 w.allocation) (large_or 0 w.large (Idle 0))))) → ⊥
+    export [] k = take queue k
+    export (b ∷ bs) k = k
+
+    scan : (h : Hand) → IsWake (scan_or 0 h (export_or 0 w.aside (take_or 0 queue (own_or 0 (lowest_open 0 w.allocation) (large_or 0 w.large (Idle 0)))))) → ⊥
+    scan Nothing k = export w.aside k
+    scan (Open d) k = k
+    scan (Holding b) k = k
+    scan (HoldingLarge n) k = k
+
+    look : (o : Option (Option ℕ)) → IsWake (look_or 0 o (scan_or 0 w.hand (export_or 0 w.aside (take_or 0 queue (own_or 0 (lowest_open 0 w.allocation) (large_or 0 w.large (Idle 0))))))) → ⊥
+    look None k = scan w.hand k
+    look (Some o) k = k
+
+    race : (o : Option Proposal) → IsWake (race_or 0 o (look_or 0 (current_slot setting w) (scan_or 0 w.hand (export_or 0 w.aside (take_or 0 queue (own_or 0 (lowest_open 0 w.allocation) (large_or 0 w.large (Idle 0)))))))) → ⊥
+    race None k = look (current_slot setting w) k
+    race (Some p) k = k
+
+some_same : {X : Type 0} {x y : X} → Some x ≡ Some y → x ≡ y
+some_same {x = x} {y = y} e = cc
+
+-- how much is left to do
+abbrev pub left_to_do : SerialValue → ℕ
+left_to_do v = measure (setting_in v) (young_names_of v.heap.graph v.collection.generation) (system_of v)
+
+pub less_left : (old new : SerialValue) → IsReadyToCollect old.heap old.collection → HasStepped old → GoesOn old new → left_to_do new < left_to_do old
+less_left old new ready h g =
+    subst (λ heap. Left heap new.collection (system_of new) < left_to_do old) (sym g.goes.heap) (subst (λ c. Left old.heap c (system_of new) < left_to_do old) (sym g.goes.collection)
+    (reached_falls (setting_in old) (destinations_in old) 1 (targets_in old) old.heap.free (system_of old) (reached_of old ready h) (young_names_of old.heap.graph old.collection.generation)
+    (young_covers old.heap.graph old.collection.generation old.heap.config.shape old.heap.config.block_words 1) (system_of new) g.event g.goes.step
+    (λ wake. no_wake (setting_in old) old.workspace.worker _ (subst IsWake (sym (some_same g.is_next)) wake))))
+  where
+    Left : HeapValue → CollectionValue → System → ℕ
+    Left heap c s = measure (setting_of heap.graph c.generation heap.config.shape heap.config.block_words 1) (young_names_of heap.graph c.generation) s

@@ -1,0 +1,13 @@
+use Rattle.std.proofs.Common.{◌≡◌}
+use Rattle.collector.specs.Stepping.{IsOf, HasStepped}
+use Rattle.collector.proofs.Going.{left_to_do}
+use Rattle.collector.proofs.running.run_to_end.Given as goal
+
+abbrev pub invariant-loop-alloc : goal.invariant-loop-alloc
+invariant-loop-alloc g l = record {
+  same : IsOf l.heap l.collection l.serial;
+  stepped : HasStepped l.serial;
+}
+
+abbrev pub decreases-loop-alloc : goal.decreases-loop-alloc
+decreases-loop-alloc g l = left_to_do l.serial

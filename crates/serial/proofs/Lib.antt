@@ -1,0 +1,10 @@
+pub mod AllDrawn
+pub mod Beginning
+pub mod Drawn
+pub mod Keeping
+pub mod LaneSteps
+pub mod Looked
+pub mod OpenBlocks
+pub mod Raced
+pub mod Readiness
+pub mod Starts

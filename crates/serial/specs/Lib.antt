@@ -1,0 +1,4 @@
+-- A collection by one worker, event by event.
+pub mod SerialCode
+pub mod SerialValue
+pub mod IsSerial

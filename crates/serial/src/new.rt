@@ -1,0 +1,55 @@
+//! How a collection by one worker begins.
+ghost use Rattle.std.specs.Prelude.{◌≡◌, ◌∷◌, [], length, IfOk};
+ghost use Rattle.workers.specs.System.{opening};
+ghost use Rattle.serial.specs.SerialValue.{system_of, destinations_in, targets_in};
+ghost use Rattle.serial.specs.IsSerial.{IsReadyToCollect};
+
+use crate::serial::SerialCollection;
+use block_pool::Claims;
+use copies::CopiesKey;
+use heap::{Collection, Heap};
+use plain_cells::PlainCells;
+use plain_queues::PlainPending;
+use scavenge::Workspace;
+use std::alloc::{AllocError, Allocator};
+use std::snapshot::Snapshot;
+
+/// The only item.
+fn only<T: Drop, A: Allocator>(mut items: Vec<T, A>) -> T
+    requires { length items.items ≡ 1 }
+    ensures { items.items ≡ result ∷ [] }
+{
+    match items.pop() {
+        Some(item) => item,
+        None => unreachable!(),
+    }
+}
+
+impl<A: Allocator + Clone> SerialCollection<A> {
+    /// The collection before its first event. An error says that memory ran out.
+    pub fn new(alloc: A, heap: &Heap<A>, collection: &Collection<A>) -> Result<Self, AllocError>
+        requires { IsReadyToCollect heap.now collection.now }
+        ensures heap { IfOk result (λ s. s.heap ≡ heap.now) }
+        ensures collection { IfOk result (λ s. s.collection ≡ collection.now) }
+        ensures first { IfOk result (λ s. system_of s ≡ opening (destinations_in s) 1 (targets_in s) s.heap.free) }
+    {
+        let mut free = Vec::new(alloc.clone()?);
+        free.extend_from_slice(collection.free())?;
+        let (claims, draws) = Claims::new(alloc.clone()?, free, 1)?;
+        let (cells, passes) = PlainCells::new(alloc.clone()?, collection.cells(), 1)?;
+        let key = CopiesKey::new(heap, collection.generation());
+        let (queues, seats) = PlainPending::new(alloc.clone()?, 1, &key)?;
+        let workspace = Workspace::new(alloc, heap, collection, 0, 1)?;
+        Ok(SerialCollection {
+            heap: Snapshot::of(heap),
+            collection: Snapshot::of(collection),
+            cells,
+            pass: only(passes),
+            claims,
+            draws: only(draws),
+            queues,
+            seat: only(seats),
+            workspace,
+        })
+    }
+}

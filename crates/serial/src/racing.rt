@@ -1,0 +1,52 @@
+//! What the worker looks at, and races for.
+ghost use Rattle.std.specs.Prelude.{◌≡◌, ◌↔◌, true, false, None, Ok, Err, IsSome, OnOk, OnErr};
+ghost use Rattle.workers.specs.WorkerSteps.{current_slot};
+ghost use Rattle.workers.specs.System.{Look, Race};
+ghost use Rattle.serial.specs.SerialValue.{Goes, Stays, WantsDraw, setting_in};
+
+use crate::serial::SerialCollection;
+use heap::{Collection, Heap};
+use scavenge::LookError;
+use std::alloc::{AllocError, Allocator};
+
+impl<A: Allocator + Clone> SerialCollection<A> {
+    /// Looks at the current slot, where there is one: `false` says that there is none, and then nothing changes. An error
+    /// says that a block was wanted and all were drawn, or that memory ran out; nothing came then.
+    pub fn look(
+        &mut self,
+        alloc: A,
+        heap: &Heap<A>,
+        collection: &Collection<A>,
+    ) -> Result<bool, LookError>
+        requires heap { heap.now ≡ self.old.heap }
+        requires collection { collection.now ≡ self.old.collection }
+        requires proposal { self.old.workspace.worker.proposal ≡ None }
+        ensures none { (result ≡ Ok false) ↔ (current_slot (setting_in self.old) self.old.workspace.worker ≡ None) }
+        ensures nothing { result ≡ Ok false → self.new ≡ self.old }
+        ensures ok { result ≡ Ok true → Goes (Look 0) self.old self.new }
+        ensures full { result ≡ Err LookError.HeapFull → WantsDraw self.old × (self.new.draws.out ≡ true) }
+        ensures err { OnErr result (Stays self.old self.new) }
+    {
+        self.workspace.look(
+            alloc,
+            heap,
+            collection,
+            &mut self.cells,
+            &mut self.pass,
+            &self.claims,
+            &mut self.draws,
+        )
+    }
+
+    /// Races for what is proposed. An error says that memory ran out; nothing came then.
+    pub fn race(&mut self, heap: &Heap<A>, collection: &Collection<A>) -> Result<(), AllocError>
+        requires heap { heap.now ≡ self.old.heap }
+        requires collection { collection.now ≡ self.old.collection }
+        requires proposal { IsSome self.old.workspace.worker.proposal }
+        ensures ok { OnOk result (Goes (Race 0) self.old self.new) }
+        ensures err { OnErr result (Stays self.old self.new) }
+    {
+        self.workspace
+            .race(heap, collection, &mut self.cells, &mut self.pass)
+    }
+}

@@ -1,0 +1,3 @@
+pub mod SettleBrings
+pub mod SettleLists
+pub mod SettleWhole

@@ -1,0 +1,78 @@
+use Rattle.std.proofs.Common.{◌≡◌, ◌∷◌, [], All, length, map, refl, sym, ap, subst, ◌∙◌}
+use Rattle.std.specs.Option.{option_map}
+use Rattle.layout.specs.Place.{place_word}
+use Rattle.block_pool.specs.BlockValue.{BlockValue}
+use Rattle.heap_data.specs.CollectionValue.{young_names}
+use Rattle.heap_data.specs.ReportValue.{WorkerLists, all_won, renaming_of}
+use Rattle.heap_data.specs.ReportView.{won_value}
+use Rattle.heap_data.specs.SettledValue.{IsSettled}
+use Rattle.model.specs.Live.{IsYoung}
+use Rattle.plain_cells.specs.Plain.{PlainValue, PlainPassValue, IsFit, place_of}
+use Rattle.plain_queues.specs.PlainValue.{lane_at}
+use Rattle.workers.specs.Joined.{Each, OnSome}
+use Rattle.to_space.specs.Named.{named, IsWhole}
+use Rattle.to_space.specs.Fronts.{slot_at}
+use Rattle.scavenge.specs.Shown.{WorkspaceValue, pair_of}
+use Rattle.serial_settling.specs.Settling.{IsReportOf, deliveries_of}
+use Rattle.serial_settling.proofs.SettleWhole.{IsAtEnd, opened_at_end, young_at_end, settled_at_end, reports_at_end, scans_at_end, sizes_at_end, all_won-alone}
+use Rattle.serial_settling.proofs.settled.settle.Goals as goal
+
+pub numbered-requires-clause-opened : goal.numbered-requires-clause-opened
+numbered-requires-clause-opened g c =
+    opened_at_end c.args.serial c.into_parts-cells.ensures.serial c.args.heap.now c.args.collection
+    (record { heap_is = c.requires.heap; collection_is = c.requires.collection; out = c.requires.out; queue = c.requires.queue; reached = c.requires.reached })
+
+pub numbered-requires-clause-young : goal.numbered-requires-clause-young
+numbered-requires-clause-young g c =
+    subst (All (λ p. IsYoung c.args.heap.now.graph c.args.collection.generation (place_word p.0))) (sym c.deref.ensures.value)
+    (young_at_end c.args.serial c.into_parts-cells.ensures.serial c.args.heap.now c.args.collection
+    (record { heap_is = c.requires.heap; collection_is = c.requires.collection; out = c.requires.out; queue = c.requires.queue; reached = c.requires.reached })
+    c.into_parts-allocation.result.won.items (c.into_parts-allocation.ensures.won ∙ ap (λ (w : WorkspaceValue). w.worker.won) c.into_parts-cells.ensures.workspace))
+
+pub places_in-requires-clause-fits : goal.places_in-requires-clause-fits
+places_in-requires-clause-fits g c =
+    subst (λ (p : PlainPassValue). IsFit c.into_parts-cells.result.cells p) (sym c.into_parts-cells.ensures.pass)
+    (subst (λ (k : PlainValue). IsFit k c.args.serial.pass) (sym c.into_parts-cells.ensures.cells) c.into_parts-cells.ensures.serial.cells.fits)
+
+pub places_in-requires-clause-alone : goal.places_in-requires-clause-alone
+places_in-requires-clause-alone g c = ap (λ (k : PlainValue). k.passes) c.into_parts-cells.ensures.cells ∙ c.into_parts-cells.ensures.serial.cells.passes
+
+pub returns-clause-settled : goal.returns-clause-settled
+returns-clause-settled g c =
+    let alone : c.push_reserved.new.self.items ≡ c.new.result ∷ [] = rw (c.push_reserved.ensures.items, c.in_ok-workers.ensures.items) refl in
+    let won : all_won c.push_reserved.new.self.items ≡ map won_value c.in_ok-won.won.items = all_won-alone c.push_reserved.new.self.items c.new.result alone ∙ ap (λ (w : WorkerLists). w.won) c.new.ensures in
+    let same = c.into_parts-cells.ensures.workspace in
+    subst (IsSettled c.args.serial.heap c.args.collection c.in_ok-places.places.items c.in_ok-blocks.blocks.items) (sym won)
+    (settled_at_end c.args.serial c.into_parts-cells.ensures.serial c.args.heap.now c.args.collection
+    (record { heap_is = c.requires.heap; collection_is = c.requires.collection; out = c.requires.out; queue = c.requires.queue; reached = c.requires.reached })
+    c.into_parts-allocation.result.allocation.items c.into_parts-allocation.result.done.items c.in_ok-blocks.blocks.items (map won_value c.in_ok-won.won.items) c.in_ok-places.places.items
+    (subst (λ (w : WorkspaceValue). map (option_map (named w.config.shape)) c.into_parts-allocation.result.allocation.items ≡ w.worker.allocation) same c.into_parts-allocation.ensures.allocation)
+    (subst (λ (w : WorkspaceValue). map (named w.config.shape) c.into_parts-allocation.result.done.items ≡ w.worker.done) same c.into_parts-allocation.ensures.done)
+    (λ d. subst (λ (w : WorkspaceValue). OnSome (IsWhole w.config.shape w.config.block_words) (slot_at c.into_parts-allocation.result.allocation.items d)) same (c.into_parts-allocation.ensures.allocation_whole d))
+    (subst (λ (w : WorkspaceValue). Each (IsWhole w.config.shape w.config.block_words) c.into_parts-allocation.result.done.items) same c.into_parts-allocation.ensures.done_whole)
+    c.in_ok-blocks.ensures
+    (c.in_ok-won.ensures.renaming ∙ ap (map pair_of) c.deref.ensures.value ∙ c.into_parts-allocation.ensures.won ∙ ap (λ (w : WorkspaceValue). w.worker.won) same)
+    c.in_ok-won.ensures.numbers
+    (c.in_ok-places.ensures ∙ ap (λ (k : PlainValue). map place_of k.held) c.into_parts-cells.ensures.cells))
+
+pub returns-clause-collection : goal.returns-clause-collection
+returns-clause-collection g c = c.requires.collection
+
+pub returns-clause-lists : goal.returns-clause-lists
+returns-clause-lists g c =
+    let alone : c.push_reserved.new.self.items ≡ c.new.result ∷ [] = rw (c.push_reserved.ensures.items, c.in_ok-workers.ensures.items) refl in
+    let same = c.into_parts-cells.ensures.workspace in
+    reports_at_end c.args.serial c.into_parts-cells.ensures.serial c.args.heap.now c.args.collection
+    (record { heap_is = c.requires.heap; collection_is = c.requires.collection; out = c.requires.out; queue = c.requires.queue; reached = c.requires.reached })
+    c.push_reserved.new.self.items c.new.result alone
+    (ap (λ (w : WorkerLists). renaming_of (young_names c.args.heap.now.graph c.args.collection.generation) w.won) c.new.ensures ∙ c.in_ok-won.ensures.renaming ∙ ap (map pair_of) c.deref.ensures.value ∙ c.into_parts-allocation.ensures.won
+    ∙ ap (λ (w : WorkspaceValue). w.worker.won) same)
+    (ap (λ (w : WorkerLists). w.scanned) c.new.ensures ∙ c.into_parts-allocation.ensures.scanned ∙ ap (λ (w : WorkspaceValue). w.worker.scanned) same)
+
+pub returns-clause-deliveries : goal.returns-clause-deliveries
+returns-clause-deliveries g c = c.in_ok-deliveries.ensures ∙ ap (λ q. deliveries_of (map (λ (b : BlockValue). length b.objects) (lane_at q 0).sent)) c.into_parts-cells.ensures.queues ∙ ap deliveries_of (sizes_at_end c.args.serial c.into_parts-cells.ensures.serial)
+
+pub returns-clause-once : goal.returns-clause-once
+returns-clause-once g c =
+    scans_at_end c.args.serial c.into_parts-cells.ensures.serial c.args.heap.now c.args.collection
+    (record { heap_is = c.requires.heap; collection_is = c.requires.collection; out = c.requires.out; queue = c.requires.queue; reached = c.requires.reached })

@@ -1,0 +1,2 @@
+-- How a collection by one worker ends.
+pub mod Settling

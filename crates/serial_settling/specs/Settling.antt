@@ -1,0 +1,39 @@
+-- What a worker by itself brings to the commit of its collection.
+use Rattle.std.specs.Prelude.{◌≡◌, ℕ, ◌≤◌, List, [], ◌∷◌, length, map, min, nat_eq}
+use Rattle.std.specs.List.{enumerate_from}
+use Rattle.heap_data.specs.ReportValue.{WorkerLists, renaming_of}
+use Rattle.heap_data.specs.CollectionValue.{young_names}
+use Rattle.heap_data.specs.declared.report.Delivery.{Delivery}
+use Rattle.workers.specs.Block.{Block}
+use Rattle.workers.specs.Worker.{Worker}
+use Rattle.workers.specs.Total.{times, wins_of}
+use Rattle.to_space.specs.Named.{named}
+use Rattle.serial.specs.SerialValue.{SerialValue, lane_of}
+
+-- one worker reports: what it won, by number, and what it scanned
+pub record IsReportOf (v : SerialValue) (workers : List WorkerLists) : Type 0 where
+  pub lists : WorkerLists
+  pub alone : workers ≡ lists ∷ []
+  pub won : renaming_of (young_names v.heap.graph v.collection.generation) lists.won ≡ v.workspace.worker.won
+  pub scanned : lists.scanned ≡ v.workspace.worker.scanned
+
+-- it won each name at most once, and scanned each place that it won as often as it won it, and no other
+pub record ScansWhatItWon (w : Worker) : Type 0 where
+  pub won_once : (name : ℕ) → wins_of name w.won ≤ 1
+  pub scanned : (place : ℕ) → times place w.scanned ≡ times place (map (λ e. e.1) w.won)
+
+-- the blocks that it exported, in order
+abbrev pub exports_of : SerialValue → List Block
+exports_of v = map (named v.workspace.config.shape) (lane_of v).sent
+
+-- the worker's export at a position, which it took itself; a number of objects that has no room is the greatest that has
+abbrev pub delivery_of : ℕ × ℕ → Delivery
+delivery_of e = record { exporter = 0; position = e.0; objects = min e.1 4294967295; taker = 0 }
+
+-- of exports with so many objects, in order
+abbrev pub deliveries_of : List ℕ → List Delivery
+deliveries_of sizes = map delivery_of (enumerate_from 0 sizes)
+
+-- these blocks were exported, and taken by the worker itself
+abbrev pub own_deliveries : List Block → List Delivery
+own_deliveries exports = deliveries_of (map (λ (b : Block). length b.copies) exports)
