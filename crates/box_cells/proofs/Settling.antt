@@ -146,6 +146,10 @@ module _ (all : List (Option Bid)) where
         at None e = let n = none_won passes name covered e in omega arith
         at (Some b) e = let n = few_won passes name b covered e in let o = times-once b.pass passes apart in omega arith
 
+    -- no name was won twice
+    pub wins_once : (name : ℕ) → wins_of name (all_pairs won_by passes) ≤ 1
+    wins_once name = let few = wins_few name in let most = ones_most (bid_at all name) in omega arith
+
     below : All (λ (x : ℕ × Place). x.0 < length all) (all_pairs won_by passes)
     below = All-weaker (λ (x : ℕ × Place). place_of (bid_at all x.0) ≡ Some x.1) (λ (x : ℕ × Place). x.0 < length all)
         (λ x e. dite (dec_le (suc x.0) (length all)) (λ (b : x.0 < length all). b) (λ high. let past : place_of (bid_at all x.0) ≡ None = ap place_of (get_or_past all x.0 None (omega arith)) in absurd (cc)))

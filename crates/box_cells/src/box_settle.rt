@@ -1,10 +1,10 @@
 //! What the passes of boxed cells know and won in the end.
-ghost use Rattle.std.specs.Prelude.{◌≡◌, ◌≢◌, ◌↔◌, ◌<◌, ◌^◌, IsTrue, ℕ, All, AllPairs, Err, IfOk, OnOk, length, slice_index_or};
+ghost use Rattle.std.specs.Prelude.{◌≡◌, ◌≢◌, ◌↔◌, ◌<◌, ◌≤◌, ◌^◌, IsTrue, ℕ, All, AllPairs, Err, IfOk, OnOk, length, slice_index_or};
 ghost use Rattle.std.specs.List.{sum_by};
 ghost use Rattle.std.specs.declared.option.Option.TheVariants.{None};
 ghost use Rattle.box_cells.specs.Noted.{IsPassOf, IsApart, IsStep, bid_at, known_at, won_by};
 ghost use Rattle.box_cells.specs.Gathered.{IsGathered, win_count};
-ghost use Rattle.cells.specs.Settled.{IsSettled, Agree, ones};
+ghost use Rattle.cells.specs.Settled.{IsSettled, Agree, all_pairs, ones, wins_of};
 ghost use Rattle.box_cells.specs.BoxSettled.{AllWon};
 ghost use Rattle.cells.specs.declared.forwards.SettleError.TheVariants.{Unsettled, NoMemory};
 
@@ -46,7 +46,7 @@ fn is_each_won(all: &BoxPass, passes: &[BoxPass]) -> bool
 impl BoxCells {
     /// The place of each name that was won. It takes the passes that `new` gave with these cells, each once: each name
     /// that has a place was won once, by one pass, and what the passes know is what they won. `Unsettled` says that a
-    /// pass knows a place that no pass won; the passes agree nevertheless. `NoMemory` says that memory ran out.
+    /// pass knows a place that no pass won; the passes agree nevertheless, and no name was won twice. `NoMemory` says that memory ran out.
     pub fn settle(self, alloc: Global, mut passes: Vec<BoxPass>) -> Result<Forwards, SettleError>
         requires passes { All (IsPassOf self) passes.items }
         requires apart { AllPairs IsApart passes.items }
@@ -55,6 +55,7 @@ impl BoxCells {
         ensures all_won { OnOk result (AllWon known_at won_by passes.items) }
         ensures not_won { result ≡ Err Unsettled → ¬ AllWon known_at won_by passes.items }
         ensures agree { result ≢ Err NoMemory → Agree known_at passes.items }
+        ensures won_once { result ≢ Err NoMemory → (name : ℕ) → wins_of name (all_pairs won_by passes.items) ≤ 1 }
     {
         let Ok(mut all) = self.new_pass(0) else {
             return Err(SettleError::NoMemory);

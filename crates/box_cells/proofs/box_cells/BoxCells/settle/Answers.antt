@@ -6,7 +6,7 @@ use Rattle.std.proofs.lemmas.List.{length-map}
 use Rattle.once_cell.specs.Once.{cell_name}
 use Rattle.box_cells.specs.Noted.{NotedValue}
 use Rattle.box_cells.specs.Gathered.{IsGathered, win_count}
-use Rattle.box_cells.proofs.Settling.{agree, few_wins_in_all, settles, wins_all, not_all}
+use Rattle.box_cells.proofs.Settling.{agree, few_wins_in_all, settles, wins_all, wins_once, not_all}
 use Rattle.box_cells.proofs.box_cells.BoxCells.settle.Goals as goal
 
 -- the passes are as they were
@@ -63,3 +63,15 @@ returns-in-Ok-places-clause-agree c =
     λ is.
     let all = c.gather.new.all in
     agree all.known c.args.passes.items c.requires.apart (subst (λ (ps : List NotedValue). IsGathered (length ps) ps all.known) c.deref_mut.ensures.value c.gather.ensures.gathered)
+
+pub returns-then-not-is_each_won-clause-won_once : goal.returns-then-not-is_each_won-clause-won_once
+returns-then-not-is_each_won-clause-won_once c =
+    λ is.
+    let all = c.gather.new.all in
+    wins_once all.known c.args.passes.items c.requires.apart (subst (λ (ps : List NotedValue). IsGathered (length ps) ps all.known) c.deref_mut.ensures.value c.gather.ensures.gathered)
+
+pub returns-in-Ok-places-clause-won_once : goal.returns-in-Ok-places-clause-won_once
+returns-in-Ok-places-clause-won_once c =
+    λ is.
+    let all = c.gather.new.all in
+    wins_once all.known c.args.passes.items c.requires.apart (subst (λ (ps : List NotedValue). IsGathered (length ps) ps all.known) c.deref_mut.ensures.value c.gather.ensures.gathered)
