@@ -1,4 +1,4 @@
--- A heap with its named roots stands for a store: the same objects at places of the heap's own.
+-- A heap that calls made, with its named roots, stands for a store: the same objects at places of the heap's own.
 use Rattle.std.specs.Prelude.{◌≡◌, ℕ, List, map, length, true, Option, Some, None, IsTrue}
 use Rattle.std.specs.Option.{option_map}
 use Rattle.std.specs.Ordering.{nat_cmp}
@@ -12,6 +12,7 @@ use Rattle.model.specs.Reached.{has}
 use Rattle.model.specs.Store.{Store, object_at, targets}
 use Rattle.heap.specs.HeapValue.{HeapValue}
 use Rattle.trace_names.specs.NamesView.{named}
+use Rattle.store_places.specs.Made.{MadeByCalls}
 
 abbrev pub renamed_object : (ℕ → ℕ) → Object → Object
 renamed_object place o = record o { pointers = map (option_map place) o.pointers }
@@ -41,6 +42,7 @@ pub record IsNamed (store : Store) (place : ℕ → ℕ) (heap : Graph) (names :
   pub count : len heap.roots ≡ length store.names
 
 pub record StandsFor (heap : HeapValue) (names : List (List ℕ × ℕ)) (config : Config) (store : Store) : Type 0 where
+  pub made : MadeByCalls heap
   pub config_is : heap.config ≡ config
   pub rooms_are : heap.rooms ≡ store.rooms
   pub place : ℕ → ℕ

@@ -1,9 +1,10 @@
 -- What the program does, and how a run of a trace ends.
 pub use Rattle.trace_lines.specs.Pieces
 pub use Rattle.trace_lines.specs.Outcome
-pub use Rattle.trace_lines.specs.Refusals
+pub use Rattle.trace_lines.specs.Sound
 pub use Rattle.trace_lines.specs.Carried
 pub use Rattle.trace_lines.specs.Faults
 pub use Rattle.trace_lines.specs.FaultText
+pub use Rattle.trace_session.specs.Refusals
 pub mod RunValue
 pub mod Program

@@ -3,9 +3,10 @@ ghost use Rattle.std.specs.Prelude.{◌≡◌, ℕ, ◌+◌, ◌-◌, ◌^◌, �
 ghost use Rattle.trace_lines.specs.Faults.{MatchFault};
 ghost use Rattle.trace_lines.specs.Outcome.{outcome_from, outcome};
 ghost use Rattle.trace_lines.specs.Pieces.{HasNoFeed, pieces};
-ghost use Rattle.trace_lines.specs.Refusals.{IsSound, MayBeFull};
+ghost use Rattle.trace_lines.specs.Sound.{IsSound};
 ghost use Rattle.trace_lines.specs.Carried.{StopsAt, LeavesBefore, LeavesOutput, Prints, PrintsFront};
 ghost use Rattle.trace_lines.specs.Stepped.{AtEach, CarriesOutTo};
+ghost use Rattle.trace_session.specs.Refusals.{MayBeFull};
 ghost use Rattle.trace_session.specs.Session.{Stands};
 
 use crate::config::RunConfig;

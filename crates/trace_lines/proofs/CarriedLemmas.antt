@@ -13,7 +13,7 @@ use Rattle.trace_lines.specs.declared.fault.Fault.TheVariants.{BadTrace, HeapFul
 use Rattle.trace_lines.specs.Faults.{MatchFault}
 use Rattle.trace_lines.specs.Pieces.{HasNoFeed, finished, pieces}
 use Rattle.trace_lines.specs.Outcome.{after, outcome_from, line_step}
-use Rattle.trace_lines.specs.Refusals.{IsSound, MayBeFull}
+use Rattle.trace_lines.specs.Sound.{IsSound}
 use Rattle.trace_lines.specs.Carried.{Carried, CarriesOut, StopsAt, LeavesBefore}
 use Rattle.trace_lines.specs.Stepped.{AtEach, StepsTo, CarriesOutTo}
 use Rattle.trace_lines.proofs.PieceLemmas.{pieces_line}
@@ -134,23 +134,23 @@ module _ (stands stands' : Config → Store → Type 0) (number : ℕ) (text : L
       let before = so_far config store there in
       leaves_before config number store text number' before.next rest old now before.carries line next is free (P config) at here (holds config before.next before.stands')
 
-  pub fault_of_line : {T : Type 0} (contents : T → Option (List ℕ)) (before new : T) (written : Type 0) (e : Fault) → contents before ≡ now
+  pub fault_of_line : (wants : Config → Store → List ℕ → Type 0) {T : Type 0} (contents : T → Option (List ℕ)) (before new : T) (written : Type 0) (e : Fault) → contents before ≡ now
       → MatchFault e
       (λ at kind. (at ≡ number') × AtEach stands' (λ config store. line_step config store line ≡ Err kind) × (new ≡ before))
-      (λ at. (at ≡ Some number') × AtEach stands' (λ config store. MayBeFull config store line) × (new ≡ before))
+      (λ at. (at ≡ Some number') × AtEach stands' (λ config store. wants config store line) × (new ≡ before))
       (λ at. (at ≡ Some number') × AtEach stands' (λ config store. IsSound config store line) × (new ≡ before))
       ⊥ written
       → MatchFault e
       (λ at kind. AtEach stands (λ config store. StopsAt config number store text at kind old (contents new)))
-      (λ at. AtEach stands (λ config store. LeavesBefore (MayBeFull config) config number store text at old (contents new)))
+      (λ at. AtEach stands (λ config store. LeavesBefore (wants config) config number store text at old (contents new)))
       (λ at. AtEach stands (λ config store. LeavesBefore (IsSound config) config number store text at old (contents new)))
       ⊥ written
-  fault_of_line contents before new written (BadTrace at kind) same facts =
+  fault_of_line wants contents before new written (BadTrace at kind) same facts =
       rw (facts.2, same)
       (λ config store there.
       let here = so_far config store there in
       stops_at config number store text number' here.next rest old now here.carries line next is free at kind facts.0 (facts.1 config here.next here.stands'))
-  fault_of_line contents before new written (HeapFull at) same facts = rw (facts.2, same) (leaves MayBeFull at facts.0 facts.1)
-  fault_of_line contents before new written (NoMemory at) same facts = rw (facts.2, same) (leaves IsSound at facts.0 facts.1)
-  fault_of_line contents before new written ReadFailed same facts = facts
-  fault_of_line contents before new written WriteFailed same facts = facts
+  fault_of_line wants contents before new written (HeapFull at) same facts = rw (facts.2, same) (leaves wants at facts.0 facts.1)
+  fault_of_line wants contents before new written (NoMemory at) same facts = rw (facts.2, same) (leaves IsSound at facts.0 facts.1)
+  fault_of_line wants contents before new written ReadFailed same facts = facts
+  fault_of_line wants contents before new written WriteFailed same facts = facts

@@ -8,7 +8,7 @@ use Rattle.model.specs.Store.{Store, empty_store}
 use Rattle.trace_lines.specs.declared.fault.Fault.{Fault}
 use Rattle.trace_lines.specs.declared.fault.Fault.TheVariants.{BadTrace, HeapFull, NoMemory, ReadFailed, WriteFailed}
 use Rattle.trace_lines.specs.Faults.{MatchFault}
-use Rattle.trace_lines.specs.Refusals.{IsSound, MayBeFull}
+use Rattle.trace_lines.specs.Sound.{IsSound}
 use Rattle.trace_lines.specs.Stepped.{AtEach}
 use Rattle.trace_lines.specs.Pieces.{HasNoFeed, finished, pieces}
 use Rattle.trace_lines.specs.Outcome.{after, outcome_from, outcome_before}
@@ -81,19 +81,19 @@ leaves_output P config text line old new before =
     }
 
 -- a fault of a line is one of the text
-pub text_fault : (stands : Config → Store → Type 0) (text : List ℕ) (old new : Option (List ℕ)) (written : Type 0) (e : Fault)
+pub text_fault : (wants : Config → Store → List ℕ → Type 0) (stands : Config → Store → Type 0) (text : List ℕ) (old new : Option (List ℕ)) (written : Type 0) (e : Fault)
     → MatchFault e
     (λ at kind. AtEach stands (λ config store. StopsAt config 1 store text at kind old new))
-    (λ at. AtEach stands (λ config store. LeavesBefore (MayBeFull config) config 1 store text at old new))
+    (λ at. AtEach stands (λ config store. LeavesBefore (wants config) config 1 store text at old new))
     (λ at. AtEach stands (λ config store. LeavesBefore (IsSound config) config 1 store text at old new))
     ⊥ written
     → MatchFault e
     (λ at kind. AtEach stands (λ config store. Prints (outcome_from config 1 store (pieces text)) (Some (at, kind)) old new))
-    (λ at. AtEach stands (λ config store. LeavesBefore (MayBeFull config) config 1 store text at old new))
+    (λ at. AtEach stands (λ config store. LeavesBefore (wants config) config 1 store text at old new))
     (λ at. AtEach stands (λ config store. LeavesBefore (IsSound config) config 1 store text at old new))
     ⊥ written
-text_fault stands text old new written (BadTrace at kind) facts = λ config store there. prints_stop config 1 store text at kind old new (facts config store there)
-text_fault stands text old new written (HeapFull at) facts = facts
-text_fault stands text old new written (NoMemory at) facts = facts
-text_fault stands text old new written ReadFailed facts = facts
-text_fault stands text old new written WriteFailed facts = facts
+text_fault wants stands text old new written (BadTrace at kind) facts = λ config store there. prints_stop config 1 store text at kind old new (facts config store there)
+text_fault wants stands text old new written (HeapFull at) facts = facts
+text_fault wants stands text old new written (NoMemory at) facts = facts
+text_fault wants stands text old new written ReadFailed facts = facts
+text_fault wants stands text old new written WriteFailed facts = facts

@@ -1,7 +1,7 @@
 -- What a trace prints, line by line, and why a run of it stops.
 pub mod Pieces
 pub mod Outcome
-pub mod Refusals
+pub mod Sound
 pub mod Carried
 pub mod Stepped
 pub mod Faults

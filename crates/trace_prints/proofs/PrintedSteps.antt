@@ -11,10 +11,13 @@ use Rattle.model.specs.Commands.{Collect, Census}
 use Rattle.heap.specs.HeapValue.{HeapValue}
 use Rattle.heap.specs.Commands.{heap_census}
 use Rattle.heap.specs.CollectionValue.{young_names}
-use Rattle.heap.specs.ReportValue.{WorkerLists, renaming_of}
-use Rattle.collector.specs.Collects.{CollectsAlone}
+use Rattle.heap.specs.ReportValue.{WorkerLists, all_won, renaming_of}
+use Rattle.heap_data.specs.declared.report.Delivery.{Delivery}
+use Rattle.collector.specs.Collects.{CollectsAlone, IsShortOfBlocks}
 use Rattle.trace_lines.specs.Outcome.{command_step}
 use Rattle.trace_lines.specs.Stepped.{StepsTo}
+use Rattle.trace_session.specs.Refusals.{CommandMayBeFull}
+use Rattle.store_places.specs.Made as made_by
 use Rattle.store_places.specs.Stands.{StandsFor}
 use Rattle.store_places.proofs.PlacedCollected.{placed_collected, named_collected, place'}
 use Rattle.store_places.proofs.CountsSame.{same_census, kept_is, freed_is}
@@ -31,18 +34,20 @@ module _ (heap : HeapValue) (names : List (List ℕ × ℕ)) (config : Config) (
         held = subst (λ c. Appends old new (census_text c)) same held;
       }
 
-  pub steps_collect : (g kept freed : ℕ) (workers : List WorkerLists) (heap' : HeapValue) (old new : Option (List ℕ)) → CollectsAlone heap g kept freed workers heap' → g < heap.config.shape.generations → Appends old new (collection_line (codes "collected") g kept freed) → StepsTo (StandsFor heap' names) config (command_step config store (Collect g)) old new
-  steps_collect g kept freed workers heap' old new collects in_range held =
+  pub steps_collect : (g kept freed : ℕ) (workers : List WorkerLists) (deliveries : List Delivery) (heap' : HeapValue) (old new : Option (List ℕ)) → CollectsAlone heap g kept freed workers deliveries heap' → g < heap.config.shape.generations → Appends old new (collection_line (codes "collected") g kept freed) → StepsTo (StandsFor heap' names) config (command_step config store (Collect g)) old new
+  steps_collect g kept freed workers deliveries heap' old new alone in_range held =
+      let collects = alone.collects in
       let known : nat_lt g config.shape.generations ≡ true = lt-ltb g config.shape.generations (rw (← stands.config_is) in_range) in
       let kept_same = kept_is store stands.place heap.graph names stands.placed stands.names_are g kept collects.kept_is in
       let freed_same = freed_is store stands.place heap.graph names stands.placed stands.names_are g kept freed collects.kept_is collects.freed_is in
-      let places = renaming_of (young_names heap.graph g) collects.lists.won in
+      let places = renaming_of (young_names heap.graph g) (all_won workers) in
       let moved = subst (λ c. Collected c.shape c.block_words heap.graph g places heap'.graph) stands.config_is collects.heap.graph in
       record {
         next = collected config g store;
         out = collection_line (codes "collected") g (kept_count store g) (freed_count store g);
         steps = rw known refl;
         stands' = record {
+          made = made_by.collected g kept freed workers deliveries stands.made alone;
           config_is = collects.heap.config ∙ stands.config_is;
           rooms_are = collects.heap.rooms ∙ ap full_rooms stands.config_is;
           place = place' config g store stands.place heap.graph heap'.graph names stands.placed stands.names_are _ moved;
@@ -52,4 +57,13 @@ module _ (heap : HeapValue) (names : List (List ℕ × ℕ)) (config : Config) (
         held =
             subst (λ k. Appends old new (collection_line (codes "collected") g k (freed_count store g))) kept_same
             (subst (λ f. Appends old new (collection_line (codes "collected") g kept f)) freed_same held);
+      }
+
+  -- where the heap is short of blocks a collection may be refused
+  pub collect_full : (g : ℕ) → g < heap.config.shape.generations → IsShortOfBlocks heap g → CommandMayBeFull config store (Collect g)
+  collect_full g in_range short =
+      let known : nat_lt g config.shape.generations ≡ true = lt-ltb g config.shape.generations (rw (← stands.config_is) in_range) in
+      record {
+        sound = rw known refl;
+        wants = record { heap = heap; names = names; stands = stands; short = short };
       }

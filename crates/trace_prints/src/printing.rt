@@ -6,8 +6,9 @@ ghost use Rattle.model.specs.Commands as meant;
 ghost use Rattle.model.specs.Commands.{Collect, Census};
 ghost use Rattle.trace_lines.specs.Faults.{MatchFault};
 ghost use Rattle.trace_lines.specs.Outcome.{command_step};
-ghost use Rattle.trace_lines.specs.Refusals.{IsSoundCommand, CommandMayBeFull};
+ghost use Rattle.trace_lines.specs.Sound.{IsSoundCommand};
 ghost use Rattle.trace_lines.specs.Stepped.{AtEach, StepsTo};
+ghost use Rattle.trace_session.specs.Refusals.{CommandMayBeFull};
 ghost use Rattle.trace_session.specs.Session.{Stands};
 
 use byte_streams::Sink;

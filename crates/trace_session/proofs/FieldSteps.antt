@@ -15,10 +15,11 @@ use Rattle.model.specs.Commands.{Set, Put, Outcome, with_object, silent, on_targ
 use Rattle.heap.specs.HeapValue.{HeapValue}
 use Rattle.heap.specs.Commands.{Changes, HasPointer, HasPlain, IsValue, value_at, rooted_object}
 use Rattle.trace_lines.specs.Outcome.{command_step, narrowed}
-use Rattle.trace_lines.specs.Refusals.{IsSoundCommand}
+use Rattle.trace_lines.specs.Sound.{IsSoundCommand}
 use Rattle.trace_lines.specs.Stepped.{StepsQuietly}
 use Rattle.trace_session.specs.Targets.{IsRootOf, IsUnknown}
 use Rattle.trace_names.specs.NamesView.{named}
+use Rattle.store_places.specs.Made.{MadeByCalls, stored, written}
 use Rattle.store_places.specs.Stands.{StandsFor, renamed_object, LeadsTo}
 use Rattle.trace_names.proofs.NamedLemmas.{one_value}
 use Rattle.store_places.proofs.PlacedChanged.{placed_changed, named_changed}
@@ -107,8 +108,8 @@ module _ (heap : HeapValue) (names : List (List ℕ × ℕ)) (config : Config) (
         (order i (length o.pointers))
 
     -- the heap with a changed object stands for the store with the same change
-    changed : (change : Object → Object) (o' : Object) → change (renamed_object place o) ≡ renamed_object place o' → ((target : ℕ) → has (targets o') target ≡ true → (p : Object) × (object_at store target ≡ Some p)) → (heap' : HeapValue) → Changes heap root change heap' → StandsFor heap' names config (with_object leads.name o' store)
-    changed change o' alike leads_to heap' changes =
+    changed : (change : Object → Object) (o' : Object) → change (renamed_object place o) ≡ renamed_object place o' → ((target : ℕ) → has (targets o') target ≡ true → (p : Object) × (object_at store target ≡ Some p)) → (heap' : HeapValue) → MadeByCalls heap' → Changes heap root change heap' → StandsFor heap' names config (with_object leads.name o' store)
+    changed change o' alike leads_to heap' is_made changes =
         let at : changes.name ≡ place leads.name = one_value (root_at heap.graph root) changes.name (place leads.name) changes.root_is leads.root_is in
         let object_is : changes.object ≡ renamed_object place o =
         one_value (graph.object_at heap.graph (place leads.name)) changes.object (renamed_object place o)
@@ -120,6 +121,7 @@ module _ (heap : HeapValue) (names : List (List ℕ × ℕ)) (config : Config) (
         ∙ ap (λ x. record heap { graph = graph.with_object heap.graph (place leads.name) x }) alike in
         subst (λ h. StandsFor h names config (with_object leads.name o' store)) (sym heap_is)
         (record {
+          made = subst MadeByCalls heap_is is_made;
           config_is = stands.config_is;
           rooms_are = stands.rooms_are;
           place = place;
@@ -154,7 +156,7 @@ module _ (heap : HeapValue) (names : List (List ℕ × ℕ)) (config : Config) (
                 changed (λ x. with_pointer x i (value_at heap.graph r)) (with_pointer o i v.value)
                 (ap (with_pointer (renamed_object place o) i) v.heap_value ∙ renamed_pointer place o i v.value)
                 (λ t points. ⊎_elim (λ e. v.leads_to t e) (λ before. stands.placed.closed leads.name t o leads.there before) (pointer_led o i v.value t points))
-                heap' changes;
+                heap' (stored root i r stands.made v.known changes) changes;
           }
 
       pub set_sound : (r : Option ℕ) → IsRootOf names target r → HasPointer heap.graph root i → IsSoundCommand config store (Set text i target)
@@ -185,5 +187,5 @@ module _ (heap : HeapValue) (names : List (List ℕ × ℕ)) (config : Config) (
             steps = rw (leads.named_is, leads.there, known) refl;
             stands' =
                 changed (λ x. record x { plain = slice_set x.plain i value }) (record o { plain = slice_set o.plain i value }) refl
-                (λ t points. stands.placed.closed leads.name t o leads.there points) heap' changes;
+                (λ t points. stands.placed.closed leads.name t o leads.there points) heap' (written root i value stands.made changes) changes;
           }

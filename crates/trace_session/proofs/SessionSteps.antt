@@ -18,6 +18,7 @@ use Rattle.heap_data.specs.declared.root_id.RootId.{RootId}
 use Rattle.trace_lines.specs.Outcome.{command_step}
 use Rattle.trace_lines.specs.Stepped.{StepsQuietly}
 use Rattle.trace_names.specs.NamesView.{named}
+use Rattle.store_places.specs.Made.{MadeByCalls, made, allocated, released}
 use Rattle.store_places.specs.Stands.{StandsFor, IsPlaced, IsNamed}
 use Rattle.trace_names.proofs.NamedLemmas.{added, dropped, none_is_some}
 use Rattle.store_places.proofs.PlacedNew.{placed_new, place_with}
@@ -30,6 +31,7 @@ StandsFor-empty config heap names heap_is names_are =
     subst (λ n. StandsFor heap n config (empty_store config)) (sym names_are)
     (subst (λ h. StandsFor h [] config (empty_store config)) (sym heap_is)
     (record {
+      made = made config;
       config_is = refl;
       rooms_are = refl;
       place = λ n. n;
@@ -105,6 +107,7 @@ module _ (heap : HeapValue) (names : List (List ℕ × ℕ)) (config : Config) (
             subst (λ n. StandsFor heap' n config next) (sym names_are)
             (subst (λ h. StandsFor h (added names text root) config next) (sym allocates.change)
             (record {
+              made = subst MadeByCalls allocates.change (allocated m p q root stands.made allocates);
               config_is = stands.config_is;
               rooms_are = ap (λ rooms. slice_set rooms m room) stands.rooms_are;
               place = place_with stands.place (length store.objects) allocates.name;
@@ -131,6 +134,7 @@ module _ (heap : HeapValue) (names : List (List ℕ × ℕ)) (config : Config) (
             subst (λ n. StandsFor heap' n config (without_name text store)) (sym names_are)
             (subst (λ h. StandsFor h (dropped names text) config (without_name text store)) (sym heap_is)
             (record {
+              made = released root stands.made;
               config_is = stands.config_is;
               rooms_are = stands.rooms_are;
               place = stands.place;

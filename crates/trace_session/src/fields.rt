@@ -5,7 +5,7 @@ ghost use Rattle.model.specs.Commands.{Set, Put, target_of};
 ghost use Rattle.heap.specs.Commands.{HasPointer};
 ghost use Rattle.trace_lines.specs.Faults.{MatchFault};
 ghost use Rattle.trace_lines.specs.Outcome.{command_step};
-ghost use Rattle.trace_lines.specs.Refusals.{IsSoundCommand};
+ghost use Rattle.trace_lines.specs.Sound.{IsSoundCommand};
 ghost use Rattle.trace_session.specs.Session.{Stands};
 ghost use Rattle.trace_lines.specs.Stepped.{AtEach, StepsQuietly};
 ghost use Rattle.trace_session.specs.Targets.{IsRootOf, IsUnknown};

@@ -4,8 +4,9 @@ ghost use Rattle.model.specs.Store.{empty_store};
 ghost use Rattle.model.specs.Commands.{New, Drop};
 ghost use Rattle.trace_lines.specs.Faults.{MatchFault};
 ghost use Rattle.trace_lines.specs.Outcome.{command_step};
-ghost use Rattle.trace_lines.specs.Refusals.{IsSoundCommand, CommandMayBeFull};
+ghost use Rattle.trace_lines.specs.Sound.{IsSoundCommand};
 ghost use Rattle.trace_lines.specs.Stepped.{AtEach, StepsQuietly};
+ghost use Rattle.trace_session.specs.Refusals.{CommandMayBeFull};
 
 use heap::{AllocateError, Config, Heap, MakeError};
 use model::Kind;

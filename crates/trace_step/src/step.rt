@@ -4,8 +4,9 @@ ghost use Rattle.model.specs.Commands.{command_of};
 ghost use Rattle.trace_text.specs.Answer.{IsKnown};
 ghost use Rattle.trace_lines.specs.Faults.{MatchFault};
 ghost use Rattle.trace_lines.specs.Outcome.{line_step, command_step};
-ghost use Rattle.trace_lines.specs.Refusals.{IsSound, MayBeFull, IsSoundCommand, CommandMayBeFull};
+ghost use Rattle.trace_lines.specs.Sound.{IsSound, IsSoundCommand};
 ghost use Rattle.trace_lines.specs.Stepped.{AtEach, StepsTo};
+ghost use Rattle.trace_session.specs.Refusals.{MayBeFull, CommandMayBeFull};
 ghost use Rattle.trace_session.specs.Session.{Stands};
 
 use byte_streams::Sink;

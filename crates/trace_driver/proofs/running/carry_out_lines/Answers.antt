@@ -1,5 +1,6 @@
 use Rattle.std.proofs.Common.{refl, arith, length, length-append, ap, ◌∙◌}
 use Rattle.trace_lines.proofs.CarriedLemmas.{CarriesOut-none, line_joins, fault_of_line}
+use Rattle.trace_session.specs.Refusals.{MayBeFull}
 use Rattle.trace_driver.proofs.running.carry_out_lines.Goals as goal
 
 pub loop-line-init : goal.loop-line-init
@@ -11,7 +12,7 @@ loop-line-init g c = record {
 
 pub returns-in-Err-clause-err : goal.returns-in-Err-clause-err
 returns-in-Err-clause-err g c =
-    fault_of_line _ _ _ _ _ _ _ _ c.loop-line.invariant.carries _ _ c.in-Some.ensures.some c.in-Some.ensures.first g.W.Sink.contents _ _ _ c.in-Err.fault refl
+    fault_of_line _ _ _ _ _ _ _ _ c.loop-line.invariant.carries _ _ c.in-Some.ensures.some c.in-Some.ensures.first MayBeFull g.W.Sink.contents _ _ _ c.in-Err.fault refl
     (rw (← c.loop-line.invariant.writes) c.in-Err.ensures.err)
 
 pub loop-line-preserved : goal.loop-line-preserved

@@ -1,9 +1,19 @@
-use Rattle.std.proofs.Common.{ap, arith}
-use Rattle.trace_prints.proofs.PrintedSteps.{steps_collect}
+use Rattle.std.proofs.Common.{Err, refl, ap, arith}
+use Rattle.trace_prints.proofs.PrintedSteps.{steps_collect, collect_full}
 use Rattle.trace_prints.proofs.printing.collect.Goals as goal
 
 pub returns-in-Ok-write_collection-clause-ok : goal.returns-in-Ok-write_collection-clause-ok
 returns-in-Ok-write_collection-clause-ok g c = λ config store stands.
-    steps_collect _ _ config store stands c.args.generation _ _ _ _ _ _ c.in-Ok-collect_one.ensures.ok
+    steps_collect _ _ config store stands c.args.generation _ _ _ _ _ _ _ c.in-Ok-collect_one.ensures.ok
     (omega (arith, c.if-generation-generations.false, c.generations.ensures.value, ap (λ x. x.shape.generations) c.config.ensures))
     c.in-Ok-write_collection.ensures.bytes
+
+pub returns-in-Err-HeapFull-clause-err : goal.returns-in-Err-HeapFull-clause-err
+returns-in-Err-HeapFull-clause-err g c = (
+  refl,
+  λ config store stands.
+      collect_full _ _ config store stands c.args.generation
+      (omega (arith, c.if-generation-generations.false, c.generations.ensures.value, ap (λ x. x.shape.generations) c.config.ensures))
+      (c.in-Err-HeapFull.ensures.full (ap (λ e. Err e) c.in-Err-HeapFull.field-0-is)),
+  refl,
+)

@@ -1,0 +1,18 @@
+-- The heaps that calls make.
+use Rattle.std.specs.Prelude.{ℕ, List, Option, slice_set}
+use Rattle.model.specs.Graph.{with_pointer, without_root}
+use Rattle.model.specs.Config.{Config}
+use Rattle.heap.specs.HeapValue.{HeapValue, empty_heap}
+use Rattle.heap.specs.Commands.{Allocates, Changes, IsValue, value_at}
+use Rattle.heap.specs.ReportValue.{WorkerLists}
+use Rattle.heap_data.specs.declared.report.Delivery.{Delivery}
+use Rattle.collector.specs.Collects.{CollectsAlone}
+
+-- from a heap with no object on, one call after another, each collection by one worker
+pub data MadeByCalls : HeapValue → Type 0 where
+  made : (config : Config) → MadeByCalls (empty_heap config)
+  allocated : {old new : HeapValue} (mutator p q root : ℕ) → MadeByCalls old → Allocates old mutator p q root new → MadeByCalls new
+  released : {old : HeapValue} (root : ℕ) → MadeByCalls old → MadeByCalls (record old { graph = without_root old.graph root })
+  stored : {old new : HeapValue} (root field : ℕ) (value : Option ℕ) → MadeByCalls old → IsValue old.graph value → Changes old root (λ o. with_pointer o field (value_at old.graph value)) new → MadeByCalls new
+  written : {old new : HeapValue} (root field word : ℕ) → MadeByCalls old → Changes old root (λ o. record o { plain = slice_set o.plain field word }) new → MadeByCalls new
+  collected : {old new : HeapValue} (g kept freed : ℕ) (workers : List WorkerLists) (deliveries : List Delivery) → MadeByCalls old → CollectsAlone old g kept freed workers deliveries new → MadeByCalls new

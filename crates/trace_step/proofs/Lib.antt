@@ -1,0 +1,2 @@
+-- What a line does that is a command.
+pub mod CommandLine
