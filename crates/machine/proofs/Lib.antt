@@ -1,0 +1,13 @@
+pub mod Places
+pub mod Members
+pub mod Alone
+pub mod Flags
+pub mod Readiness
+pub mod Raced
+pub mod Looked
+pub mod Lanes
+pub mod Handing
+pub mod Beginning
+pub mod Laws
+pub mod Running
+pub mod Choosing
