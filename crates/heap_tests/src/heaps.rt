@@ -1,7 +1,8 @@
-//! Heaps of any size, and collections of them.
+//! Heaps of any size, what is seen of them, and collections of them.
 use collector::{CollectError, collect_one};
-use heap::{AllocateError, Config, Heap, Sizes};
-use std::alloc::Allocator;
+use heap::{AllocateError, Config, Heap, OpenError, Sizes};
+use heap_text::{Counted, write_census};
+use std::alloc::{Allocator, Global};
 use std::test::Fail;
 
 /// Sizes with one generation.
@@ -55,4 +56,23 @@ pub(crate) fn collected<A: Allocator + Clone>(
 ) -> Result<(u64, u64), CollectError> {
     let report = collect_one(alloc, heap, 0)?;
     Ok((report.kept, report.freed))
+}
+
+/// The lines of a heap's census.
+pub(crate) fn census_of<A: Allocator + Clone>(
+    alloc: Global,
+    heap: &Heap<A>,
+) -> Result<Vec<u8>, Fail> {
+    let mut writer = Counted {
+        inner: Vec::new(alloc),
+        failed_writes: 0,
+    };
+    write_census(alloc, &heap.census(), &mut writer)?;
+    Ok(writer.inner)
+}
+
+/// How many blocks are free where a collection opens.
+pub(crate) fn free_count(alloc: Global, heap: &Heap<Global>) -> Result<usize, OpenError> {
+    let collection = heap.open_collection(alloc, 0)?;
+    Ok(collection.free().len())
 }

@@ -4,6 +4,8 @@
 #[cfg(test)]
 mod collections;
 #[cfg(test)]
+mod free_blocks;
+#[cfg(test)]
 mod heaps;
 #[cfg(test)]
 mod pointers;

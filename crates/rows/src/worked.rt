@@ -89,6 +89,53 @@ fn heap_full_in_collection(rt: HostRuntime) {
     );
 }
 
+/// Eight objects of 16 words, for which two blocks of 64 words suffice.
+const EIGHT_OBJECTS: &[u8] =
+    b"new a 0 0 15\nnew b 0 0 15\nnew c 0 0 15\nnew d 0 0 15\nnew e 0 0 15\nnew f 0 0 15
+new g 0 0 15\nnew h 0 0 15\ncollect 0\n";
+
+#[test]
+fn eight_objects_in_two_blocks(rt: HostRuntime) {
+    assert_run(
+        &rt,
+        rt.alloc(),
+        &with_blocks("4"),
+        EIGHT_OBJECTS,
+        b"collected 0: 8 kept, 0 freed\n",
+        b"",
+        0,
+    );
+}
+
+#[test]
+fn empty_block_returns(rt: HostRuntime) {
+    let words = [
+        "gctrace",
+        "run",
+        "--generations=1",
+        "--block-words=64",
+        "--nursery=1",
+        "--blocks=3",
+    ];
+    assert_run(
+        &rt,
+        rt.alloc(),
+        &words,
+        b"new a 0 1 0\nset a 0 a\ncollect 0\nheap\ncollect 0\ncollect 0\ndrop a\ncollect 0\ncollect 0\nnew b 0 0 0\ncollect 0\n",
+        b"collected 0: 1 kept, 0 freed
+root a #1
+#1 gen 0 step 0 ptrs [#1] words []
+collected 0: 1 kept, 0 freed
+collected 0: 1 kept, 0 freed
+collected 0: 0 kept, 1 freed
+collected 0: 0 kept, 0 freed
+collected 0: 1 kept, 0 freed
+",
+        b"",
+        0,
+    );
+}
+
 #[test]
 fn bad_configuration(rt: HostRuntime) {
     assert_run(

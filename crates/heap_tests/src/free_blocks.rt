@@ -1,0 +1,267 @@
+//! Collections with each number of free blocks, from none to as many as suffice in any order.
+use crate::heaps::{census_of, collected, free_count, heap_of};
+use collector::CollectError;
+use heap::{Heap, RootId};
+use heap_text::{Counted, Name, write_heap};
+use std::alloc::Global;
+use std::process::Abort;
+use std::test::Fail;
+
+/// Objects to be collected, of which the top one has a root and 16 words, and leads to the others and to itself. They are
+/// copied in the order in which they are made.
+#[derive(Clone, Copy)]
+struct Group {
+    /// The pointers and words of the others.
+    others: &'static [(u64, u64)],
+    kept: u64,
+    /// How many blocks of 64 words they fill in that order. A nursery of so many holds them.
+    blocks: u64,
+    /// How many free blocks suffice in any order: a block is left only with 49 words in it at least.
+    bound: u64,
+}
+
+/// One object of 16 words.
+const SINGLE: Group = Group {
+    others: &[],
+    kept: 1,
+    blocks: 1,
+    bound: 1,
+};
+
+/// Eight objects of 16 words, which leave no word of two blocks.
+const EIGHT: Group = Group {
+    others: &[
+        (15, 0),
+        (1, 14),
+        (1, 14),
+        (1, 14),
+        (1, 14),
+        (1, 14),
+        (1, 14),
+    ],
+    kept: 8,
+    blocks: 2,
+    bound: 3,
+};
+
+/// 16, 16, 16 and 1 word, three times, and 16, 16, 16: 195 words, of which each block but the last has 49.
+const LOOSE: Group = Group {
+    others: &[
+        (1, 14),
+        (15, 0),
+        (0, 0),
+        (1, 14),
+        (1, 14),
+        (1, 14),
+        (0, 0),
+        (1, 14),
+        (1, 14),
+        (1, 14),
+        (0, 0),
+        (1, 14),
+        (1, 14),
+        (1, 14),
+    ],
+    kept: 15,
+    blocks: 4,
+    bound: 4,
+};
+
+/// Lets a field of `top` lead to a new object of these sizes, which leads back where it has a pointer, and has no root.
+fn add_other(
+    heap: &mut Heap<Global>,
+    top: RootId,
+    field: u64,
+    pointers: u64,
+    words: u64,
+) -> Result<(), Fail> {
+    let other = heap.allocate(0, pointers, words)?;
+    heap.store(top, field, Some(other))?;
+    if pointers > 0 {
+        heap.store(other, 0, Some(top))?;
+    }
+    Ok(heap.release(other)?)
+}
+
+/// Adds a group, and tells its root.
+fn add_group(heap: &mut Heap<Global>, group: Group) -> Result<RootId, Fail> {
+    let top = heap.allocate(0, 15, 0)?;
+    for (field, (pointers, words)) in group.others.iter().enumerate() {
+        add_other(heap, top, field as u64, *pointers, *words)?;
+    }
+    heap.store(top, 14, Some(top))?;
+    Ok(top)
+}
+
+/// A group in a heap with so many free blocks.
+fn group_in_nursery(
+    alloc: Global,
+    group: Group,
+    free: u64,
+) -> Result<(Heap<Global>, RootId), Fail> {
+    let blocks = group.blocks.saturating_add(free);
+    let mut heap = heap_of(alloc, 64, group.blocks, blocks)?;
+    let top = add_group(&mut heap, group)?;
+    Ok((heap, top))
+}
+
+/// A group that a collection has moved out of the nursery, in a heap with so many free blocks.
+fn group_moved(alloc: Global, group: Group, free: u64) -> Result<(Heap<Global>, RootId), Fail> {
+    let (mut heap, top) = group_in_nursery(alloc, group, group.blocks.saturating_add(free))?;
+    let _counts = collected(alloc, &mut heap)?;
+    Ok((heap, top))
+}
+
+/// The text of all that a root leads to.
+fn text_of(alloc: Global, heap: &Heap<Global>, root: RootId) -> Result<Vec<u8>, Fail> {
+    if heap.target(root).is_none() {
+        return Err(Fail::from("no such root"));
+    }
+    let mut writer = Counted {
+        inner: Vec::new(alloc),
+        failed_writes: 0,
+    };
+    write_heap(alloc, heap, &[Name { text: b"top", root }], &mut writer)?;
+    Ok(writer.inner)
+}
+
+/// The census, and the text of all that a root leads to.
+fn seen(alloc: Global, heap: &Heap<Global>, root: RootId) -> Result<(Vec<u8>, Vec<u8>), Fail> {
+    let census = census_of(alloc, heap)?;
+    let text = text_of(alloc, heap, root)?;
+    Ok((census, text))
+}
+
+/// How a collection of the group ends, where so many blocks are free.
+fn answer_of(group: Group, free: u64) -> Result<(u64, u64), CollectError> {
+    if free < group.blocks {
+        return Err(CollectError::HeapFull);
+    }
+    Ok((group.kept, 0))
+}
+
+/// Asserts that a collection keeps the group where it has blocks enough, and else refuses and leaves it where it stands.
+fn assert_answer(
+    rt: &impl Abort,
+    alloc: Global,
+    heap: &mut Heap<Global>,
+    top: RootId,
+    group: Group,
+    free: u64,
+) {
+    let place = heap.target(top);
+    let answer = collected(alloc, heap);
+    assert_eq!(rt; answer, answer_of(group, free));
+    assert!(rt; answer.is_ok() || heap.target(top) == place);
+}
+
+/// Collects a group with so many free blocks, and asserts that what is seen of it stays.
+fn assert_collection(
+    rt: &impl Abort,
+    alloc: Global,
+    heap: &mut Heap<Global>,
+    top: RootId,
+    group: Group,
+    free: u64,
+) -> Result<(), Fail> {
+    assert_eq!(rt; free_count(alloc, heap), Ok(free as usize));
+    let before = seen(alloc, heap, top)?;
+    assert_answer(rt, alloc, heap, top, group, free);
+    assert!(rt; seen(alloc, heap, top)? == before);
+    Ok(())
+}
+
+/// Gives the group up, and asserts that it goes, however few blocks are free.
+fn assert_goes(
+    rt: &impl Abort,
+    alloc: Global,
+    heap: &mut Heap<Global>,
+    top: RootId,
+    group: Group,
+) -> Result<(), Fail> {
+    heap.release(top)?;
+    assert_eq!(rt; collected(alloc, heap), Ok((0, group.kept)));
+    Ok(())
+}
+
+fn assert_from_nursery(
+    rt: &impl Abort,
+    alloc: Global,
+    group: Group,
+    free: u64,
+) -> Result<(), Fail> {
+    let (mut heap, top) = group_in_nursery(alloc, group, free)?;
+    assert_collection(rt, alloc, &mut heap, top, group, free)?;
+    assert_goes(rt, alloc, &mut heap, top, group)
+}
+
+fn assert_moved_again(rt: &impl Abort, alloc: Global, group: Group, free: u64) -> Result<(), Fail> {
+    let (mut heap, top) = group_moved(alloc, group, free)?;
+    assert_collection(rt, alloc, &mut heap, top, group, free)?;
+    assert_goes(rt, alloc, &mut heap, top, group)
+}
+
+#[test]
+fn each_number_of_free_blocks(rt: HostRuntime) -> Result<(), Fail> {
+    for group in [SINGLE, EIGHT, LOOSE] {
+        for free in 0..=group.bound {
+            assert_from_nursery(&rt, rt.alloc(), group, free)?;
+            assert_moved_again(&rt, rt.alloc(), group, free)?;
+        }
+    }
+    Ok(())
+}
+
+/// Fills four blocks of the nursery with 16 dead objects.
+fn add_dead(heap: &mut Heap<Global>) -> Result<(), Fail> {
+    for _object in 0..16 {
+        let dead = heap.allocate(0, 0, 15)?;
+        heap.release(dead)?;
+    }
+    Ok(())
+}
+
+/// Collects a group and dead objects, and asserts that as many blocks are free as before.
+fn assert_turn(rt: &impl Abort, alloc: Global, heap: &mut Heap<Global>) -> Result<(), Fail> {
+    add_dead(heap)?;
+    assert_eq!(rt; free_count(alloc, heap), Ok(4));
+    assert_eq!(rt; collected(alloc, heap), Ok((15, 16)));
+    Ok(())
+}
+
+#[test]
+fn blocks_come_back(rt: HostRuntime) -> Result<(), Fail> {
+    let (mut heap, _top) = group_moved(rt.alloc(), LOOSE, 4)?;
+    for _turn in 0..20 {
+        assert_turn(&rt, rt.alloc(), &mut heap)?;
+    }
+    Ok(())
+}
+
+/// Makes four fields of the top object nil, which lead to the last four of eight.
+fn cut_half(heap: &mut Heap<Global>, top: RootId) -> Result<(), Fail> {
+    for field in 3..7 {
+        heap.store(top, field, None)?;
+    }
+    Ok(())
+}
+
+/// Asserts that the one free block is free again after a refusal, and takes four objects.
+fn assert_half_fits(
+    rt: &impl Abort,
+    alloc: Global,
+    heap: &mut Heap<Global>,
+    top: RootId,
+) -> Result<(), Fail> {
+    assert_eq!(rt; collected(alloc, heap), Err(CollectError::HeapFull));
+    assert_eq!(rt; free_count(alloc, heap), Ok(1));
+    cut_half(heap, top)?;
+    assert_eq!(rt; collected(alloc, heap), Ok((4, 4)));
+    Ok(())
+}
+
+#[test]
+fn refused_collection_gives_its_block_back(rt: HostRuntime) -> Result<(), Fail> {
+    let (mut heap, top) = group_in_nursery(rt.alloc(), EIGHT, 1)?;
+    assert_half_fits(&rt, rt.alloc(), &mut heap, top)
+}
