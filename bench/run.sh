@@ -1,7 +1,10 @@
 #!/usr/bin/env bash
 # Measures gctrace on one processor, beside a plain collector of the same traces (plain.rs, which rustc builds): objects
-# copied a second, by traces that are collected again and again; and lines carried out a second, beside what `wc -l` reads
-# of the same file. It builds gctrace first, or takes the program that GCTRACE names. Not part of the tests.
+# copied a second, by traces that are collected again and again, and on a large live tree beside GHC's collector too
+# (live_tree.hs, which ghc builds); and lines carried out a second, beside what `wc -l` reads of the same file. It builds
+# gctrace first, or takes the program that GCTRACE names. Not part of the tests.
+#   run.sh               all of it, which takes some minutes
+#   run.sh live [NODES]  the large live tree alone
 set -eu
 here=$(cd "$(dirname "$0")" && pwd)
 work=$(mktemp -d)
@@ -17,6 +20,11 @@ plain=''
 if command -v rustc > /dev/null; then
   rustc --edition 2021 -O -o "$work/plain" "$here/plain.rs"
   plain=$work/plain
+fi
+ghc=''
+if command -v ghc > /dev/null; then
+  ghc -O -outputdir "$work" -o "$work/live_tree" "$here/live_tree.hs" > /dev/null
+  ghc=$work/live_tree
 fi
 
 # seconds COMMAND.. : wall time of the fastest of five runs
@@ -56,10 +64,44 @@ copies() {
     print "" }'
 }
 
+# live_rate PROGRAM NODES COLLECTIONS: millions of objects a second in the last collections of a trace, by when the lines of
+# these are written
+live_rate() {
+  taskset -c 0 bash -c "$1 \"\$1\"" live "$work/all" | while read -r line; do echo "$EPOCHREALTIME $line"; done | awk -v nodes="$2" -v collections="$3" '
+    $2 == "collected" { ends[++count] = $1 }
+    END { printf "%.2f", nodes * collections / (ends[count] - ends[count - collections]) / 1e6 }'
+}
+
+# ghc_rate NODES COLLECTIONS: the best of five runs
+ghc_rate() {
+  for _ in 1 2 3 4 5; do taskset -c 0 "$ghc" "$1" "$2"; done | awk '$1 > best { best = $1 } END { printf "%.2f", best / 1e6 }'
+}
+
+# live NODES COLLECTIONS
+live() {
+  local own other='' theirs=''
+  "$here/traces.sh" tree "$1" "$2" > "$work/all"
+  own=$(live_rate gctrace "$1" "$2")
+  [ -n "$plain" ] && other=$(live_rate beside "$1" "$2")
+  [ -n "$ghc" ] && theirs=$(ghc_rate "$1" "$2")
+  awk -v nodes="$1" -v own="$own" -v other="$other" -v theirs="$theirs" 'BEGIN {
+    printf "live tree of %d nodes: %.2f million objects a second", nodes, own
+    if (other != "") printf "; plain %.2f, so %.2f of it", other, own / other
+    if (theirs != "") printf "; ghc %.2f, so %.2f of it", theirs, own / theirs
+    else printf "; no ghc here to compare with"
+    print "" }'
+}
+
+if [ "${1:-}" = live ]; then
+  live "${2:-2000000}" 20
+  exit
+fi
+
 copies graph 8000 1000
 copies tree 80000 100
 copies tree 800000 10
 copies mixed 80000 100
+live 2000000 20
 
 "$here/traces.sh" commands 100 > "$work/commands"
 lines=$(wc -l < "$work/commands")
