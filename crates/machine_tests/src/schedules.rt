@@ -1,6 +1,6 @@
 //! Schedules of several workers.
 use heap::{Config, Heap, RootId, Sizes};
-use machine::{Event, Machine, StepError};
+use interleaved::{Event, InterleavedCollection, StepError};
 use std::alloc::Global;
 use std::test::Fail;
 
@@ -74,7 +74,7 @@ fn ran(
     let Ok(collection) = heap.open_collection(alloc, 0) else {
         return Err(Fail::from("not opened"));
     };
-    let mut machine = Machine::new(alloc, heap, &collection, 2)?;
+    let mut machine = InterleavedCollection::new(alloc, heap, &collection, 2)?;
     let answer = machine.run(alloc, heap, &collection, events);
     Ok((answer, machine.next_lawful(heap).is_some()))
 }

@@ -1,0 +1,6 @@
+use Rattle.std.proofs.Common.{map, take}
+use Rattle.interleaved.specs.Events.{event_of, Ran}
+use Rattle.interleaved.proofs.interleaved.InterleavedCollection.run.Given as goal
+
+abbrev pub invariant-loop-i : goal.invariant-loop-i
+invariant-loop-i g l = record { ran : Ran (take l.i (map event_of l.events)) l.fn.self l.self }

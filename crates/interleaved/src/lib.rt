@@ -1,0 +1,21 @@
+//! A collection by several workers on one thread, event by event, in whatever order.
+#![tactic(auto)]
+
+mod doing;
+mod event;
+mod interleaved;
+mod lawful;
+mod member;
+mod new;
+mod next;
+mod queueing;
+mod racing;
+mod resting;
+mod run;
+mod step;
+mod step_error;
+mod taking;
+
+pub use event::Event;
+pub use interleaved::InterleavedCollection;
+pub use step_error::StepError;

@@ -1,0 +1,38 @@
+//! Why an event didn't come.
+use scavenge::LookError;
+use std::alloc::AllocError;
+
+/// Why an event didn't come. The collection is as before.
+#[derive(Clone, Copy, Debug, PartialEq, Eq)]
+pub enum StepError {
+    /// It wasn't lawful.
+    NotLawful,
+    /// A copy needed a block, and all were drawn.
+    HeapFull,
+    NoMemory,
+}
+
+impl From<AllocError> for StepError {
+    ghost use Rattle.interleaved.specs.declared.step_error.StepError.TheVariants.{NoMemory};
+    ghost use Rattle.std.specs.Prelude.{◌≡◌};
+
+    ghost from_gives = { λ _ e. e ≡ NoMemory };
+
+    fn from(_error: AllocError) -> StepError {
+        StepError::NoMemory
+    }
+}
+
+impl From<LookError> for StepError {
+    ghost use Rattle.interleaved.specs.Errors.{refusal_of};
+    ghost use Rattle.std.specs.Prelude.{◌≡◌};
+
+    ghost from_gives = { λ x e. e ≡ refusal_of x };
+
+    fn from(error: LookError) -> StepError {
+        match error {
+            LookError::HeapFull => StepError::HeapFull,
+            LookError::NoMemory => StepError::NoMemory,
+        }
+    }
+}
