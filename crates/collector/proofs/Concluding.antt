@@ -34,9 +34,9 @@ use Rattle.serial_settling.specs.Settling.{IsReportOf, ScansWhatItWon, exports_o
 use Rattle.serial.proofs.OpenBlocks.{none_open}
 use Rattle.serial.proofs.Readiness.{one_destination}
 use Rattle.serial.proofs.Starts.{targets_live}
-use Rattle.collector.specs.Stepping.{IsOf, IsDone, IsFull, HasStepped}
+use Rattle.serial_steps.specs.Stepping.{IsOf, IsDone, IsFull, HasStepped}
 use Rattle.collector.specs.Collects.{is_small_word, won_places, ScansInOrder, RunsAlone, ScansAlone, ScansOnce, CollectsAlone, IsShortOfBlocks}
-use Rattle.collector.proofs.Going.{reached_of}
+use Rattle.serial_steps.proofs.Going.{reached_of}
 
 pub begins : (v : SerialValue) → system_of v ≡ opening (destinations_in v) 1 (targets_in v) v.heap.free → HasStepped v
 begins v e =

@@ -1,3 +1,1 @@
 mod Concluding
-mod Going
-mod Order

@@ -1,4 +1,3 @@
 -- Collections.
 pub mod Collects
 pub mod Errors
-pub mod Stepping

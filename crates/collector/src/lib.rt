@@ -7,14 +7,11 @@ ghost use Rattle.heap_data.specs.SettledValue.{IsSettled};
 ghost use Rattle.serial.specs.IsSerial.{IsReadyToCollect};
 ghost use Rattle.collector.specs.Collects.{CollectsAlone, ScansAlone, ScansOnce, IsShortOfBlocks};
 
-mod events;
-mod running;
-
-use crate::running::run_to_end;
 use heap::{Collection, Heap, OpenError, Report, Settled};
 use scavenge::LookError;
 use serial::SerialCollection;
 use serial_settling::settle;
+use serial_steps::run_to_end;
 use std::alloc::{AllocError, Allocator};
 
 /// Why a collection was not carried out. The heap is as before.

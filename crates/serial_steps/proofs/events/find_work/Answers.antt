@@ -2,8 +2,8 @@ use Rattle.std.proofs.Common.{◌≡◌, ℕ, ◌+◌, true, [], refl, sym, ap, 
 use Rattle.workers.specs.WorkerSteps.{has_open_work}
 use Rattle.serial.specs.SerialValue.{lane_of, waiting_in, setting_in}
 use Rattle.serial.proofs.OpenBlocks.{open_there, none_there}
-use Rattle.collector.proofs.Order.{nothing_left, empty_of}
-use Rattle.collector.proofs.events.find_work.Goals as goal
+use Rattle.serial_steps.proofs.Order.{nothing_left, empty_of}
+use Rattle.serial_steps.proofs.events.find_work.Goals as goal
 
 pub own-requires-clause-work : goal.own-requires-clause-work
 own-requires-clause-work g c =

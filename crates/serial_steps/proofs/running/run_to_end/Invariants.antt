@@ -1,7 +1,7 @@
 use Rattle.std.proofs.Common.{◌≡◌}
-use Rattle.collector.specs.Stepping.{IsOf, HasStepped}
-use Rattle.collector.proofs.Going.{left_to_do}
-use Rattle.collector.proofs.running.run_to_end.Given as goal
+use Rattle.serial_steps.specs.Stepping.{IsOf, HasStepped}
+use Rattle.serial_steps.proofs.Going.{left_to_do}
+use Rattle.serial_steps.proofs.running.run_to_end.Given as goal
 
 abbrev pub invariant-loop-alloc : goal.invariant-loop-alloc
 invariant-loop-alloc g l = record {

@@ -19,7 +19,7 @@ use Rattle.workers.proofs.Reached.{reached_falls, young_covers}
 use Rattle.serial.specs.SerialValue.{SerialValue, Goes, Stays, WantsDraw, system_of, setting_in, targets_in, destinations_in}
 use Rattle.serial.specs.IsSerial.{IsReadyToCollect}
 use Rattle.serial.proofs.Readiness.{room_of}
-use Rattle.collector.specs.Stepping.{IsOf, GoesOn, IsFull, HasStepped}
+use Rattle.serial_steps.specs.Stepping.{IsOf, GoesOn, IsFull, HasStepped}
 
 same_times : (n : ℕ) (xs : List ℕ) → times n xs ≡ times_in n xs
 same_times n [] = refl

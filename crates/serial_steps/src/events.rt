@@ -1,7 +1,7 @@
 //! The events of a collection by one worker, in their order.
 ghost use Rattle.std.specs.Prelude.{◌≡◌, true, false, Ok, Err, OnErr};
 ghost use Rattle.serial.specs.SerialValue.{Stays};
-ghost use Rattle.collector.specs.Stepping.{IsOf, GoesOn, HasNothingInHand, IsDone, IsFull};
+ghost use Rattle.serial_steps.specs.Stepping.{IsOf, GoesOn, HasNothingInHand, IsDone, IsFull};
 
 use heap::{Collection, Heap};
 use scavenge::LookError;

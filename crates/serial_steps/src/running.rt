@@ -1,7 +1,7 @@
 //! One event after another.
 ghost use Rattle.std.specs.Prelude.{◌≡◌, Err, OnOk, OnErr};
 ghost use Rattle.serial.specs.IsSerial.{IsReadyToCollect};
-ghost use Rattle.collector.specs.Stepping.{IsOf, IsDone, IsFull, HasStepped};
+ghost use Rattle.serial_steps.specs.Stepping.{IsOf, IsDone, IsFull, HasStepped};
 
 use crate::events::step;
 use heap::{Collection, Heap};

@@ -3,9 +3,9 @@ use Rattle.heap_data.specs.HeapValue.{HeapValue}
 use Rattle.heap_data.specs.CollectionValue.{CollectionValue}
 use Rattle.serial.specs.SerialValue.{SerialValue}
 use Rattle.serial.specs.IsSerial.{IsReadyToCollect}
-use Rattle.collector.specs.Stepping.{GoesOn}
-use Rattle.collector.proofs.Going.{less_left, one_more, still_of}
-use Rattle.collector.proofs.running.run_to_end.Goals as goal
+use Rattle.serial_steps.specs.Stepping.{GoesOn}
+use Rattle.serial_steps.proofs.Going.{less_left, one_more, still_of}
+use Rattle.serial_steps.proofs.running.run_to_end.Goals as goal
 
 pub loop-alloc-smaller : goal.loop-alloc-smaller
 loop-alloc-smaller g c =

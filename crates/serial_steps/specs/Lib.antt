@@ -1,0 +1,2 @@
+-- One event after another.
+pub mod Stepping
