@@ -29,6 +29,7 @@ use Rattle.interleaved.specs.InterleavedValue.{InterleavedValue, MemberValue, qu
 use Rattle.interleaved.specs.IsInterleaved.{IsInterleaved, IsMember, IsFirst, AreFirst, IsLane, begins}
 use Rattle.interleaved.proofs.Places.{length-map}
 use Rattle.interleaved.proofs.Lanes.{places_more}
+use Rattle.interleaved.proofs.Reaching.{reached_first}
 
 at-middle : (xs ys : List ℕ) (x d : ℕ) → slice_index_or (xs ++ x ∷ ys) (length xs) d ≡ x
 at-middle [] ys x d = refl
@@ -167,30 +168,6 @@ module _ (v : InterleavedValue) (ready : IsReadyToCollect v.heap v.collection) (
         };
       }
 
-  pub begun : IsInterleaved v
-  begun =
-      record {
-        ready = ready;
-        some = some;
-        most = most;
-        count = first.count;
-        idlers = idlers ∙ sym (none_idle v.workers) ∙ ap (λ bs. count_by (λ b. b) bs) (sym idle_none);
-        cells = record {
-          fits = fit;
-          passes = ap (λ (x : PlainCellsValue). x.passes) cells;
-          count = ap (λ (x : PlainCellsValue). length x.held) cells ∙ length-replicate v.collection.cells None;
-          shown = λ name number of. ap (λ (x : PlainCellsValue). cell_of (seen v.heap v.collection) (Some name) (place_held x.held number)) cells
-              ∙ ap (cell_of (seen v.heap v.collection) (Some name)) (none_held v.collection.cells number) ∙ ap (λ fs. find nat_cmp name fs) (sym forwarded_none);
-        };
-        draws = record { free = free; seats = seats; seat = ap (λ (s : SeatValue). s.source) draws };
-        queue = record {
-          key = ap (λ (q : PlainQueuesValue CopiesKeyValue). q.key) queues;
-          count = ap length lanes ∙ length-replicate v.workers empty_lane;
-          each = λ u lane e. subst (IsLane u) (in-replicate v.workers empty_lane lane u (ap (λ ls. slice_get ls u) (sym lanes) ∙ e)) (no_lane u);
-        };
-        each = λ t m e. member t m (first.each t m e);
-      }
-
   system : List (ℕ × ℕ) → List ℕ → List Worker → List (List Block) → List (List Block) → List (List (ℕ × ℕ)) → List Bool → List Bool → System
   system forwarded free workers queues exported taken idle ended = record { forwarded = forwarded; free = free; workers = workers; queues = queues; exported = exported; taken = taken; idle = idle; ended = ended }
 
@@ -232,3 +209,28 @@ module _ (v : InterleavedValue) (ready : IsReadyToCollect v.heap v.collection) (
 
       from_zero : (i : ℕ) → i ≡ 0 + i
       from_zero i = omega arith
+
+  pub begun : IsInterleaved v
+  begun =
+      record {
+        ready = ready;
+        some = some;
+        most = most;
+        count = first.count;
+        idlers = idlers ∙ sym (none_idle v.workers) ∙ ap (λ bs. count_by (λ b. b) bs) (sym idle_none);
+        cells = record {
+          fits = fit;
+          passes = ap (λ (x : PlainCellsValue). x.passes) cells;
+          count = ap (λ (x : PlainCellsValue). length x.held) cells ∙ length-replicate v.collection.cells None;
+          shown = λ name number of. ap (λ (x : PlainCellsValue). cell_of (seen v.heap v.collection) (Some name) (place_held x.held number)) cells
+              ∙ ap (cell_of (seen v.heap v.collection) (Some name)) (none_held v.collection.cells number) ∙ ap (λ fs. find nat_cmp name fs) (sym forwarded_none);
+        };
+        draws = record { free = free; seats = seats; seat = ap (λ (s : SeatValue). s.source) draws };
+        queue = record {
+          key = ap (λ (q : PlainQueuesValue CopiesKeyValue). q.key) queues;
+          count = ap length lanes ∙ length-replicate v.workers empty_lane;
+          each = λ u lane e. subst (IsLane u) (in-replicate v.workers empty_lane lane u (ap (λ ls. slice_get ls u) (sym lanes) ∙ e)) (no_lane u);
+        };
+        each = λ t m e. member t m (first.each t m e);
+        reached = reached_first v ready some first_system;
+      }

@@ -8,9 +8,9 @@ use Rattle.workers.proofs.Progress.{count-le}
 use Rattle.interleaved.specs.InterleavedValue.{InterleavedValue, MemberValue, worker_of, system_of, setting_in}
 use Rattle.layout.specs.Place.{IsLargeAt}
 use Rattle.scavenge.specs.Shown.{WorkspaceValue}
-use Rattle.interleaved.specs.IsInterleaved.{IsInterleaved, IsMember, HasWorked}
+use Rattle.interleaved.specs.IsInterleaved.{IsInterleaved, IsMember, HasWorked, HasReached}
 use Rattle.interleaved.proofs.Places.{found, get-map, set-each, length-set, map-set, map-set_same, set-again, index-or, length-map, count-raised, count-lowered}
-use Rattle.interleaved.proofs.Members.{Does, is_in}
+use Rattle.interleaved.proofs.Members.{Does, doing, is_in}
 
 abbrev pub idle_in : MemberValue → Bool
 idle_in m = m.idle
@@ -39,8 +39,8 @@ module _ (v : InterleavedValue) (k : IsInterleaved v) (t : ℕ) (m m' : MemberVa
         worked = subst (λ (w : WorkspaceValue). HasWorked v.heap v.collection v.workers t w.worker) (sym workspace) old.worked;
       }
 
-  pub keeps_flagged : (idlers : ℕ) → idlers ≡ count_by (λ b. b) (slice_set (map idle_in v.members) t m'.idle) → IsInterleaved (flagged v t m' idlers)
-  keeps_flagged idlers is =
+  pub keeps_flagged : (idlers : ℕ) → idlers ≡ count_by (λ b. b) (slice_set (map idle_in v.members) t m'.idle) → HasReached (flagged v t m' idlers) → IsInterleaved (flagged v t m' idlers)
+  keeps_flagged idlers is reached =
       record {
         ready = k.ready;
         some = k.some;
@@ -51,6 +51,7 @@ module _ (v : InterleavedValue) (k : IsInterleaved v) (t : ℕ) (m m' : MemberVa
         draws = k.draws;
         queue = k.queue;
         each = set-each (IsMember v.heap v.collection v.workers) v.members t m' k.each member;
+        reached = reached;
       }
 
   system : List Worker → List (List (ℕ × ℕ)) → List Bool → List Bool → System
@@ -76,23 +77,22 @@ module _ (v : InterleavedValue) (k : IsInterleaved v) (t : ℕ) (m : MemberValue
 
   pub idle_does : IsLawful (setting_in v) (system_of v) (Idle t) → Does (Idle t) v (flagged v t (record m { idle = true }) (v.idlers + 1))
   idle_does lawful =
-      let i = is_in _ v t m is lawful.0 in (
-        keeps_flagged v k t m (record m { idle = true }) i.there refl refl refl (v.idlers + 1)
-            (ap (λ n. n + 1) k.idlers ∙ sym (count-raised (λ b. b) (system_of v).idle t false true i.awake.awake refl refl)),
-        record {
-          heap = refl;
-          collection = refl;
-          workers = refl;
-          step = record {
-            worker = m.workspace.worker;
-            at = i.awake;
-            out = i.can;
-            queue = lawful.1;
-            change = system-flagged v k t m (record m { idle = true }) i.there refl refl refl (v.idlers + 1)
-                ∙ ap (λ es. (let s : System = record (system_of v) { idle = slice_set (system_of v).idle t true; ended = es } in s)) (going i.there);
-          };
-        },
-      )
+      let i = is_in _ v t m is lawful.0 in
+      doing (Idle t) v (flagged v t (record m { idle = true }) (v.idlers + 1)) k (keeps_flagged v k t m (record m { idle = true }) i.there refl refl refl (v.idlers + 1)
+      (ap (λ n. n + 1) k.idlers ∙ sym (count-raised (λ b. b) (system_of v).idle t false true i.awake.awake refl refl)))
+      (record {
+        heap = refl;
+        collection = refl;
+        workers = refl;
+        step = record {
+          worker = m.workspace.worker;
+          at = i.awake;
+          out = i.can;
+          queue = lawful.1;
+          change = system-flagged v k t m (record m { idle = true }) i.there refl refl refl (v.idlers + 1)
+              ∙ ap (λ es. (let s : System = record (system_of v) { idle = slice_set (system_of v).idle t true; ended = es } in s)) (going i.there);
+        };
+      })
 
   pub some_idle : IsLawful (setting_in v) (system_of v) (Wake t) → 1 ≤ v.idlers
   some_idle lawful =
@@ -102,41 +102,39 @@ module _ (v : InterleavedValue) (k : IsInterleaved v) (t : ℕ) (m : MemberValue
 
   pub wake_does : IsLawful (setting_in v) (system_of v) (Wake t) → Does (Wake t) v (flagged v t (record m { idle = false }) (v.idlers - 1))
   wake_does lawful =
-      let i = there_by idle_in true v.members t m is lawful.is_idle in (
-        keeps_flagged v k t m (record m { idle = false }) i.0 refl refl refl (v.idlers - 1)
-            (let c = count-lowered (λ b. b) (system_of v).idle t true false lawful.is_idle refl refl in let e = k.idlers in omega (arith, c, e)),
-        record {
-          heap = refl;
-          collection = refl;
-          workers = refl;
-          step = record {
-            is_idle = lawful.is_idle;
-            not_ended = lawful.not_ended;
-            some_work = lawful.some_work;
-            change = system-flagged v k t m (record m { idle = false }) i.0 refl refl refl (v.idlers - 1)
-                ∙ ap (λ es. (let s : System = record (system_of v) { idle = slice_set (system_of v).idle t false; ended = es } in s)) (going i.0);
-          };
-        },
-      )
+      let i = there_by idle_in true v.members t m is lawful.is_idle in
+      doing (Wake t) v (flagged v t (record m { idle = false }) (v.idlers - 1)) k (keeps_flagged v k t m (record m { idle = false }) i.0 refl refl refl (v.idlers - 1)
+      (let c = count-lowered (λ b. b) (system_of v).idle t true false lawful.is_idle refl refl in let e = k.idlers in omega (arith, c, e)))
+      (record {
+        heap = refl;
+        collection = refl;
+        workers = refl;
+        step = record {
+          is_idle = lawful.is_idle;
+          not_ended = lawful.not_ended;
+          some_work = lawful.some_work;
+          change = system-flagged v k t m (record m { idle = false }) i.0 refl refl refl (v.idlers - 1)
+              ∙ ap (λ es. (let s : System = record (system_of v) { idle = slice_set (system_of v).idle t false; ended = es } in s)) (going i.0);
+        };
+      })
 
   pub end_does : IsLawful (setting_in v) (system_of v) (End t) → Does (End t) v (flagged v t (record m { ended = true }) v.idlers)
   end_does lawful =
-      let i = there_by idle_in true v.members t m is lawful.is_idle in (
-        keeps_flagged v k t m (record m { ended = true }) i.0 refl refl refl v.idlers
-            (k.idlers ∙ ap (λ bs. count_by (λ b. b) bs) (sym (resting i.0))),
-        record {
-          heap = refl;
-          collection = refl;
-          workers = refl;
-          step = record {
-            is_idle = lawful.is_idle;
-            not_ended = lawful.not_ended;
-            all_idle = lawful.all_idle;
-            change = system-flagged v k t m (record m { ended = true }) i.0 refl refl refl v.idlers
-                ∙ ap (λ is. (let s : System = record (system_of v) { idle = is; ended = slice_set (system_of v).ended t true } in s)) (resting i.0);
-          };
-        },
-      )
+      let i = there_by idle_in true v.members t m is lawful.is_idle in
+      doing (End t) v (flagged v t (record m { ended = true }) v.idlers) k (keeps_flagged v k t m (record m { ended = true }) i.0 refl refl refl v.idlers
+      (k.idlers ∙ ap (λ bs. count_by (λ b. b) bs) (sym (resting i.0))))
+      (record {
+        heap = refl;
+        collection = refl;
+        workers = refl;
+        step = record {
+          is_idle = lawful.is_idle;
+          not_ended = lawful.not_ended;
+          all_idle = lawful.all_idle;
+          change = system-flagged v k t m (record m { ended = true }) i.0 refl refl refl v.idlers
+              ∙ ap (λ is. (let s : System = record (system_of v) { idle = is; ended = slice_set (system_of v).ended t true } in s)) (resting i.0);
+        };
+      })
 
   -- no more are idle than there are
   pub few_idle : v.idlers ≤ 16

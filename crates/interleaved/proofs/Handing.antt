@@ -18,7 +18,7 @@ use Rattle.scavenge.specs.Shown.{WorkspaceValue, Begins}
 use Rattle.interleaved.specs.InterleavedValue.{InterleavedValue, MemberValue, Stays, queue_in, exports_in, system_of, setting_in}
 use Rattle.interleaved.specs.IsInterleaved.{IsInterleaved, IsLane, IsMember}
 use Rattle.interleaved.proofs.Places.{found, get-map, get-within, map-set, map-set_same, updated-set, set-again}
-use Rattle.interleaved.proofs.Members.{Does, renewed, renews, system-renewed, taken-same, member_on, is_in}
+use Rattle.interleaved.proofs.Members.{Does, doing, staying, renewed, renews, system-renewed, taken-same, member_on, is_in}
 use Rattle.interleaved.proofs.Lanes.{sent_as, exports_more, queue_more, lane_more, lane_less, queue_next, front_waits, queued_on, own_lane, lane_is, taken_handed, taken_unscanned, each_more}
 
 abbrev pub sharing : InterleavedValue → PlainQueuesValue CopiesKeyValue → ℕ → MemberValue → InterleavedValue
@@ -49,34 +49,33 @@ module _ (v : InterleavedValue) (k : IsInterleaved v) (t : ℕ) (m : MemberValue
         let at : slice_get v.queues.lanes t ≡ Some lane = own_lane v.heap v.collection v.workers v.queues k.queue t (has_lane i.there) in
         let is_lane : IsLane t lane = k.queue.each t lane at in
         let next = member_on v.heap v.collection v.workers t m Exported member i.can (λ h l. l) in
-        let oldest : Begins shape m.workspace.worker.aside b = subst (λ c. Begins c.shape m.workspace.worker.aside b) member.config first in (
-          renews v k t m sender i.there v.cells v.pass v.draws lanes k.cells k.draws (queued_on v.heap v.collection v.workers v.queues k.queue t (with_export lane t b) (lane_more shape t lane b is_lane)) refl
-              (record { seat = next.seat; config = next.config; claim = next.claim; worked = next.worked }),
-          record {
-            heap = refl;
-            collection = refl;
-            workers = refl;
-            step = record {
-              worker = m.workspace.worker;
-              at = i.awake;
-              block = named shape b;
-              rest = oldest.rest;
-              oldest = oldest.is;
-              sent = exports_in shape lane;
-              sent_is = get-map (exports_in shape) v.queues.lanes t lane at;
-              change = system-renewed v v.cells v.pass v.draws lanes t m sender i.there refl refl
-                  ∙ ap (λ ts. (let s : System = record (system_of v) { workers = slice_set (system_of v).workers t (after_aside m.workspace.worker); queues = map (queue_in shape) lanes.lanes; exported = map (exports_in shape) lanes.lanes; taken = ts } in s)) (taken-same v t m i.there)
-                  ∙ ap (λ qs. (let s : System = record (system_of v) { workers = slice_set (system_of v).workers t (after_aside m.workspace.worker); queues = qs; exported = map (exports_in shape) lanes.lanes } in s))
-                  (map-set (queue_in shape) v.queues.lanes t (with_export lane t b)
-                  ∙ ap (slice_set (system_of v).queues t) (queue_more shape t lane b is_lane.taken)
-                  ∙ sym (updated-set (λ q. q ++ sent_as shape t lane b ∷ []) (system_of v).queues t (queue_in shape lane) (get-map (queue_in shape) v.queues.lanes t lane at)))
-                  ∙ ap (λ es. (let s : System = record (system_of v) { workers = slice_set (system_of v).workers t (after_aside m.workspace.worker); queues = updated (λ q. q ++ sent_as shape t lane b ∷ []) (system_of v).queues t; exported = es } in s))
-                  (map-set (exports_in shape) v.queues.lanes t (with_export lane t b)
-                  ∙ ap (slice_set (system_of v).exported t) (exports_more shape t lane b)
-                  ∙ sym (updated-set (λ q. q ++ sent_as shape t lane b ∷ []) (system_of v).exported t (exports_in shape lane) (get-map (exports_in shape) v.queues.lanes t lane at)));
-            };
-          },
-        )
+        let oldest : Begins shape m.workspace.worker.aside b = subst (λ c. Begins c.shape m.workspace.worker.aside b) member.config first in
+        doing (Export t) v (sharing v lanes t sender) k (λ reached. renews v k t m sender i.there v.cells v.pass v.draws lanes k.cells k.draws (queued_on v.heap v.collection v.workers v.queues k.queue t (with_export lane t b) (lane_more shape t lane b is_lane)) refl
+        (record { seat = next.seat; config = next.config; claim = next.claim; worked = next.worked }) reached)
+        (record {
+          heap = refl;
+          collection = refl;
+          workers = refl;
+          step = record {
+            worker = m.workspace.worker;
+            at = i.awake;
+            block = named shape b;
+            rest = oldest.rest;
+            oldest = oldest.is;
+            sent = exports_in shape lane;
+            sent_is = get-map (exports_in shape) v.queues.lanes t lane at;
+            change = system-renewed v v.cells v.pass v.draws lanes t m sender i.there refl refl
+                ∙ ap (λ ts. (let s : System = record (system_of v) { workers = slice_set (system_of v).workers t (after_aside m.workspace.worker); queues = map (queue_in shape) lanes.lanes; exported = map (exports_in shape) lanes.lanes; taken = ts } in s)) (taken-same v t m i.there)
+                ∙ ap (λ qs. (let s : System = record (system_of v) { workers = slice_set (system_of v).workers t (after_aside m.workspace.worker); queues = qs; exported = map (exports_in shape) lanes.lanes } in s))
+                (map-set (queue_in shape) v.queues.lanes t (with_export lane t b)
+                ∙ ap (slice_set (system_of v).queues t) (queue_more shape t lane b is_lane.taken)
+                ∙ sym (updated-set (λ q. q ++ sent_as shape t lane b ∷ []) (system_of v).queues t (queue_in shape lane) (get-map (queue_in shape) v.queues.lanes t lane at)))
+                ∙ ap (λ es. (let s : System = record (system_of v) { workers = slice_set (system_of v).workers t (after_aside m.workspace.worker); queues = updated (λ q. q ++ sent_as shape t lane b ∷ []) (system_of v).queues t; exported = es } in s))
+                (map-set (exports_in shape) v.queues.lanes t (with_export lane t b)
+                ∙ ap (slice_set (system_of v).exported t) (exports_more shape t lane b)
+                ∙ sym (updated-set (λ q. q ++ sent_as shape t lane b ∷ []) (system_of v).exported t (exports_in shape lane) (get-map (exports_in shape) v.queues.lanes t lane at)));
+          };
+        })
 
     -- the call's answers: the workspace let go of the block, and the queue got it
     pub export_does : (new : WorkspaceValue) (queues : PlainQueuesValue CopiesKeyValue) (seat : ℕ) → new ≡ record m.workspace { worker = after_aside m.workspace.worker; spare = true } → queues ≡ after_export v.queues m.seat b → seat ≡ m.seat
@@ -94,18 +93,17 @@ module _ (v : InterleavedValue) (k : IsInterleaved v) (t : ℕ) (m : MemberValue
   put_back at new queues seat n q s =
       subst (λ x. Kept (sharing v queues t (record m { seat = seat; workspace = x }))) (sym n)
       (subst (λ x. Kept (sharing v x t (record m { seat = seat; workspace = record m.workspace { spare = false } }))) (sym q)
-      (subst (λ x. Kept (sharing v v.queues t (record m { seat = x; workspace = record m.workspace { spare = false } }))) (sym s) (
-        renews v k t m spared at v.cells v.pass v.draws v.queues k.cells k.draws k.queue refl
-            (let member : IsMember v.heap v.collection v.workers t m = k.each t m at in record { seat = member.seat; config = member.config; claim = member.claim; worked = member.worked }),
-        record {
-          heap = refl;
-          collection = refl;
-          workers = refl;
-          system = system-renewed v v.cells v.pass v.draws v.queues t m spared at refl refl
-              ∙ ap (λ ts. (let x : System = record (system_of v) { workers = slice_set (system_of v).workers t m.workspace.worker; taken = ts } in x)) (taken-same v t m at)
-              ∙ ap (λ ws. (let x : System = record (system_of v) { workers = ws } in x)) (set-again (system_of v).workers t m.workspace.worker (get-map (λ (x : MemberValue). x.workspace.worker) v.members t m at));
-        },
-      )))
+      (subst (λ x. Kept (sharing v v.queues t (record m { seat = x; workspace = record m.workspace { spare = false } }))) (sym s)
+      (staying v (sharing v v.queues t spared) k (λ reached. renews v k t m spared at v.cells v.pass v.draws v.queues k.cells k.draws k.queue refl
+      (let member : IsMember v.heap v.collection v.workers t m = k.each t m at in record { seat = member.seat; config = member.config; claim = member.claim; worked = member.worked }) reached)
+      (record {
+        heap = refl;
+        collection = refl;
+        workers = refl;
+        system = system-renewed v v.cells v.pass v.draws v.queues t m spared at refl refl
+            ∙ ap (λ ts. (let x : System = record (system_of v) { workers = slice_set (system_of v).workers t m.workspace.worker; taken = ts } in x)) (taken-same v t m at)
+            ∙ ap (λ ws. (let x : System = record (system_of v) { workers = ws } in x)) (set-again (system_of v).workers t m.workspace.worker (get-map (λ (x : MemberValue). x.workspace.worker) v.members t m at));
+      }))))
     where
       Kept : InterleavedValue → Type 0
       Kept next = IsInterleaved next × Stays v next
@@ -147,33 +145,32 @@ module _ (v : InterleavedValue) (k : IsInterleaved v) (t : ℕ) (m : MemberValue
           let next = member_on v.heap v.collection v.workers t m (Took (named m.workspace.config.shape b)) member (i.can, taken_unscanned v.heap v.collection v.workers v.queues k.queue t m member b fact)
           (λ h l. each_more (IsHanded v.heap.graph v.collection.generation v.heap.config.shape v.heap.config.block_words v.workers) h.taken (named m.workspace.config.shape b) l handed) in
           let is_lane : IsLane u source = k.queue.each u source from.there in
-          let shapes : named m.workspace.config.shape b ≡ named shape b = ap (λ c. named c.shape b) member.config in (
-            renews v k t m taker i.there v.cells v.pass v.draws fewer k.cells k.draws (queued_on v.heap v.collection v.workers v.queues k.queue u (with_taker source m.seat (Some b)) (lane_less u source b m.seat front is_lane)) refl
-                (record { seat = next.seat; config = next.config; claim = next.claim; worked = next.worked }),
-            record {
-              heap = refl;
-              collection = refl;
-              workers = refl;
-              step = record {
-                worker = m.workspace.worker;
-                at = i.awake;
-                free = i.can;
-                block = named shape b;
-                rest = queue_in shape (with_taker source m.seat (Some b));
-                front = get-map (queue_in shape) v.queues.lanes u source from.there ∙ ap (λ q. Some q) (queue_next u source b m.seat front shape);
-                position = length source.takers;
-                labelled = label_is;
-                change = system-renewed v v.cells v.pass v.draws fewer t m taker i.there refl refl
-                    ∙ ap (λ x. (let s : System = record (system_of v) { workers = slice_set (system_of v).workers t (after_take_of m.workspace.worker x); queues = map (queue_in shape) fewer.lanes; exported = map (exports_in shape) fewer.lanes; taken = slice_set (system_of v).taken t taker.taken } in s)) shapes
-                    ∙ ap (λ qs. (let s : System = record (system_of v) { workers = slice_set (system_of v).workers t (after_take_of m.workspace.worker (named shape b)); queues = qs; exported = map (exports_in shape) fewer.lanes; taken = slice_set (system_of v).taken t taker.taken } in s))
-                    (map-set (queue_in shape) v.queues.lanes u (with_taker source m.seat (Some b)))
-                    ∙ ap (λ es. (let s : System = record (system_of v) { workers = slice_set (system_of v).workers t (after_take_of m.workspace.worker (named shape b)); queues = slice_set (system_of v).queues u (queue_in shape (with_taker source m.seat (Some b))); exported = es; taken = slice_set (system_of v).taken t taker.taken } in s))
-                    (map-set_same (exports_in shape) v.queues.lanes u source (with_taker source m.seat (Some b)) from.there refl)
-                    ∙ ap (λ ts. (let s : System = record (system_of v) { workers = slice_set (system_of v).workers t (after_take_of m.workspace.worker (named shape b)); queues = slice_set (system_of v).queues u (queue_in shape (with_taker source m.seat (Some b))); taken = ts } in s))
-                    (sym (updated-set (λ l. l ++ (u, length source.takers) ∷ []) (system_of v).taken t m.taken (get-map (λ (x : MemberValue). x.taken) v.members t m i.there)));
-              };
-            },
-          )
+          let shapes : named m.workspace.config.shape b ≡ named shape b = ap (λ c. named c.shape b) member.config in
+          doing (Take t u) v (sharing v fewer t taker) k (λ reached. renews v k t m taker i.there v.cells v.pass v.draws fewer k.cells k.draws (queued_on v.heap v.collection v.workers v.queues k.queue u (with_taker source m.seat (Some b)) (lane_less u source b m.seat front is_lane)) refl
+          (record { seat = next.seat; config = next.config; claim = next.claim; worked = next.worked }) reached)
+          (record {
+            heap = refl;
+            collection = refl;
+            workers = refl;
+            step = record {
+              worker = m.workspace.worker;
+              at = i.awake;
+              free = i.can;
+              block = named shape b;
+              rest = queue_in shape (with_taker source m.seat (Some b));
+              front = get-map (queue_in shape) v.queues.lanes u source from.there ∙ ap (λ q. Some q) (queue_next u source b m.seat front shape);
+              position = length source.takers;
+              labelled = label_is;
+              change = system-renewed v v.cells v.pass v.draws fewer t m taker i.there refl refl
+                  ∙ ap (λ x. (let s : System = record (system_of v) { workers = slice_set (system_of v).workers t (after_take_of m.workspace.worker x); queues = map (queue_in shape) fewer.lanes; exported = map (exports_in shape) fewer.lanes; taken = slice_set (system_of v).taken t taker.taken } in s)) shapes
+                  ∙ ap (λ qs. (let s : System = record (system_of v) { workers = slice_set (system_of v).workers t (after_take_of m.workspace.worker (named shape b)); queues = qs; exported = map (exports_in shape) fewer.lanes; taken = slice_set (system_of v).taken t taker.taken } in s))
+                  (map-set (queue_in shape) v.queues.lanes u (with_taker source m.seat (Some b)))
+                  ∙ ap (λ es. (let s : System = record (system_of v) { workers = slice_set (system_of v).workers t (after_take_of m.workspace.worker (named shape b)); queues = slice_set (system_of v).queues u (queue_in shape (with_taker source m.seat (Some b))); exported = es; taken = slice_set (system_of v).taken t taker.taken } in s))
+                  (map-set_same (exports_in shape) v.queues.lanes u source (with_taker source m.seat (Some b)) from.there refl)
+                  ∙ ap (λ ts. (let s : System = record (system_of v) { workers = slice_set (system_of v).workers t (after_take_of m.workspace.worker (named shape b)); queues = slice_set (system_of v).queues u (queue_in shape (with_taker source m.seat (Some b))); taken = ts } in s))
+                  (sym (updated-set (λ l. l ++ (u, length source.takers) ∷ []) (system_of v).taken t m.taken (get-map (λ (x : MemberValue). x.taken) v.members t m i.there)));
+            };
+          })
 
       -- the call's answers: the queue gave the block, and the workspace has it
       pub take_does : (new : WorkspaceValue) (queues : PlainQueuesValue CopiesKeyValue) (seat : ℕ) (label : ℕ × ℕ) (taken : List (ℕ × ℕ)) → new ≡ record m.workspace { worker = after_take_of m.workspace.worker (named m.workspace.config.shape b) } → queues ≡ after_take v.queues u m.seat (Some b) → seat ≡ m.seat

@@ -3,6 +3,7 @@ pub mod Members
 pub mod Alone
 pub mod Flags
 pub mod Readiness
+pub mod Reaching
 pub mod Raced
 pub mod Looked
 pub mod Lanes

@@ -20,12 +20,16 @@ use Rattle.workers.specs.System as system
 use Rattle.workers.specs.Steps.{IsAwake}
 use Rattle.workers.specs.Lawful.{IsLawful}
 use Rattle.scavenge.specs.Shown.{WorkspaceValue}
+use Rattle.scavenge.specs.declared.look.LookError.{LookError}
+use Rattle.scavenge.specs.declared.look.LookError.TheVariants.{HeapFull, NoMemory}
 use Rattle.scavenge.specs.Slots.{seen, IsUntouched, HasRoomFor, cell_of, IsTold, Looks, WantsBlock, seat_after}
 use Rattle.serial.specs.SerialValue.{left_of}
 use Rattle.serial.proofs.Drawn.{left_contains, left_push}
-use Rattle.interleaved.specs.InterleavedValue.{InterleavedValue, MemberValue, Goes, WantsDraw, system_of, setting_in, forwarded_in, forwarded_at}
-use Rattle.interleaved.specs.IsInterleaved.{IsInterleaved, AreForwarded}
-use Rattle.interleaved.proofs.Members.{Does, renewed, renews, system-renewed, taken-same, member_on, is_in}
+use Rattle.interleaved.specs.InterleavedValue.{InterleavedValue, MemberValue, worker_of, Goes, Stays, WantsDraw, system_of, setting_in, forwarded_in, forwarded_at}
+use Rattle.interleaved.specs.IsInterleaved.{IsInterleaved, AreForwarded, HasReached}
+use Rattle.interleaved.proofs.Places.{get-map, set-again}
+use Rattle.interleaved.proofs.Reaching.{reached_still}
+use Rattle.interleaved.proofs.Members.{Does, doing, renewed, renews, system-renewed, taken-same, member_on, is_in}
 use Rattle.interleaved.proofs.Readiness.{ready_of}
 
 -- what a look relies on, of the heap and the collection that are passed
@@ -82,8 +86,21 @@ module _ (v : InterleavedValue) (k : IsInterleaved v) (t : ℕ) (m : MemberValue
     forwarded = record { fits = fits; passes = k.cells.passes; count = k.cells.count; shown = λ name number of. k.cells.shown name number of ∙ ap (λ fs. find nat_cmp name fs) (sym forwarded_same) }
 
     -- nothing came: more is known, or no block was found
-    stood : IsInterleaved (renewed v v.cells pass draws v.queues t m)
-    stood = renews v k t m m at v.cells pass draws v.queues forwarded (record { free = k.draws.free; seats = k.draws.seats; seat = seat }) k.queue refl (k.each t m at)
+    stood : draws.drawn ≡ v.draws.drawn → IsInterleaved (renewed v v.cells pass draws v.queues t m)
+    stood drawn = renews v k t m m at v.cells pass draws v.queues forwarded (record { free = k.draws.free; seats = k.draws.seats; seat = seat }) k.queue refl (k.each t m at) (reached_still v (renewed v v.cells pass draws v.queues t m) k.reached stays)
+      where
+        stays : Stays v (renewed v v.cells pass draws v.queues t m)
+        stays =
+            record {
+              heap = refl;
+              collection = refl;
+              workers = refl;
+              system = system-renewed v v.cells pass draws v.queues t m m at refl refl
+                  ∙ ap (λ ts. (let s : System = record (system_of v) { workers = slice_set (system_of v).workers t worker; forwarded = forwarded_in v.heap v.collection pass; free = left_of v.claims.source.free draws.drawn; taken = ts } in s)) (taken-same v t m at)
+                  ∙ ap (λ fs. (let s : System = record (system_of v) { workers = slice_set (system_of v).workers t worker; forwarded = fs; free = left_of v.claims.source.free draws.drawn } in s)) forwarded_same
+                  ∙ ap (λ ns. (let s : System = record (system_of v) { workers = slice_set (system_of v).workers t worker; free = left_of v.claims.source.free ns } in s)) drawn
+                  ∙ ap (λ ws. (let s : System = record (system_of v) { workers = ws } in s)) (set-again (system_of v).workers t worker (get-map worker_of v.members t m at));
+            }
 
     module _ (awake : IsAwake (system_of v) t m.workspace.worker) (can : CanLook (setting_in v) worker) (fresh : (n : ℕ) → draws.drawn ≡ v.draws.drawn ++ n ∷ [] → Contains v.claims.source.free n × (Contains v.draws.drawn n → ⊥)) where
       abbrev left : List ℕ
@@ -122,13 +139,13 @@ module _ (v : InterleavedValue) (k : IsInterleaved v) (t : ℕ) (m : MemberValue
             };
           }
 
-      kept : (number : ℕ) → IsInterleaved (looked_to (looked number))
-      kept number =
+      kept : (number : ℕ) → HasReached (looked_to (looked number)) → IsInterleaved (looked_to (looked number))
+      kept number reached =
           renews v k t m (record m { workspace = looked number }) at v.cells pass draws v.queues forwarded (record { free = k.draws.free; seats = k.draws.seats; seat = seat }) k.queue refl
-          (member_on v.heap v.collection v.workers t m (Looked shown number) (k.each t m at) can (λ h l. l))
+          (member_on v.heap v.collection v.workers t m (Looked shown number) (k.each t m at) can (λ h l. l)) reached
 
       looks : (new : WorkspaceValue) → Looks v.heap v.collection Gives (known_by v.pass) (known_by pass) v.draws draws m.workspace new → Does (Look t) v (looked_to new)
-      looks new r = subst (λ (w : WorkspaceValue). Does (Look t) v (looked_to w)) (sym new_is) (kept r.number, went r.number drawn)
+      looks new r = subst (λ (w : WorkspaceValue). Does (Look t) v (looked_to w)) (sym new_is) (doing (Look t) v (looked_to (looked r.number)) k (kept r.number) (went r.number drawn))
         where
           cell : cell_of (setting_in v) wanted r.shown ≡ shown
           cell = told (known_by v.pass) (known_by pass) r.shown wanted r.told
@@ -188,10 +205,14 @@ module _ (v : InterleavedValue) (k : IsInterleaved v) (t : ℕ) (m : MemberValue
         subst (λ (cs : PlainCellsValue). Does (Look t) v (next cs new)) (sym same_cells)
         (looks v k t m i.there pass draws fits_same won seat i.awake i.can fresh new (subst (LooksOn v.heap) same_collection (subst (λ h. LooksOn h c) same_heap r)))
 
-    pub look_keeps : {E : Type 0} (r : Result Bool E) → (r ≡ Ok false → ⊥) → (r ≡ Ok true → LooksOn heap c) → OnErr r (new ≡ m.workspace) → IsInterleaved (next cells new)
-    look_keeps (Ok true) there ok err = (look_does (ok refl)).0
-    look_keeps (Ok false) there ok err = absurd (there refl)
-    look_keeps (Err x) there ok err =
+    pub look_keeps : (r : Result Bool LookError) → (r ≡ Ok false → ⊥) → (r ≡ Ok true → LooksOn heap c) → (r ≡ Err HeapFull → draws ≡ record v.draws { out = true }) → (r ≡ Err NoMemory → draws ≡ v.draws) → OnErr r (new ≡ m.workspace) → IsInterleaved (next cells new)
+    look_keeps (Ok true) there ok full memory err = (look_does (ok refl)).0
+    look_keeps (Ok false) there ok full memory err = absurd (there refl)
+    look_keeps (Err x) there ok full memory err =
         let i = is_in _ v t m is lawful in
         subst (λ (cs : PlainCellsValue). IsInterleaved (next cs new)) (sym same_cells)
-        (subst (λ (w : WorkspaceValue). IsInterleaved (next v.cells w)) (sym err) (stood v k t m i.there pass draws fits_same won seat))
+        (subst (λ (w : WorkspaceValue). IsInterleaved (next v.cells w)) (sym err) (stood v k t m i.there pass draws fits_same won seat (drawn_same x refl full memory)))
+      where
+        drawn_same : (e : LookError) → ◌≡◌ {A = Result Bool LookError} (Err x) (Err e) → (◌≡◌ {A = Result Bool LookError} (Err x) (Err HeapFull) → draws ≡ record v.draws { out = true }) → (◌≡◌ {A = Result Bool LookError} (Err x) (Err NoMemory) → draws ≡ v.draws) → draws.drawn ≡ v.draws.drawn
+        drawn_same HeapFull is full memory = ap (λ (s : SeatValue). s.drawn) (full is)
+        drawn_same NoMemory is full memory = ap (λ (s : SeatValue). s.drawn) (memory is)

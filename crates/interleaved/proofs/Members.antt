@@ -19,8 +19,9 @@ use Rattle.workers.specs.Ready.{IsHanded}
 use Rattle.scavenge.specs.Shown.{WorkspaceValue}
 use Rattle.serial.specs.SerialValue.{left_of}
 use Rattle.interleaved.specs.InterleavedValue.{InterleavedValue, MemberValue, Goes, Stays, worker_of, queue_in, exports_in, forwarded_in, system_of, setting_for, setting_in}
-use Rattle.interleaved.specs.IsInterleaved.{IsInterleaved, IsMember, HasWorked, AreForwarded, AreDrawn, AreQueued}
+use Rattle.interleaved.specs.IsInterleaved.{IsInterleaved, IsMember, HasWorked, AreForwarded, AreDrawn, AreQueued, HasReached}
 use Rattle.interleaved.proofs.Places.{found, set-each, length-set, map-set, map-set_same, index-or, set-again}
+use Rattle.interleaved.proofs.Reaching.{reached_by, reached_still}
 
 abbrev pub with_member : InterleavedValue → ℕ → MemberValue → InterleavedValue
 with_member v t m = record v { members = slice_set v.members t m }
@@ -47,8 +48,8 @@ renewed v cells pass draws queues t m = record v { cells = cells; pass = pass; d
 
 -- what the members share changed, and one of them
 pub renews : (v : InterleavedValue) → IsInterleaved v → (t : ℕ) (m m' : MemberValue) → slice_get v.members t ≡ Some m → (cells : PlainCellsValue) (pass : PlainPassValue) (draws : SeatValue) (queues : PlainQueuesValue CopiesKeyValue)
-    → AreForwarded v.heap v.collection cells pass → AreDrawn v.heap v.claims draws → AreQueued v.heap v.collection v.workers queues → m'.idle ≡ m.idle → IsMember v.heap v.collection v.workers t m' → IsInterleaved (renewed v cells pass draws queues t m')
-renews v k t m m' at cells pass draws queues forwarded drawn queued same member =
+    → AreForwarded v.heap v.collection cells pass → AreDrawn v.heap v.claims draws → AreQueued v.heap v.collection v.workers queues → m'.idle ≡ m.idle → IsMember v.heap v.collection v.workers t m' → HasReached (renewed v cells pass draws queues t m') → IsInterleaved (renewed v cells pass draws queues t m')
+renews v k t m m' at cells pass draws queues forwarded drawn queued same member reached =
     record {
       ready = k.ready;
       some = k.some;
@@ -59,13 +60,14 @@ renews v k t m m' at cells pass draws queues forwarded drawn queued same member 
       draws = drawn;
       queue = queued;
       each = set-each (IsMember v.heap v.collection v.workers) v.members t m' k.each member;
+      reached = reached;
     }
 
 -- neither cells nor draws nor queues had a part in it
 pub acted_alone : (v : InterleavedValue) → IsInterleaved v → (t : ℕ) (m : MemberValue) → slice_get v.members t ≡ Some m → (act : Act) → CanAct (setting_in v) m.workspace.worker act
-    → ((h : History) → AreTaken v.heap v.collection v.workers h → AreTaken v.heap v.collection v.workers (noted (setting_in v) m.workspace.worker act h)) → IsInterleaved (with_member v t (acting m (after (setting_in v) m.workspace.worker act)))
-acted_alone v k t m at act can handed =
-    renews v k t m (acting m (after (setting_in v) m.workspace.worker act)) at v.cells v.pass v.draws v.queues k.cells k.draws k.queue refl (member_on v.heap v.collection v.workers t m act (k.each t m at) can handed)
+    → ((h : History) → AreTaken v.heap v.collection v.workers h → AreTaken v.heap v.collection v.workers (noted (setting_in v) m.workspace.worker act h)) → HasReached (with_member v t (acting m (after (setting_in v) m.workspace.worker act))) → IsInterleaved (with_member v t (acting m (after (setting_in v) m.workspace.worker act)))
+acted_alone v k t m at act can handed reached =
+    renews v k t m (acting m (after (setting_in v) m.workspace.worker act)) at v.cells v.pass v.draws v.queues k.cells k.draws k.queue refl (member_on v.heap v.collection v.workers t m act (k.each t m at) can handed) reached
 
 abbrev system : List (ℕ × ℕ) → List ℕ → List Worker → List (List Block) → List (List Block) → List (List (ℕ × ℕ)) → List Bool → List Bool → System
 system forwarded free workers queues exported taken idle ended = record { forwarded = forwarded; free = free; workers = workers; queues = queues; exported = exported; taken = taken; idle = idle; ended = ended }
@@ -141,21 +143,32 @@ is_in P v t m is may =
       can = subst P one may.can;
     }
 
+-- what came keeps what holds, and so does what didn't
+pub doing : (event : Event) (v next : InterleavedValue) → IsInterleaved v → (HasReached next → IsInterleaved next) → Goes event v next → Does event v next
+doing event v next k keeps goes = (keeps (reached_by event v next k.reached goes), goes)
+
+pub staying : (v next : InterleavedValue) → IsInterleaved v → (HasReached next → IsInterleaved next) → Stays v next → IsInterleaved next × Stays v next
+staying v next k keeps stays = (keeps (reached_still v next k.reached stays), stays)
+
 -- the worker acted by itself
 pub does_alone : (event : Event) (v : InterleavedValue) → IsInterleaved v → (t : ℕ) (m : MemberValue) → slice_get v.members t ≡ Some m → (act : Act) → CanAct (setting_in v) m.workspace.worker act
     → ((h : History) → AreTaken v.heap v.collection v.workers h → AreTaken v.heap v.collection v.workers (noted (setting_in v) m.workspace.worker act h))
     → (new : WorkspaceValue) → new ≡ record m.workspace { worker = after (setting_in v) m.workspace.worker act }
     → Step (setting_in v) (system_of v) event (with_worker (system_of v) t (after (setting_in v) m.workspace.worker act)) → Does event v (with_member v t (record m { workspace = new }))
 does_alone event v k t m at act can handed new is step =
-    subst (λ (w : WorkspaceValue). Does event v (with_member v t (record m { workspace = w }))) (sym is) (
-      acted_alone v k t m at act can handed,
-      record {
-        heap = refl;
-        collection = refl;
-        workers = refl;
-        step = subst (Step (setting_in v) (system_of v) event) (sym (system-acting v t m (after (setting_in v) m.workspace.worker act) at)) step;
-      },
-    )
+    subst (λ (w : WorkspaceValue). Does event v (with_member v t (record m { workspace = w }))) (sym is) (doing event v next k (acted_alone v k t m at act can handed) goes)
+  where
+    next : InterleavedValue
+    next = with_member v t (acting m (after (setting_in v) m.workspace.worker act))
+
+    goes : Goes event v next
+    goes =
+        record {
+          heap = refl;
+          collection = refl;
+          workers = refl;
+          step = subst (Step (setting_in v) (system_of v) event) (sym (system-acting v t m (after (setting_in v) m.workspace.worker act) at)) step;
+        }
 
 -- what holds of a machine and what came, of the same machine as its calls see it
 pub lawful_as : {v now : InterleavedValue} (event : Event) → v ≡ now → IsLawful (setting_in now) (system_of now) event → IsLawful (setting_in v) (system_of v) event

@@ -18,10 +18,11 @@ use Rattle.workers.specs.Worker.{Worker}
 use Rattle.workers.specs.WorkerRun.{WorkerRun, History}
 use Rattle.workers.specs.Joined.{Each}
 use Rattle.workers.specs.Ready.{IsHanded}
+use Rattle.workers.specs.Finish.{IsReached}
 use Rattle.scavenge.specs.Slots.{seen, cell_of}
 use Rattle.scavenge.specs.Told.{IsNumberOf}
 use Rattle.serial.specs.IsSerial.{IsReadyToCollect}
-use Rattle.interleaved.specs.InterleavedValue.{InterleavedValue, MemberValue, forwarded_in, setting_for, system_of}
+use Rattle.interleaved.specs.InterleavedValue.{InterleavedValue, MemberValue, forwarded_in, setting_for, setting_in, destinations_in, targets_in, system_of}
 
 -- the cells hold what was won: that of a large object a claim, any other the place of the copy
 pub record AreForwarded (heap : HeapValue) (c : CollectionValue) (cells : PlainCellsValue) (pass : PlainPassValue) : Type 0 where
@@ -64,6 +65,10 @@ pub record IsMember (heap : HeapValue) (c : CollectionValue) (n t : ℕ) (m : Me
   pub claim : IsLargeAt m.workspace.claim t
   pub worked : HasWorked heap c n t m.workspace.worker
 
+-- some run from the first state comes to this one
+abbrev pub HasReached : InterleavedValue → Type 0
+HasReached v = IsReached (setting_in v) (destinations_in v) v.workers (targets_in v) v.heap.free (system_of v)
+
 pub record IsInterleaved (v : InterleavedValue) : Type 0 where
   pub ready : IsReadyToCollect v.heap v.collection
   pub some : 0 < v.workers
@@ -74,6 +79,7 @@ pub record IsInterleaved (v : InterleavedValue) : Type 0 where
   pub draws : AreDrawn v.heap v.claims v.draws
   pub queue : AreQueued v.heap v.collection v.workers v.queues
   pub each : (t : ℕ) (m : MemberValue) → slice_get v.members t ≡ Some m → IsMember v.heap v.collection v.workers t m
+  pub reached : HasReached v
 
 -- worker t of n before its first event
 pub record IsFirst (heap : HeapValue) (c : CollectionValue) (n t : ℕ) (m : MemberValue) : Type 0 where
