@@ -35,12 +35,12 @@ taken_more x free n low = ap (times_in x) (take_more free n 0 low) ∙ times-app
 
 -- the seat drew the number at the place found
 takes_next : (free : List ℕ) (seats : ℕ) (s : St) (id : ℕ) (me : Sat) → IsKept free seats s → get_elem? s.views id ≡ some me.0 → me.0.free ≡ free → me.0.parts ≡ 1 → me.0.outs ≡ 0 → get_or s.words 0 0 < length free
-    → IsKept free seats (stepped s 0 (get_or s.words 0 0 + 1) id me.1 (share me.0.free me.0.parts (me.0.drawn ++ get_or me.0.free (get_or s.words 0 0) 0 ∷ []) me.0.outs) keeps)
+    → IsKept free seats (stepped s 0 (get_or s.words 0 0 + 1) id me.1 (share me.0.free me.0.seats me.0.parts (me.0.drawn ++ get_or me.0.free (get_or s.words 0 0) 0 ∷ []) me.0.outs) keeps)
 takes_next free seats s id me r at same part in_play low =
     let x : ℕ = get_or s.words 0 0 in
     let v : Share = me.0 in
     let number : ℕ = get_or v.free x 0 in
-    let w : Share = share v.free v.parts (v.drawn ++ number ∷ []) v.outs in
+    let w : Share = share v.free v.seats v.parts (v.drawn ++ number ∷ []) v.outs in
     let none_out : outs_in s.views ≡ 0 = dite (ℕ_discrete (outs_in s.views) 0) (λ e. e) (λ some_out. let u = r.used_up (omega arith) in let c = r.counter in absurd (omega arith)) in
     let outs : outs_in (set s.views id w) ≡ outs_in s.views = total-same (λ (u : Share). u.outs) s.views id v w at refl in
     let more : drawn_in (set s.views id w) ≡ drawn_in s.views + 1 = (let t = total-set (λ (u : Share). length u.drawn) s.views id v w at in let n : length (v.drawn ++ number ∷ []) ≡ length v.drawn + 1 = length-append v.drawn (number ∷ []) ∙ omega arith in omega arith) in
@@ -67,11 +67,11 @@ takes_next free seats s id me r at same part in_play low =
 
 -- the seat found none left
 takes_none : (free : List ℕ) (seats : ℕ) (s : St) (id : ℕ) (me : Sat) → IsKept free seats s → get_elem? s.views id ≡ some me.0 → me.0.parts ≡ 1 → me.0.outs ≡ 0 → length free ≤ get_or s.words 0 0
-    → IsKept free seats (stepped s 0 (get_or s.words 0 0 + 1) id me.1 (share me.0.free me.0.parts me.0.drawn (me.0.outs + 1)) keeps)
+    → IsKept free seats (stepped s 0 (get_or s.words 0 0 + 1) id me.1 (share me.0.free me.0.seats me.0.parts me.0.drawn (me.0.outs + 1)) keeps)
 takes_none free seats s id me r at part in_play high =
     let x : ℕ = get_or s.words 0 0 in
     let v : Share = me.0 in
-    let w : Share = share v.free v.parts v.drawn (v.outs + 1) in
+    let w : Share = share v.free v.seats v.parts v.drawn (v.outs + 1) in
     let all_drawn : drawn_in s.views ≡ length free = dite (ℕ_discrete (outs_in s.views) 0) (λ e. let c = r.counter in let f = r.few in omega arith) (λ some_out. r.used_up (omega arith)) in
     let was_in : v.outs ≡ 0 = in_play in
     let outs : outs_in (set s.views id w) ≡ outs_in s.views + 1 = (let t = total-set (λ (u : Share). u.outs) s.views id v w at in omega arith) in
@@ -117,9 +117,19 @@ few_more free seats s id v r same at false high =
     let e = ap length same in
     omega arith
 
-pub draws : (free : List ℕ) (seats slots id : ℕ) (me : Sat) → me.0.free ≡ free → me.0.parts ≡ 1 → me.0.outs ≡ 0 → length free + seats < 2 ^ 63 → ((x : ℕ) → times_in x free ≤ 1)
+-- the only seat finds none only where it drew all
+all_used_up : (free : List ℕ) (seats : ℕ) (s : St) (id : ℕ) (v : Share) → IsKept free seats s → get_elem? s.views id ≡ some v → v.parts ≡ 1 → v.outs ≡ 0 → seats ≡ 1 → length free ≤ get_or s.words 0 0 → length v.drawn ≡ length free
+all_used_up free seats s id v r at part in_play alone high =
+    let whole : total (λ (u : Share). u.parts) s.views ≡ v.parts = r.whole ∙ (alone ∙ sym part) in
+    let drawn = total-whole (λ (u : Share). u.parts) (λ (u : Share). length u.drawn) s.views (λ i u e z. ap length ((r.sound i u e).drawn z)) id v at whole in
+    let outs = total-whole (λ (u : Share). u.parts) (λ (u : Share). u.outs) s.views (λ i u e z. let h = (r.sound i u e).outs in omega arith) id v at whole in
+    let c = r.counter in
+    let f = r.few in
+    omega arith
+
+pub draws : (free : List ℕ) (seats slots id : ℕ) (me : Sat) → me.0.free ≡ free → me.0.seats ≡ seats → me.0.parts ≡ 1 → me.0.outs ≡ 0 → length free + seats < 2 ^ 63 → ((x : ℕ) → times_in x free ≤ 1)
     → Allows (IsKept free seats) slots id me 0 (λ n. (n + 1) % 2 ^ 64) (Drew (step slots 0 1 0 none) me)
-draws free seats slots id me same part in_play small distinct s r _ at _ =
+draws free seats slots id me same many part in_play small distinct s r _ at _ =
     let x : ℕ = get_or s.words 0 0 in
     let few_out = outs_few free seats s r in
     let next : x + 1 ≡ (x + 1) % 2 ^ 64 = (let c = r.counter in let f = r.few in omega arith) in
@@ -136,6 +146,7 @@ draws free seats slots id me same part in_play small distinct s r _ at _ =
         after = refl;
         few = few_more free seats s id me.0 r same at (nat_lt x (length me.0.free)) refl;
         fresh = λ low. subst (λ (ns : List ℕ). times_in (get_or ns x 0) me.0.drawn ≡ 0) (sym same) (fresh_next free seats s id me.0 r distinct at (omega arith));
+        used_up = λ alone high. all_used_up free seats s id me.0 r at part in_play (sym many ∙ alone) (omega arith) ∙ sym known;
       },
     )
 

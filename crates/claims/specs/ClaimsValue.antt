@@ -4,15 +4,14 @@ use Rattle.std.specs.List.{flat_map, list_any}
 use Rattle.std.specs.Coded.{Coded, code_by, coded×, coded_list, coded_ℕ, coded_bool}
 use Rattle.atomic_table.specs.Seated.{TableId, table_id_coded}
 
--- what claims draw from: a free list, under a name that no other claims have
+-- what so many seats draw from: a free list, under a name that no other claims have
 pub record Source : Type 0 where
   pub name : TableId
   pub free : List ℕ
+  pub seats : ℕ
 
 pub record ClaimsValue : Type 0 where
   pub source : Source
-  -- how many seats there are
-  pub seats : ℕ
 
 pub record SeatValue : Type 0 where
   -- what its claims draw from
@@ -23,10 +22,11 @@ pub record SeatValue : Type 0 where
   pub out : Bool
 
 abbrev pub source_code : Coded Source
-source_code = code_by (TableId × List ℕ) (coded× table_id_coded (coded_list coded_ℕ)) (λ s. (s.name, s.free)) (λ p. record { name = p.0; free = p.1 }) (λ _. refl)
+source_code =
+    code_by (TableId × (List ℕ × ℕ)) (coded× table_id_coded (coded× (coded_list coded_ℕ) coded_ℕ)) (λ s. (s.name, (s.free, s.seats))) (λ p. record { name = p.0; free = p.1.0; seats = p.1.1 }) (λ _. refl)
 
 abbrev pub claims_code : Coded ClaimsValue
-claims_code = code_by (Source × ℕ) (coded× source_code coded_ℕ) (λ c. (c.source, c.seats)) (λ p. record { source = p.0; seats = p.1 }) (λ _. refl)
+claims_code = code_by Source source_code (λ c. c.source) (λ s. record { source = s }) (λ _. refl)
 
 abbrev pub seat_code : Coded SeatValue
 seat_code =

@@ -1,13 +1,13 @@
 -- The rule of the counter that seats draw by, and what a draw tells its seat.
-use Rattle.std.specs.Prelude.{◌≡◌, ℕ, ◌+◌, ◌-◌, ◌<◌, ◌≤◌, Bool, true, false, List, [], ◌∷◌, ◌++◌, length, take, slice_index, slice_index_or, nat_lt, ◌==◌, if◌then◌else◌}
+use Rattle.std.specs.Prelude.{◌≡◌, ℕ, ◌+◌, ◌-◌, ◌<◌, ◌≤◌, Bool, true, false, List, [], ◌∷◌, ◌++◌, length, take, slice_index, slice_index_or, nat_lt}
 use mathlib.Core.Option.{some}
 use lib.ListN.{get_elem?}
 use Rattle.atomic_table.specs.Table.{State, Me, Step}
 use Rattle.views.specs.Total.{times, total}
 use Rattle.claims.specs.declared.claim_plays.Share.{Share}
 
-abbrev pub share : List ℕ → ℕ → List ℕ → ℕ → Share
-share free parts drawn outs = record { free = free; parts = parts; drawn = drawn; outs = outs }
+abbrev pub share : List ℕ → ℕ → ℕ → List ℕ → ℕ → Share
+share free seats parts drawn outs = record { free = free; seats = seats; parts = parts; drawn = drawn; outs = outs }
 
 -- how often a number stands in a list
 abbrev pub times_in : ℕ → List ℕ → ℕ
@@ -38,25 +38,26 @@ pub record IsKept (free : List ℕ) (seats : ℕ) (s : State (Unit {0}) Share) :
 
 -- a seat with one part
 abbrev pub newcomer : Share → Share
-newcomer v = share v.free 1 [] 0
+newcomer v = share v.free v.seats 1 [] 0
 
 -- what is left of a share that gave a part away
 abbrev pub dealt : Share → Share
-dealt v = share v.free (v.parts - 1) v.drawn v.outs
+dealt v = share v.free v.seats (v.parts - 1) v.drawn v.outs
 
 abbrev pub both : Share → Share → Share
-both v w = share v.free (v.parts + w.parts) (w.drawn ++ v.drawn) (v.outs + w.outs)
+both v w = share v.free v.seats (v.parts + w.parts) (w.drawn ++ v.drawn) (v.outs + w.outs)
 
 abbrev pub spent : Share
-spent = share [] 0 [] 0
+spent = share [] 0 0 [] 0
 
 -- the share after a draw that found this number in the counter, which is a place in the free list, or not
 abbrev pub after_draw : Share → ℕ → Bool → Share
-after_draw v found true = share v.free v.parts (v.drawn ++ slice_index_or v.free found 0 ∷ []) v.outs
-after_draw v found false = share v.free v.parts v.drawn (v.outs + 1)
+after_draw v found true = share v.free v.seats v.parts (v.drawn ++ slice_index_or v.free found 0 ∷ []) v.outs
+after_draw v found false = share v.free v.seats v.parts v.drawn (v.outs + 1)
 
--- What a draw tells: the number is new to the seat, which has drawn no more numbers than there are
+-- What a draw tells: the number is new to the seat, which has drawn no more numbers than there are; and where the only seat finds none, it drew all
 pub record Drew (st : Step (Unit {0})) (m : Me (Unit {0}) Share) (found : ℕ) (m' : Me (Unit {0}) Share) : Type 0 where
   pub after : m' ≡ (after_draw m.0 found (nat_lt found (length m.0.free)), m.1)
   pub few : length m'.0.drawn ≤ length m.0.free
   pub fresh : found < length m.0.free → times_in (slice_index_or m.0.free found 0) m.0.drawn ≡ 0
+  pub used_up : m.0.seats ≡ 1 → length m.0.free ≤ found → length m.0.drawn ≡ length m.0.free

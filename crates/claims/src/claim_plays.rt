@@ -10,10 +10,11 @@ pub struct Plan<A: Allocator> {
     pub seats: u32,
 }
 
-/// What a seat knows: the free list, its parts of the right to know all, the numbers that it drew, and how often it found
-/// none left. No value of it is made.
+/// What a seat knows: the free list, how many seats there are, its parts of the right to know all, the numbers that it
+/// drew, and how often it found none left. No value of it is made.
 pub struct Share {
     pub free: LinkedList<u32>,
+    pub seats: u32,
     pub parts: u64,
     pub drawn: LinkedList<u32>,
     pub outs: u64,
@@ -27,7 +28,7 @@ impl<A: Allocator> TableRule<(), Share, Plan<A>> for Rule {
 
     ghost holds = { λ plan s. IsKept plan.free.items plan.seats s };
 
-    ghost first = { λ plan. share plan.free.items plan.seats [] 0 };
+    ghost first = { λ plan. share plan.free.items plan.seats plan.seats [] 0 };
 }
 
 pub struct Draw;

@@ -27,7 +27,7 @@ impl<A: Allocator> Model for Claims<A> {
 
     ghost coded = { claims_code };
 
-    ghost view = { λ c. record { source = record { name = c.table.shared.table_id; free = c.plan.free.items }; seats = c.plan.seats } };
+    ghost view = { λ c. record { source = record { name = c.table.shared.table_id; free = c.plan.free.items; seats = c.plan.seats } } };
 
     ghost invariant = { λ c. (c.table.shared.key ≡ c.plan) × (c.table.shared.table_id.words ≡ 1) × (c.table.shared.table_id.slots ≡ 0) × (c.plan.seats < 2 ^ 32) × (length c.plan.free.items < 2 ^ 32) × IsDistinct nat_eq c.plan.free.items };
 }
@@ -40,7 +40,7 @@ pub struct ClaimSeat {
 }
 
 impl Model for ClaimSeat {
-    ghost use Rattle.std.specs.Prelude.{◌≡◌, ◌≤◌, [], length};
+    ghost use Rattle.std.specs.Prelude.{◌≡◌, ◌≤◌, true, [], length};
     ghost use Rattle.views.specs.Total.{one_if};
     ghost use Rattle.claims.specs.ClaimsValue.{SeatValue, seat_code};
 
@@ -48,15 +48,15 @@ impl Model for ClaimSeat {
 
     ghost coded = { seat_code };
 
-    ghost view = { λ s. record { source = record { name = s.seat.table_id; free = s.seat.me.0.free }; drawn = s.seat.me.0.drawn; out = s.out } };
+    ghost view = { λ s. record { source = record { name = s.seat.table_id; free = s.seat.me.0.free; seats = s.seat.me.0.seats }; drawn = s.seat.me.0.drawn; out = s.out } };
 
-    ghost invariant = { λ s. (s.seat.me.0.parts ≡ 1) × (s.seat.me.0.outs ≡ one_if s.out) × (length s.seat.me.0.drawn ≤ length s.seat.me.0.free) × (s.seat.me.1 ≡ []) };
+    ghost invariant = { λ s. (s.seat.me.0.parts ≡ 1) × (s.seat.me.0.outs ≡ one_if s.out) × (length s.seat.me.0.drawn ≤ length s.seat.me.0.free) × (s.seat.me.1 ≡ []) × (s.out ≡ true → s.seat.me.0.seats ≡ 1 → length s.seat.me.0.drawn ≡ length s.seat.me.0.free) };
 }
 
 impl ClaimSeat {
     fn into_seat(self) -> Seat<(), Share>
         ensures name { result.table_id ≡ self.source.name }
-        ensures share { result.me ≡ (share self.source.free 1 self.drawn (one_if self.out), []) }
+        ensures share { result.me ≡ (share self.source.free self.source.seats 1 self.drawn (one_if self.out), []) }
     {
         let ClaimSeat { seat, out: _ } = self;
         seat
@@ -71,10 +71,10 @@ fn deal<A: Allocator, B: Allocator>(
     count: u32,
 ) -> Result<Vec<ClaimSeat, B>, AllocError>
     requires table { (first.table_id ≡ table.now.shared.table_id) × (0 < table.now.shared.table_id.words) }
-    requires parts { first.me ≡ (share table.now.shared.key.free.items count [] 0, []) }
+    requires parts { first.me ≡ (share table.now.shared.key.free.items table.now.shared.key.seats count [] 0, []) }
     requires seats { seats.items ≡ [] }
     ensures count { IfOk result (λ all. length all.items ≡ count) }
-    ensures seats { IfOk result (λ all. All (λ s. s ≡ unused (record { name = table.now.shared.table_id; free = table.now.shared.key.free.items })) all.items) }
+    ensures seats { IfOk result (λ all. All (λ s. s ≡ unused (record { name = table.now.shared.table_id; free = table.now.shared.key.free.items; seats = table.now.shared.key.seats })) all.items) }
 {
     for _ in 0..count {
         let seat = table.shared.split_seat::<Deal>(&mut first);
@@ -115,7 +115,7 @@ impl<A: Allocator + Clone> Claims<A> {
         requires once { IsDistinct nat_eq free.items }
         requires few { length free.items < 2 ^ 32 }
         ensures free { IfOk result (λ made. made.0.source.free ≡ free.items) }
-        ensures count { IfOk result (λ made. (made.0.seats ≡ seats) × (length made.1.items ≡ seats)) }
+        ensures count { IfOk result (λ made. (made.0.source.seats ≡ seats) × (length made.1.items ≡ seats)) }
         ensures seats { IfOk result (λ made. All (λ s. s ≡ unused made.0.source) made.1.items) }
     {
         let made = Vec::with_capacity(alloc.clone()?, seats as usize)?;
@@ -136,6 +136,9 @@ impl<A: Allocator> Claims<A> {
         ensures fresh { IfSome result (λ n. ¬ Contains seat.old.drawn n) }
         ensures few { length seat.new.drawn ≤ length self.now.source.free }
         ensures out { seat.old.out ≡ true → result ≡ None }
+
+        // The only seat finds none only where it drew all.
+        ensures used_up { result ≡ None → self.now.source.seats ≡ 1 → length seat.old.drawn ≡ length self.now.source.free }
     {
         if seat.out {
             return None;
@@ -149,7 +152,7 @@ impl<A: Allocator> Claims<A> {
     /// How many numbers were drawn. It takes all the seats that `new` gave.
     pub fn close<B: Allocator>(self, mut seats: Vec<ClaimSeat, B>) -> u32
         requires seats { All (IsSeatOf self.source) seats.items }
-        requires all { length seats.items ≡ self.seats }
+        requires all { length seats.items ≡ self.source.seats }
 
         // They are that many numbers of the free list, from the first on.
         ensures count { length (all_drawn seats.items) ≡ result }

@@ -13,7 +13,7 @@ fetch_add-at-requires g c =
     let source = ap (λ s. s.source) c.seat.view_is ∙ (c.requires.seat ∙ sym (ap (λ v. v.source) c.self.view_is)) in
     let same = ap (λ s. s.free) source ∙ sym key in
     let room = ap length key in
-    (ap (λ s. s.name) source, search rules, draws _ _ _ _ _ same mine.0 (search rules) (omega arith) (times-distinct _ (subst (IsDistinct nat_eq) (sym key) plan.5)))
+    (ap (λ s. s.name) source, search rules, draws _ _ _ _ _ same (ap (λ s. s.seats) source ∙ sym seats) mine.0 (search rules) (omega arith) (times-distinct _ (subst (IsDistinct nat_eq) (sym key) plan.5)))
 
 pub returns-clause-fresh : goal.returns-clause-fresh
 returns-clause-fresh g c =
