@@ -138,7 +138,7 @@ abbrev pub key_of : HeapValue → ℕ → CopiesKeyValue
 key_of heap generation = record { heap = heap; generation = generation }
 
 -- nothing is won, drawn or queued, and none is idle
-module _ (v : InterleavedValue) (ready : IsReadyToCollect v.heap v.collection) (cells : v.cells ≡ empty_cells v.collection.cells 1) (fit : IsFit v.cells v.pass) (free : v.claims.source.free ≡ v.heap.free) (seats : v.claims.seats ≡ 1) (draws : v.draws ≡ unused v.claims.source)
+module _ (v : InterleavedValue) (ready : IsReadyToCollect v.heap v.collection) (cells : v.cells ≡ empty_cells v.collection.cells 1) (fit : IsFit v.cells v.pass) (free : v.claims.source.free ≡ v.heap.free) (seats : v.claims.source.seats ≡ 1) (draws : v.draws ≡ unused v.claims.source)
     (queues : v.queues ≡ new_pending (key_of v.heap v.collection.generation) v.workers) (some : 0 < v.workers) (most : v.workers ≤ 16) (idlers : v.idlers ≡ 0) (first : AreFirst v.heap v.collection v.workers v.members) where
   won_none : v.pass.won ≡ []
   won_none = none_won v.collection.cells v.pass (subst (λ (x : PlainCellsValue). IsFit x v.pass) cells fit)

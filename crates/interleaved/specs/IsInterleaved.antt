@@ -34,7 +34,7 @@ pub record AreForwarded (heap : HeapValue) (c : CollectionValue) (cells : PlainC
 -- blocks are drawn from the free ones
 pub record AreDrawn (heap : HeapValue) (claims : ClaimsValue) (draws : SeatValue) : Type 0 where
   pub free : claims.source.free ≡ heap.free
-  pub seats : claims.seats ≡ 1
+  pub seats : claims.source.seats ≡ 1
   pub seat : IsSeatOf claims.source draws
 
 -- the queue of worker u is of blocks of copies, each with its label

@@ -65,7 +65,7 @@ abbrev pub first_of : HeapValue → CollectionValue → Worker
 first_of heap c = opening_worker (dest_count heap.config.shape c.generation) 1 (map target_of_slot c.slots) 0
 
 -- nothing is won, drawn or queued
-pub begun : (v : SerialValue) → IsReadyToCollect v.heap v.collection → v.cells ≡ empty_cells v.collection.cells 1 → IsFit v.cells v.pass → v.claims.source.free ≡ v.heap.free → v.claims.seats ≡ 1 → v.draws ≡ unused v.claims.source
+pub begun : (v : SerialValue) → IsReadyToCollect v.heap v.collection → v.cells ≡ empty_cells v.collection.cells 1 → IsFit v.cells v.pass → v.claims.source.free ≡ v.heap.free → v.claims.source.seats ≡ 1 → v.draws ≡ unused v.claims.source
     → v.queues ≡ new_pending (record { heap = v.heap; generation = v.collection.generation }) 1 → v.seat ≡ 0 → v.workspace.config ≡ v.heap.config → IsLargeAt v.workspace.claim 0 → v.workspace.worker ≡ opening_worker (destinations_in v) 1 (targets_in v) 0 → IsSerial v
 begun v ready cells fit free seats draws queues seat config claim worker =
     record {

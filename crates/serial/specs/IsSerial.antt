@@ -41,7 +41,7 @@ pub record AreForwarded (v : SerialValue) : Type 0 where
 -- it draws from the free blocks
 pub record AreDrawn (v : SerialValue) : Type 0 where
   pub free : v.claims.source.free ≡ v.heap.free
-  pub seats : v.claims.seats ≡ 1
+  pub seats : v.claims.source.seats ≡ 1
   pub seat : IsSeatOf v.claims.source v.draws
 
 -- there is one queue, of blocks of copies, each with its label

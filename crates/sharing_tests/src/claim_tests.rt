@@ -42,7 +42,7 @@ fn claims_of(
 ) -> Result<(Claims, Vec<ClaimSeat>), Fail>
     requires { limit ≤ 65535 }
     ensures seats { IfOk result (λ r. All (IsSeatOf r.0.source) r.1.items) }
-    ensures count { IfOk result (λ r. length r.1.items ≡ r.0.seats) }
+    ensures count { IfOk result (λ r. length r.1.items ≡ r.0.source.seats) }
 {
     let free = free_list(alloc, granted, limit)?;
     Ok(Claims::new(alloc, free, seats)?)
