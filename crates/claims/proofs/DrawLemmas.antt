@@ -1,6 +1,7 @@
 -- Each step on the counter keeps its rule, and what the rule says at the end.
 use Rattle.std.proofs.Common.{◌≡◌, ◌≢◌, ℕ, suc, ◌+◌, ◌%◌, ◌^◌, ◌<◌, ◌≤◌, Bool, true, false, List, [], ◌∷◌, ◌++◌, take, drop, eq-eqb, set, length, get_or, nat_lt, min, refl, sym, ap, ◌∙◌, subst, ⊎_elim, arith, length-set, length-append, get_or-set_same}
 use Rattle.std.proofs.lemmas.Bool.Decides.{nat_tests}
+use Rattle.std.proofs.Math.Seq.{take-length}
 use Rattle.std.proofs.lemmas.List.{take_more, take-append-drop}
 use mathlib.Core.Logic.{dite}
 use mathlib.Core.Option.{none, some, some-injective, some-ne-none}
@@ -118,14 +119,14 @@ few_more free seats s id v r same at false high =
     omega arith
 
 -- the only seat finds none only where it drew all
-all_used_up : (free : List ℕ) (seats : ℕ) (s : St) (id : ℕ) (v : Share) → IsKept free seats s → get_elem? s.views id ≡ some v → v.parts ≡ 1 → v.outs ≡ 0 → seats ≡ 1 → length free ≤ get_or s.words 0 0 → length v.drawn ≡ length free
-all_used_up free seats s id v r at part in_play alone high =
+all_used_up : (free : List ℕ) (seats : ℕ) (s : St) (id : ℕ) (v : Share) → IsKept free seats s → get_elem? s.views id ≡ some v → v.parts ≡ 1 → v.outs ≡ 0 → seats ≡ 1 → length free ≤ get_or s.words 0 0 → (x : ℕ) → times_in x v.drawn ≡ times_in x free
+all_used_up free seats s id v r at part in_play alone high x =
     let whole : total (λ (u : Share). u.parts) s.views ≡ v.parts = r.whole ∙ (alone ∙ sym part) in
     let drawn = total-whole (λ (u : Share). u.parts) (λ (u : Share). length u.drawn) s.views (λ i u e z. ap length ((r.sound i u e).drawn z)) id v at whole in
     let outs = total-whole (λ (u : Share). u.parts) (λ (u : Share). u.outs) s.views (λ i u e z. let h = (r.sound i u e).outs in omega arith) id v at whole in
-    let c = r.counter in
-    let f = r.few in
-    omega arith
+    let all : drawn_in s.views ≡ length free = (let c = r.counter in let f = r.few in omega arith) in
+    let mine = total-whole (λ (u : Share). u.parts) (λ (u : Share). times_in x u.drawn) s.views (λ i u e z. ap (times_in x) ((r.sound i u e).drawn z)) id v at whole in
+    sym mine ∙ (r.once x ∙ ap (λ (n : ℕ). times_in x (take n free)) all ∙ ap (times_in x) (take-length free))
 
 pub draws : (free : List ℕ) (seats slots id : ℕ) (me : Sat) → me.0.free ≡ free → me.0.seats ≡ seats → me.0.parts ≡ 1 → me.0.outs ≡ 0 → length free + seats < 2 ^ 63 → ((x : ℕ) → times_in x free ≤ 1)
     → Allows (IsKept free seats) slots id me 0 (λ n. (n + 1) % 2 ^ 64) (Drew (step slots 0 1 0 none) me)
@@ -146,7 +147,7 @@ draws free seats slots id me same many part in_play small distinct s r _ at _ =
         after = refl;
         few = few_more free seats s id me.0 r same at (nat_lt x (length me.0.free)) refl;
         fresh = λ low. subst (λ (ns : List ℕ). times_in (get_or ns x 0) me.0.drawn ≡ 0) (sym same) (fresh_next free seats s id me.0 r distinct at (omega arith));
-        used_up = λ alone high. all_used_up free seats s id me.0 r at part in_play (sym many ∙ alone) (omega arith) ∙ sym known;
+        used_up = λ alone high y. all_used_up free seats s id me.0 r at part in_play (sym many ∙ alone) (omega arith) y ∙ ap (times_in y) (sym same);
       },
     )
 

@@ -60,4 +60,4 @@ pub record Drew (st : Step (Unit {0})) (m : Me (Unit {0}) Share) (found : ℕ) (
   pub after : m' ≡ (after_draw m.0 found (nat_lt found (length m.0.free)), m.1)
   pub few : length m'.0.drawn ≤ length m.0.free
   pub fresh : found < length m.0.free → times_in (slice_index_or m.0.free found 0) m.0.drawn ≡ 0
-  pub used_up : m.0.seats ≡ 1 → length m.0.free ≤ found → length m.0.drawn ≡ length m.0.free
+  pub used_up : m.0.seats ≡ 1 → length m.0.free ≤ found → (x : ℕ) → times_in x m.0.drawn ≡ times_in x m.0.free

@@ -40,8 +40,9 @@ pub struct ClaimSeat {
 }
 
 impl Model for ClaimSeat {
-    ghost use Rattle.std.specs.Prelude.{◌≡◌, ◌≤◌, true, [], length};
+    ghost use Rattle.std.specs.Prelude.{◌≡◌, ◌≤◌, ℕ, true, [], length};
     ghost use Rattle.views.specs.Total.{one_if};
+    ghost use Rattle.claims.specs.Drawn.{times_in};
     ghost use Rattle.claims.specs.ClaimsValue.{SeatValue, seat_code};
 
     ghost Value = { SeatValue };
@@ -50,7 +51,7 @@ impl Model for ClaimSeat {
 
     ghost view = { λ s. record { source = record { name = s.seat.table_id; free = s.seat.me.0.free; seats = s.seat.me.0.seats }; drawn = s.seat.me.0.drawn; out = s.out } };
 
-    ghost invariant = { λ s. (s.seat.me.0.parts ≡ 1) × (s.seat.me.0.outs ≡ one_if s.out) × (length s.seat.me.0.drawn ≤ length s.seat.me.0.free) × (s.seat.me.1 ≡ []) × (s.out ≡ true → s.seat.me.0.seats ≡ 1 → length s.seat.me.0.drawn ≡ length s.seat.me.0.free) };
+    ghost invariant = { λ s. (s.seat.me.0.parts ≡ 1) × (s.seat.me.0.outs ≡ one_if s.out) × (length s.seat.me.0.drawn ≤ length s.seat.me.0.free) × (s.seat.me.1 ≡ []) × (s.out ≡ true → s.seat.me.0.seats ≡ 1 → (x : ℕ) → times_in x s.seat.me.0.drawn ≡ times_in x s.seat.me.0.free) };
 }
 
 impl ClaimSeat {
@@ -138,7 +139,7 @@ impl<A: Allocator> Claims<A> {
         ensures out { seat.old.out ≡ true → result ≡ None }
 
         // The only seat finds none only where it drew all.
-        ensures used_up { result ≡ None → self.now.source.seats ≡ 1 → length seat.old.drawn ≡ length self.now.source.free }
+        ensures used_up { result ≡ None → self.now.source.seats ≡ 1 → (x : ℕ) → times_in x seat.old.drawn ≡ times_in x self.now.source.free }
     {
         if seat.out {
             return None;

@@ -5,6 +5,7 @@ ghost use Rattle.std.specs.Option.{option_map};
 ghost use Rattle.model.specs.Graph.{IsClosed, object_at};
 ghost use Rattle.layout.specs.Place.{place_word};
 ghost use Rattle.block_pool.specs.ClaimsValue.{IsSeatOf};
+ghost use Rattle.block_pool.specs.Drawn.{times_in};
 ghost use Rattle.layout.specs.ObjectRef.{raw_of};
 ghost use Rattle.heap.specs.CollectionValue.{IsOpened};
 ghost use Rattle.heap.specs.Found.{IsFound};
@@ -115,7 +116,7 @@ impl<A: Allocator + Clone> Workspace<A> {
         ensures fresh { (n : ℕ) → seat.new.drawn ≡ seat.old.drawn ++ n ∷ [] → Contains claims.now.source.free n × ¬ Contains seat.old.drawn n }
         ensures ok { OnOk result (Renews d seat.old seat.new self.old self.new) }
         ensures full { result ≡ Err LookError.HeapFull → seat.new ≡ record seat.old { out = true } }
-        ensures used_up { result ≡ Err LookError.HeapFull → claims.now.source.seats ≡ 1 → length seat.old.drawn ≡ length claims.now.source.free }
+        ensures used_up { result ≡ Err LookError.HeapFull → claims.now.source.seats ≡ 1 → (x : ℕ) → times_in x seat.old.drawn ≡ times_in x claims.now.source.free }
         ensures memory { result ≡ Err LookError.NoMemory → seat.new ≡ seat.old }
         ensures err { OnErr result (self.new ≡ self.old) }
     {
@@ -183,7 +184,7 @@ impl<A: Allocator + Clone> Workspace<A> {
         ensures fresh { (n : ℕ) → seat.new.drawn ≡ seat.old.drawn ++ n ∷ [] → Contains claims.now.source.free n × ¬ Contains seat.old.drawn n }
         ensures ok { OnOk result (Proposes (objects_of heap.now) (place_word name) seat.old seat.new self.old self.new) }
         ensures full { result ≡ Err LookError.HeapFull → seat.new ≡ record seat.old { out = true } }
-        ensures used_up { result ≡ Err LookError.HeapFull → claims.now.source.seats ≡ 1 → length seat.old.drawn ≡ length claims.now.source.free }
+        ensures used_up { result ≡ Err LookError.HeapFull → claims.now.source.seats ≡ 1 → (x : ℕ) → times_in x seat.old.drawn ≡ times_in x claims.now.source.free }
         ensures wanted { result ≡ Err LookError.HeapFull → draws_for (objects_of heap.now) self.old.worker (place_word name) ≡ true }
         ensures memory { result ≡ Err LookError.NoMemory → seat.new ≡ seat.old }
         ensures err { OnErr result (self.new ≡ self.old) }
@@ -266,7 +267,7 @@ impl<A: Allocator + Clone> Workspace<A> {
         ensures nothing { result ≡ Ok false → (self.new ≡ self.old) × (pass.new ≡ pass.old) × (seat.new ≡ seat.old) }
         ensures ok { result ≡ Ok true → Looks heap.now collection.now (C.look_gives cells.old) (C.known pass.old) (C.known pass.new) seat.old seat.new self.old self.new }
         ensures full { result ≡ Err LookError.HeapFull → seat.new ≡ record seat.old { out = true } }
-        ensures used_up { result ≡ Err LookError.HeapFull → claims.now.source.seats ≡ 1 → length seat.old.drawn ≡ length claims.now.source.free }
+        ensures used_up { result ≡ Err LookError.HeapFull → claims.now.source.seats ≡ 1 → (x : ℕ) → times_in x seat.old.drawn ≡ times_in x claims.now.source.free }
         ensures wanted { result ≡ Err LookError.HeapFull → WantsBlock heap.now collection.now (C.look_gives cells.old) (C.known pass.old) (C.known pass.new) self.old }
         ensures memory { result ≡ Err LookError.NoMemory → seat.new ≡ seat.old }
         ensures err { OnErr result (self.new ≡ self.old) }
