@@ -12,7 +12,7 @@ use Rattle.claims.specs.ClaimsValue.{SeatValue, unused}
 use Rattle.plain_cells.specs.Plain.{PlainPassValue, IsFit, IsWinOf, place_held, empty_cells}
 use Rattle.plain_cells.specs.Plain.{PlainValue as PlainCellsValue}
 use Rattle.plain_cells.specs.declared.held.Held.{Held}
-use Rattle.plain_queues.specs.PlainValue.{empty_lane, new_pending}
+use Rattle.plain_queues.specs.PlainValue.{PlainLane, empty_lane, new_pending}
 use Rattle.plain_queues.specs.PlainValue.{PlainValue as PlainQueuesValue}
 use Rattle.heap_data.specs.HeapValue.{HeapValue}
 use Rattle.heap_data.specs.CollectionValue.{CollectionValue}
@@ -153,7 +153,7 @@ module _ (v : InterleavedValue) (ready : IsReadyToCollect v.heap v.collection) (
   lanes = ap (λ (q : PlainQueuesValue CopiesKeyValue). q.lanes) queues
 
   no_lane : (u : ℕ) → IsLane u empty_lane
-  no_lane u = record { taken = omega arith; labels = λ position block e. absurd (cc) }
+  no_lane u = record { taken = omega arith; labels = λ position block e. absurd (cc); noted = λ position block e. absurd (cc) }
 
   member : (t : ℕ) (m : MemberValue) → IsFirst v.heap v.collection v.workers t m → IsMember v.heap v.collection v.workers t m
   member t m is =
@@ -233,4 +233,5 @@ module _ (v : InterleavedValue) (ready : IsReadyToCollect v.heap v.collection) (
         };
         each = λ t m e. member t m (first.each t m e);
         reached = reached_first v ready some first_system;
+        takers = λ u lane e position t taken. absurd (let none : lane ≡ empty_lane = sym (in-replicate v.workers empty_lane lane u (ap (λ ls. slice_get ls u) (sym lanes) ∙ e)) in let x = sym (ap (λ (l : PlainLane). slice_get l.takers position) none) ∙ taken in cc);
       }

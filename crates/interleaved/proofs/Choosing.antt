@@ -1,17 +1,18 @@
 -- Which event comes next by itself, as the readers tell.
-use Rattle.std.proofs.Common.{◌≡◌, ◌≢◌, ℕ, zero, suc, ◌+◌, ◌<◌, Bool, true, false, List, [], ◌∷◌, length, map, Option, Some, None, refl, sym, ap, subst, ◌∙◌, arith, ⊎_elim}
-use Rattle.std.specs.Prelude.{slice_get, slice_index_or}
+use Rattle.std.proofs.Common.{◌≡◌, ◌≢◌, ℕ, zero, suc, ◌+◌, ◌<◌, Bool, true, false, not, true≢false, is_some, List, [], ◌∷◌, length, map, Option, Some, None, refl, sym, ap, subst, ◌∙◌, arith, ⊎_elim}
+use Rattle.std.specs.Prelude.{IsTrue, slice_get, slice_index_or}
 use Rattle.std.proofs.lemmas.Bool.{cases_eq}
 use Rattle.std.proofs.lemmas.Option.{slice_get-get_or}
 use Rattle.workers.specs.Block.{Block}
 use Rattle.workers.specs.System.{System, Event}
-use Rattle.workers.specs.Lawful.{HasQueued, lowest_unset, next_of_worker, queue_at}
+use Rattle.workers.specs.Lawful.{AllEnded, HasQueued, lowest_unset, next_of_worker, queue_at}
 use Rattle.heap_data.specs.HeapValue.{HeapValue}
 use Rattle.scavenge.specs.Slots.{objects_of}
 use Rattle.std.specs.Option.{option_map, option_map_or}
 use Rattle.interleaved.specs.InterleavedValue.{InterleavedValue, MemberValue, worker_of, system_of, setting_in}
 use Rattle.interleaved.specs.IsInterleaved.{IsInterleaved}
 use Rattle.interleaved.proofs.Places.{get-map, length-map}
+use Rattle.interleaved.proofs.Laws.{Says}
 
 -- the first flag that isn't set
 pub unset_first : (n : ℕ) (bs : List Bool) (d : ℕ) → ((e : ℕ) → e < d → slice_get bs e ≡ Some true) → slice_get bs d ≡ Some false → lowest_unset n bs ≡ Some (n + d)
@@ -28,6 +29,12 @@ unset_none n [] below = refl
 unset_none n (false ∷ bs) below = let x : Some false ≡ Some true = below 0 (omega arith) in absurd (cc)
 unset_none n (true ∷ bs) below = unset_none (n + 1) bs (λ e l. below (suc e) (omega (arith, l)))
 
+pub none_unset : (n : ℕ) (bs : List Bool) → lowest_unset n bs ≡ None → (t : ℕ) → t < length bs → slice_get bs t ≡ Some true
+none_unset n [] e t l = absurd (omega (arith, l))
+none_unset n (false ∷ bs) e t l = absurd (cc)
+none_unset n (true ∷ bs) e zero l = refl
+none_unset n (true ∷ bs) e (suc t) l = none_unset (n + 1) bs e t (omega (arith, l))
+
 -- one flag more is set
 pub set_next : (bs : List Bool) (t : ℕ) → ((e : ℕ) → e < t → slice_get bs e ≡ Some true) → slice_get bs t ≡ Some true → (e : ℕ) → e < t + 1 → slice_get bs e ≡ Some true
 set_next bs t below is e l =
@@ -42,6 +49,28 @@ module _ (f : MemberValue → Bool) (v : InterleavedValue) (k : IsInterleaved v)
 
 pub at_first : (bs : List Bool) (t : ℕ) → ((e : ℕ) → e < t → slice_get bs e ≡ Some true) → slice_get bs t ≡ Some false → Some t ≡ lowest_unset 0 bs
 at_first bs t below is = let z : 0 + t ≡ t = omega arith in sym (unset_first 0 bs t below is ∙ ap (λ i. Some i) z)
+
+-- whether every worker ended, as the lowest that hasn't tells
+pub ended_says : (v : InterleavedValue) (lowest : Option ℕ) (none : Bool) → lowest ≡ lowest_unset 0 (system_of v).ended → is_some lowest ≡ not none → Says none (AllEnded (system_of v))
+ended_says v lowest none low is = (there none is, back none is)
+  where
+    many : length (system_of v).ended ≡ length (system_of v).workers
+    many = length-map (λ (m : MemberValue). m.ended) v.members ∙ sym (length-map worker_of v.members)
+
+    ended : lowest ≡ None → AllEnded (system_of v)
+    ended e t l = none_unset 0 (system_of v).ended (sym low ∙ e) t (omega (arith, l, many))
+
+    there : (b : Bool) → is_some lowest ≡ not b → IsTrue b → AllEnded (system_of v)
+    there false i e = absurd (true≢false (sym e))
+    there true i e = go lowest refl i
+      where
+        go : (o : Option ℕ) → lowest ≡ o → is_some o ≡ false → AllEnded (system_of v)
+        go None at s = ended at
+        go (Some d) at s = absurd (true≢false s)
+
+    back : (b : Bool) → is_some lowest ≡ not b → AllEnded (system_of v) → IsTrue b
+    back true i k = refl
+    back false i k = absurd (true≢false (sym i ∙ ap is_some (low ∙ unset_none 0 (system_of v).ended (λ e l. k e (omega (arith, l, many))))))
 
 -- whether something waits in a queue, and what it is
 pub queue_some : (s : System) (u : ℕ) → HasQueued s u → queue_at s u ≢ []

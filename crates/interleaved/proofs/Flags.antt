@@ -10,6 +10,7 @@ use Rattle.layout.specs.Place.{IsLargeAt}
 use Rattle.scavenge.specs.Shown.{WorkspaceValue}
 use Rattle.interleaved.specs.IsInterleaved.{IsInterleaved, IsMember, HasWorked, HasReached}
 use Rattle.interleaved.proofs.Places.{found, get-map, set-each, length-set, map-set, map-set_same, set-again, index-or, length-map, count-raised, count-lowered}
+use Rattle.interleaved.proofs.Takers.{takers_same}
 use Rattle.interleaved.proofs.Members.{Does, doing, is_in}
 
 abbrev pub idle_in : MemberValue → Bool
@@ -52,6 +53,7 @@ module _ (v : InterleavedValue) (k : IsInterleaved v) (t : ℕ) (m m' : MemberVa
         queue = k.queue;
         each = set-each (IsMember v.heap v.collection v.workers) v.members t m' k.each member;
         reached = reached;
+        takers = takers_same v.members t m m' at v.queues.lanes taken k.takers;
       }
 
   system : List Worker → List (List (ℕ × ℕ)) → List Bool → List Bool → System

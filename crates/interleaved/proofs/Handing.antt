@@ -18,6 +18,7 @@ use Rattle.scavenge.specs.Shown.{WorkspaceValue, Begins}
 use Rattle.interleaved.specs.InterleavedValue.{InterleavedValue, MemberValue, Stays, queue_in, exports_in, system_of, setting_in}
 use Rattle.interleaved.specs.IsInterleaved.{IsInterleaved, IsLane, IsMember}
 use Rattle.interleaved.proofs.Places.{found, get-map, get-within, map-set, map-set_same, updated-set, set-again}
+use Rattle.interleaved.proofs.Takers.{takers_same, takers_more, takers_lane}
 use Rattle.interleaved.proofs.Members.{Does, doing, staying, renewed, renews, system-renewed, taken-same, member_on, is_in}
 use Rattle.interleaved.proofs.Lanes.{sent_as, exports_more, queue_more, lane_more, lane_less, queue_next, front_waits, queued_on, own_lane, lane_is, taken_handed, taken_unscanned, each_more}
 
@@ -32,7 +33,7 @@ module _ (v : InterleavedValue) (k : IsInterleaved v) (t : ℕ) (m : MemberValue
   pub has_lane : slice_get v.members t ≡ Some m → t < v.workers
   has_lane at = let l = get-within v.members t m at in omega (arith, l, k.count)
 
-  module _ (lawful : IsLawful (setting_in v) (system_of v) (Export t)) (b : BlockValue) (first : Begins m.workspace.config.shape m.workspace.worker.aside b) where
+  module _ (lawful : IsLawful (setting_in v) (system_of v) (Export t)) (b : BlockValue) (first : Begins m.workspace.config.shape m.workspace.worker.aside b) (all_noted : length b.origins ≡ length b.objects) where
     abbrev lane : PlainLane
     lane = lane_at v.queues t
 
@@ -50,8 +51,9 @@ module _ (v : InterleavedValue) (k : IsInterleaved v) (t : ℕ) (m : MemberValue
         let is_lane : IsLane t lane = k.queue.each t lane at in
         let next = member_on v.heap v.collection v.workers t m Exported member i.can (λ h l. l) in
         let oldest : Begins shape m.workspace.worker.aside b = subst (λ c. Begins c.shape m.workspace.worker.aside b) member.config first in
-        doing (Export t) v (sharing v lanes t sender) k (λ reached. renews v k t m sender i.there v.cells v.pass v.draws lanes k.cells k.draws (queued_on v.heap v.collection v.workers v.queues k.queue t (with_export lane t b) (lane_more shape t lane b is_lane)) refl
-        (record { seat = next.seat; config = next.config; claim = next.claim; worked = next.worked }) reached)
+        doing (Export t) v (sharing v lanes t sender) k (λ reached. renews v k t m sender i.there v.cells v.pass v.draws lanes k.cells k.draws (queued_on v.heap v.collection v.workers v.queues k.queue t (with_export lane t b) (lane_more shape t lane b all_noted is_lane)) refl
+        (record { seat = next.seat; config = next.config; claim = next.claim; worked = next.worked })
+        (takers_lane v.queues.lanes (slice_set v.members t sender) t lane (with_export lane t b) at refl (takers_same v.members t m sender i.there v.queues.lanes refl k.takers)) reached)
         (record {
           heap = refl;
           collection = refl;
@@ -95,7 +97,7 @@ module _ (v : InterleavedValue) (k : IsInterleaved v) (t : ℕ) (m : MemberValue
       (subst (λ x. Kept (sharing v x t (record m { seat = seat; workspace = record m.workspace { spare = false } }))) (sym q)
       (subst (λ x. Kept (sharing v v.queues t (record m { seat = x; workspace = record m.workspace { spare = false } }))) (sym s)
       (staying v (sharing v v.queues t spared) k (λ reached. renews v k t m spared at v.cells v.pass v.draws v.queues k.cells k.draws k.queue refl
-      (let member : IsMember v.heap v.collection v.workers t m = k.each t m at in record { seat = member.seat; config = member.config; claim = member.claim; worked = member.worked }) reached)
+      (let member : IsMember v.heap v.collection v.workers t m = k.each t m at in record { seat = member.seat; config = member.config; claim = member.claim; worked = member.worked }) (takers_same v.members t m spared at v.queues.lanes refl k.takers) reached)
       (record {
         heap = refl;
         collection = refl;
@@ -147,7 +149,8 @@ module _ (v : InterleavedValue) (k : IsInterleaved v) (t : ℕ) (m : MemberValue
           let is_lane : IsLane u source = k.queue.each u source from.there in
           let shapes : named m.workspace.config.shape b ≡ named shape b = ap (λ c. named c.shape b) member.config in
           doing (Take t u) v (sharing v fewer t taker) k (λ reached. renews v k t m taker i.there v.cells v.pass v.draws fewer k.cells k.draws (queued_on v.heap v.collection v.workers v.queues k.queue u (with_taker source m.seat (Some b)) (lane_less u source b m.seat front is_lane)) refl
-          (record { seat = next.seat; config = next.config; claim = next.claim; worked = next.worked }) reached)
+          (record { seat = next.seat; config = next.config; claim = next.claim; worked = next.worked })
+          (takers_more v.members t m taker i.there v.queues.lanes u source b m.seat from.there member.seat refl k.takers) reached)
           (record {
             heap = refl;
             collection = refl;

@@ -74,11 +74,12 @@ module _ (shape : Shape) (u : ℕ) (lane : PlainLane) (b : BlockValue) where
       ∙ map-append (named shape) (waiting_in lane) (label_of u lane b ∷ [])
       ∙ ap (λ x. queue_in shape lane ++ x ∷ []) label_seen
 
-  pub lane_more : IsLane u lane → IsLane u (with_export lane u b)
-  lane_more k =
+  pub lane_more : length b.origins ≡ length b.objects → IsLane u lane → IsLane u (with_export lane u b)
+  lane_more all_noted k =
       record {
         taken = omega (arith, k.taken, length_more lane.sent (label_of u lane b));
         labels = places_more (λ position (block : BlockValue). block.sent ≡ Some (u, position)) lane.sent (label_of u lane b) k.labels refl;
+        noted = places_more (λ position (block : BlockValue). length block.origins ≡ length block.objects) lane.sent (label_of u lane b) k.noted all_noted;
       }
 
 module _ (u : ℕ) (lane : PlainLane) (b : BlockValue) (taker : ℕ) (front : front_of lane ≡ Some b) where
@@ -90,6 +91,7 @@ module _ (u : ℕ) (lane : PlainLane) (b : BlockValue) (taker : ℕ) (front : fr
       record {
         taken = let l = get-within lane.sent (length lane.takers) b front in omega (arith, l, one_more);
         labels = k.labels;
+        noted = k.noted;
       }
 
   pub queue_next : (shape : Shape) → queue_in shape lane ≡ named shape b ∷ queue_in shape (with_taker lane taker (Some b))

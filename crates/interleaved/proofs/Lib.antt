@@ -7,6 +7,7 @@ pub mod Reaching
 pub mod Raced
 pub mod Looked
 pub mod Lanes
+pub mod Takers
 pub mod Handing
 pub mod Beginning
 pub mod Laws

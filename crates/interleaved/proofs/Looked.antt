@@ -28,6 +28,7 @@ use Rattle.serial.proofs.Drawn.{left_contains, left_push}
 use Rattle.interleaved.specs.InterleavedValue.{InterleavedValue, MemberValue, worker_of, Goes, Stays, WantsDraw, system_of, setting_in, forwarded_in, forwarded_at}
 use Rattle.interleaved.specs.IsInterleaved.{IsInterleaved, AreForwarded, HasReached}
 use Rattle.interleaved.proofs.Places.{get-map, set-again}
+use Rattle.interleaved.proofs.Takers.{takers_same}
 use Rattle.interleaved.proofs.Reaching.{reached_still}
 use Rattle.interleaved.proofs.Members.{Does, doing, renewed, renews, system-renewed, taken-same, member_on, is_in}
 use Rattle.interleaved.proofs.Readiness.{ready_of}
@@ -87,7 +88,7 @@ module _ (v : InterleavedValue) (k : IsInterleaved v) (t : ℕ) (m : MemberValue
 
     -- nothing came: more is known, or no block was found
     stood : draws.drawn ≡ v.draws.drawn → IsInterleaved (renewed v v.cells pass draws v.queues t m)
-    stood drawn = renews v k t m m at v.cells pass draws v.queues forwarded (record { free = k.draws.free; seats = k.draws.seats; seat = seat }) k.queue refl (k.each t m at) (reached_still v (renewed v v.cells pass draws v.queues t m) k.reached stays)
+    stood drawn = renews v k t m m at v.cells pass draws v.queues forwarded (record { free = k.draws.free; seats = k.draws.seats; seat = seat }) k.queue refl (k.each t m at) (takers_same v.members t m m at v.queues.lanes refl k.takers) (reached_still v (renewed v v.cells pass draws v.queues t m) k.reached stays)
       where
         stays : Stays v (renewed v v.cells pass draws v.queues t m)
         stays =
@@ -142,7 +143,7 @@ module _ (v : InterleavedValue) (k : IsInterleaved v) (t : ℕ) (m : MemberValue
       kept : (number : ℕ) → HasReached (looked_to (looked number)) → IsInterleaved (looked_to (looked number))
       kept number reached =
           renews v k t m (record m { workspace = looked number }) at v.cells pass draws v.queues forwarded (record { free = k.draws.free; seats = k.draws.seats; seat = seat }) k.queue refl
-          (member_on v.heap v.collection v.workers t m (Looked shown number) (k.each t m at) can (λ h l. l)) reached
+          (member_on v.heap v.collection v.workers t m (Looked shown number) (k.each t m at) can (λ h l. l)) (takers_same v.members t m (record m { workspace = looked number }) at v.queues.lanes refl k.takers) reached
 
       looks : (new : WorkspaceValue) → Looks v.heap v.collection Gives (known_by v.pass) (known_by pass) v.draws draws m.workspace new → Does (Look t) v (looked_to new)
       looks new r = subst (λ (w : WorkspaceValue). Does (Look t) v (looked_to w)) (sym new_is) (doing (Look t) v (looked_to (looked r.number)) k (kept r.number) (went r.number drawn))

@@ -21,6 +21,7 @@ use Rattle.serial.specs.SerialValue.{left_of}
 use Rattle.interleaved.specs.InterleavedValue.{InterleavedValue, MemberValue, Goes, Stays, worker_of, queue_in, exports_in, forwarded_in, system_of, setting_for, setting_in}
 use Rattle.interleaved.specs.IsInterleaved.{IsInterleaved, IsMember, HasWorked, AreForwarded, AreDrawn, AreQueued, HasReached}
 use Rattle.interleaved.proofs.Places.{found, set-each, length-set, map-set, map-set_same, index-or, set-again}
+use Rattle.interleaved.proofs.Takers.{AreTakers, takers_same}
 use Rattle.interleaved.proofs.Reaching.{reached_by, reached_still}
 
 abbrev pub with_member : InterleavedValue → ℕ → MemberValue → InterleavedValue
@@ -48,8 +49,8 @@ renewed v cells pass draws queues t m = record v { cells = cells; pass = pass; d
 
 -- what the members share changed, and one of them
 pub renews : (v : InterleavedValue) → IsInterleaved v → (t : ℕ) (m m' : MemberValue) → slice_get v.members t ≡ Some m → (cells : PlainCellsValue) (pass : PlainPassValue) (draws : SeatValue) (queues : PlainQueuesValue CopiesKeyValue)
-    → AreForwarded v.heap v.collection cells pass → AreDrawn v.heap v.claims draws → AreQueued v.heap v.collection v.workers queues → m'.idle ≡ m.idle → IsMember v.heap v.collection v.workers t m' → HasReached (renewed v cells pass draws queues t m') → IsInterleaved (renewed v cells pass draws queues t m')
-renews v k t m m' at cells pass draws queues forwarded drawn queued same member reached =
+    → AreForwarded v.heap v.collection cells pass → AreDrawn v.heap v.claims draws → AreQueued v.heap v.collection v.workers queues → m'.idle ≡ m.idle → IsMember v.heap v.collection v.workers t m' → AreTakers queues.lanes (slice_set v.members t m') → HasReached (renewed v cells pass draws queues t m') → IsInterleaved (renewed v cells pass draws queues t m')
+renews v k t m m' at cells pass draws queues forwarded drawn queued same member takers reached =
     record {
       ready = k.ready;
       some = k.some;
@@ -61,13 +62,15 @@ renews v k t m m' at cells pass draws queues forwarded drawn queued same member 
       queue = queued;
       each = set-each (IsMember v.heap v.collection v.workers) v.members t m' k.each member;
       reached = reached;
+      takers = takers;
     }
 
 -- neither cells nor draws nor queues had a part in it
 pub acted_alone : (v : InterleavedValue) → IsInterleaved v → (t : ℕ) (m : MemberValue) → slice_get v.members t ≡ Some m → (act : Act) → CanAct (setting_in v) m.workspace.worker act
     → ((h : History) → AreTaken v.heap v.collection v.workers h → AreTaken v.heap v.collection v.workers (noted (setting_in v) m.workspace.worker act h)) → HasReached (with_member v t (acting m (after (setting_in v) m.workspace.worker act))) → IsInterleaved (with_member v t (acting m (after (setting_in v) m.workspace.worker act)))
 acted_alone v k t m at act can handed reached =
-    renews v k t m (acting m (after (setting_in v) m.workspace.worker act)) at v.cells v.pass v.draws v.queues k.cells k.draws k.queue refl (member_on v.heap v.collection v.workers t m act (k.each t m at) can handed) reached
+    renews v k t m (acting m (after (setting_in v) m.workspace.worker act)) at v.cells v.pass v.draws v.queues k.cells k.draws k.queue refl (member_on v.heap v.collection v.workers t m act (k.each t m at) can handed)
+    (takers_same v.members t m (acting m (after (setting_in v) m.workspace.worker act)) at v.queues.lanes refl k.takers) reached
 
 abbrev system : List (ℕ × ℕ) → List ℕ → List Worker → List (List Block) → List (List Block) → List (List (ℕ × ℕ)) → List Bool → List Bool → System
 system forwarded free workers queues exported taken idle ended = record { forwarded = forwarded; free = free; workers = workers; queues = queues; exported = exported; taken = taken; idle = idle; ended = ended }

@@ -1,5 +1,5 @@
 -- Lists of which one place changes.
-use Rattle.std.proofs.Common.{◌≡◌, ℕ, zero, suc, ◌+◌, ◌<◌, Bool, true, false, cond, List, [], ◌∷◌, length, map, Some, refl, sym, ap, ◌∙◌, subst, arith}
+use Rattle.std.proofs.Common.{◌≡◌, ◌≢◌, ℕ, zero, suc, ◌+◌, ◌<◌, Bool, true, false, cond, List, [], ◌∷◌, length, map, Some, refl, sym, ap, ◌∙◌, subst, arith}
 use Rattle.std.specs.Prelude.{slice_get, slice_set, slice_index_or, count_by}
 use Rattle.std.proofs.lemmas.List.Sums.{sum_by-cons}
 use Rattle.workers.specs.Block.{updated}
@@ -32,6 +32,18 @@ set-each P (z ∷ zs) zero y each p zero x e = let q : y ≡ x = cc in subst (P 
 set-each P (z ∷ zs) zero y each p (suc i) x e = each (suc i) x e
 set-each P (z ∷ zs) (suc t) y each p zero x e = each 0 x e
 set-each P (z ∷ zs) (suc t) y each p (suc i) x e = set-each (λ j. P (suc j)) zs t y (λ j. each (suc j)) p i x e
+
+pub get-set : {A : Type 0} (xs : List A) (t : ℕ) (x y : A) → slice_get xs t ≡ Some x → slice_get (slice_set xs t y) t ≡ Some y
+get-set [] t x y e = absurd (cc)
+get-set (z ∷ zs) zero x y e = refl
+get-set (z ∷ zs) (suc t) x y e = get-set zs t x y e
+
+pub get-set_other : {A : Type 0} (xs : List A) (t i : ℕ) (y : A) → i ≢ t → slice_get (slice_set xs t y) i ≡ slice_get xs i
+get-set_other [] t i y ne = refl
+get-set_other (z ∷ zs) zero zero y ne = absurd (ne refl)
+get-set_other (z ∷ zs) zero (suc i) y ne = refl
+get-set_other (z ∷ zs) (suc t) zero y ne = refl
+get-set_other (z ∷ zs) (suc t) (suc i) y ne = get-set_other zs t i y (λ e. ne (ap suc e))
 
 pub length-set : {A : Type 0} (xs : List A) (t : ℕ) (y : A) → length (slice_set xs t y) ≡ length xs
 length-set [] t y = refl

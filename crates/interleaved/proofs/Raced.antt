@@ -32,6 +32,7 @@ use Rattle.scavenge.specs.Told.{Races, IsNumberOf, IsBid, lost_of, name_of}
 use Rattle.serial.proofs.Raced.{some_there}
 use Rattle.interleaved.specs.InterleavedValue.{InterleavedValue, MemberValue, Goes, system_of, setting_in, forwarded_at, forwarded_in}
 use Rattle.interleaved.specs.IsInterleaved.{IsInterleaved}
+use Rattle.interleaved.proofs.Takers.{takers_same}
 use Rattle.interleaved.proofs.Reaching.{reached_by}
 use Rattle.interleaved.proofs.Places.{set-again}
 use Rattle.interleaved.proofs.Members.{Does, renewed, renews, system-renewed, taken-same, member_on, is_in}
@@ -197,7 +198,7 @@ module _ (v : InterleavedValue) (k : IsInterleaved v) (t : ℕ) (m : MemberValue
             })
             k.draws k.queue refl
             (member_on v.heap v.collection v.workers t m (Raced shown) (k.each t m at) (ap is_some proposed) (λ h l. l))
-            (reached_by (Race t) v (raced_to workspace) k.reached (went won_is))
+            (takers_same v.members t m (record m { workspace = workspace }) at v.queues.lanes refl k.takers) (reached_by (Race t) v (raced_to workspace) k.reached (went won_is))
 
 -- the call's answer: a race, or nothing
 module _ (v : InterleavedValue) (k : IsInterleaved v) (t : ℕ) (m : MemberValue) (is : m ≡ slice_index_or v.members t m) (lawful : IsLawful (setting_in v) (system_of v) (Race t)) (heap : HeapValue) (c : CollectionValue) (same_heap : heap ≡ v.heap) (same_collection : c ≡ v.collection)

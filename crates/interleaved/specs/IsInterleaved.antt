@@ -41,6 +41,7 @@ pub record AreDrawn (heap : HeapValue) (claims : ClaimsValue) (draws : SeatValue
 pub record IsLane (u : ℕ) (lane : PlainLane) : Type 0 where
   pub taken : length lane.takers ≤ length lane.sent
   pub labels : (position : ℕ) (block : BlockValue) → slice_get lane.sent position ≡ Some block → block.sent ≡ Some (u, position)
+  pub noted : (position : ℕ) (block : BlockValue) → slice_get lane.sent position ≡ Some block → length block.origins ≡ length block.objects
 
 -- there is a queue for each of so many workers
 pub record AreQueued (heap : HeapValue) (c : CollectionValue) (n : ℕ) (queues : PlainQueuesValue CopiesKeyValue) : Type 0 where
@@ -65,6 +66,17 @@ pub record IsMember (heap : HeapValue) (c : CollectionValue) (n t : ℕ) (m : Me
   pub claim : IsLargeAt m.workspace.claim t
   pub worked : HasWorked heap c n t m.workspace.worker
 
+-- worker t has that export of worker u in its taken list
+pub record HasTaken (members : List MemberValue) (t u position : ℕ) : Type 0 where
+  pub member : MemberValue
+  pub there : slice_get members t ≡ Some member
+  pub place : ℕ
+  pub took : slice_get member.taken place ≡ Some (u, position)
+
+-- what the queue of worker u says was taken, is in the taken list of its taker
+abbrev pub AreTakenBy : List MemberValue → ℕ → PlainLane → Type 0
+AreTakenBy members u lane = (position t : ℕ) → slice_get lane.takers position ≡ Some t → HasTaken members t u position
+
 -- some run from the first state comes to this one
 abbrev pub HasReached : InterleavedValue → Type 0
 HasReached v = IsReached (setting_in v) (destinations_in v) v.workers (targets_in v) v.heap.free (system_of v)
@@ -80,6 +92,7 @@ pub record IsInterleaved (v : InterleavedValue) : Type 0 where
   pub queue : AreQueued v.heap v.collection v.workers v.queues
   pub each : (t : ℕ) (m : MemberValue) → slice_get v.members t ≡ Some m → IsMember v.heap v.collection v.workers t m
   pub reached : HasReached v
+  pub takers : (u : ℕ) (lane : PlainLane) → slice_get v.queues.lanes u ≡ Some lane → AreTakenBy v.members u lane
 
 -- worker t of n before its first event
 pub record IsFirst (heap : HeapValue) (c : CollectionValue) (n t : ℕ) (m : MemberValue) : Type 0 where

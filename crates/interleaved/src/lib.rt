@@ -8,6 +8,7 @@ mod lawful;
 mod member;
 mod new;
 mod next;
+mod parts;
 mod queueing;
 mod racing;
 mod resting;
@@ -18,4 +19,6 @@ mod taking;
 
 pub use event::Event;
 pub use interleaved::InterleavedCollection;
+pub use member::Member;
+pub use parts::InterleavedParts;
 pub use step_error::StepError;

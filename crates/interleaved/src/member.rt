@@ -1,13 +1,13 @@
 //! One worker among several.
 use plain_queues::PlainSeat;
 use scavenge::Workspace;
-use std::alloc::Allocator;
+use std::alloc::{Allocator, Global};
 use std::marker::Model;
 
 /// A worker's own part and its seat at the queues, the exporter and position of each block that it took, and whether it is
 /// idle and has ended.
 #[derive(Drop)]
-pub(crate) struct Member<A: Allocator> {
+pub struct Member<A: Allocator = Global> {
     pub(crate) seat: PlainSeat,
     pub(crate) workspace: Workspace<A>,
     pub(crate) taken: Vec<(u32, u64), A>,

@@ -1,7 +1,7 @@
 //! What comes next by itself.
-ghost use Rattle.std.specs.Prelude.{◌≡◌, ◌<◌, Some, IfSome, slice_get};
+ghost use Rattle.std.specs.Prelude.{◌≡◌, ◌↔◌, ◌<◌, Some, IfSome, IsTrue, slice_get};
 ghost use Rattle.std.specs.Option.{option_map};
-ghost use Rattle.workers.specs.Lawful.{lowest_unset, next_lawful, next_of_worker, queue_at};
+ghost use Rattle.workers.specs.Lawful.{AllEnded, lowest_unset, next_lawful, next_of_worker, queue_at};
 ghost use Rattle.interleaved.specs.InterleavedValue.{setting_in, system_of};
 ghost use Rattle.interleaved.specs.Events.{event_of};
 
@@ -34,6 +34,13 @@ impl<A: Allocator> InterleavedCollection<A> {
             }
         }
         None
+    }
+
+    /// Whether every worker has ended.
+    pub fn all_ended(&self) -> bool
+        ensures { IsTrue result ↔ AllEnded (system_of self.now) }
+    {
+        self.lowest_going().is_none()
     }
 }
 

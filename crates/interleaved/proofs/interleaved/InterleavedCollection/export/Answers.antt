@@ -28,13 +28,13 @@ export-requires-clause-fact g c =
 pub invariant_of-self-in-Ok : goal.invariant_of-self-in-Ok
 invariant_of-self-in-Ok g c =
     let v : InterleavedValue = record { heap = c.self.inside.heap.value; collection = c.self.inside.collection.value; cells = c.self.inside.cells; pass = c.self.inside.pass; claims = c.self.inside.claims; draws = c.self.inside.draws; queues = c.self.inside.queues; workers = c.self.inside.workers; idlers = c.self.inside.idlers; members = c.self.inside.members.items } in
-    (export_does v c.self.invariant c.args.t _ (behind c.self.inside.members.items c.args.t c.member.view_is c.index_mut-member.ensures.value) (lawful_as (Export c.args.t) c.self.view_is c.requires) c.in-Some.block c.in-Some.ensures.block c.aside.new.self c.export.new.self c.export.new.seat c.in-Some.ensures.worker c.in-Ok.ensures.pending c.export.ensures.seat).0
+    (export_does v c.self.invariant c.args.t _ (behind c.self.inside.members.items c.args.t c.member.view_is c.index_mut-member.ensures.value) (lawful_as (Export c.args.t) c.self.view_is c.requires) c.in-Some.block c.in-Some.ensures.block c.in-Some.ensures.whole.noted c.aside.new.self c.export.new.self c.export.new.seat c.in-Some.ensures.worker c.in-Ok.ensures.pending c.export.ensures.seat).0
 
 pub returns-in-Ok-clause-ok : goal.returns-in-Ok-clause-ok
 returns-in-Ok-clause-ok g c =
     let v : InterleavedValue = record { heap = c.self.inside.heap.value; collection = c.self.inside.collection.value; cells = c.self.inside.cells; pass = c.self.inside.pass; claims = c.self.inside.claims; draws = c.self.inside.draws; queues = c.self.inside.queues; workers = c.self.inside.workers; idlers = c.self.inside.idlers; members = c.self.inside.members.items } in
     goes_as c.self.view_is
-    (export_does v c.self.invariant c.args.t _ (behind c.self.inside.members.items c.args.t c.member.view_is c.index_mut-member.ensures.value) (lawful_as (Export c.args.t) c.self.view_is c.requires) c.in-Some.block c.in-Some.ensures.block c.aside.new.self c.export.new.self c.export.new.seat c.in-Some.ensures.worker c.in-Ok.ensures.pending c.export.ensures.seat).1
+    (export_does v c.self.invariant c.args.t _ (behind c.self.inside.members.items c.args.t c.member.view_is c.index_mut-member.ensures.value) (lawful_as (Export c.args.t) c.self.view_is c.requires) c.in-Some.block c.in-Some.ensures.block c.in-Some.ensures.whole.noted c.aside.new.self c.export.new.self c.export.new.seat c.in-Some.ensures.worker c.in-Ok.ensures.pending c.export.ensures.seat).1
 
 pub invariant_of-self-in-Err : goal.invariant_of-self-in-Err
 invariant_of-self-in-Err g c =
