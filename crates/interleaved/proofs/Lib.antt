@@ -11,5 +11,4 @@ pub mod Takers
 pub mod Handing
 pub mod Beginning
 pub mod Laws
-pub mod Running
 pub mod Choosing

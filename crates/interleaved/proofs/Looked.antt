@@ -18,7 +18,7 @@ use Rattle.workers.specs.WorkerRun.{Looked}
 use Rattle.workers.specs.System.{System, Look, without_number}
 use Rattle.workers.specs.System as system
 use Rattle.workers.specs.Steps.{IsAwake}
-use Rattle.workers.specs.Lawful.{IsLawful}
+use Rattle.workers.specs.Lawful.{IsLawful, IsRefused}
 use Rattle.scavenge.specs.Shown.{WorkspaceValue}
 use Rattle.scavenge.specs.declared.look.LookError.{LookError}
 use Rattle.scavenge.specs.declared.look.LookError.TheVariants.{HeapFull, NoMemory}
@@ -171,6 +171,10 @@ has_slot setting w r can none e = go (current_slot setting w) can.slot (none e)
 pub is_there : {E : Type 0} (r : Result Bool E) (b : Bool) → r ≡ Ok b → (r ≡ Ok false → ⊥) → r ≡ Ok true
 is_there r true is there = is
 is_there r false is there = absurd (there is)
+
+-- a block is wanted, and none is left
+pub is_refused : (v : InterleavedValue) (t : ℕ) → WantsDraw v t → (system_of v).free ≡ [] → IsRefused (setting_in v) (system_of v) (Look t)
+is_refused v t wants none = record { t = t; worker = wants.worker; look = refl; at = wants.at; wanted = wants.wanted; none_free = none }
 
 -- the call's answer: a look, or nothing
 module _ (v : InterleavedValue) (k : IsInterleaved v) (t : ℕ) (m : MemberValue) (is : m ≡ slice_index_or v.members t m) (lawful : IsLawful (setting_in v) (system_of v) (Look t)) (heap : HeapValue) (c : CollectionValue) (same_heap : heap ≡ v.heap) (same_collection : c ≡ v.collection) (pass : PlainPassValue) where

@@ -2,4 +2,3 @@
 pub mod InterleavedValue
 pub mod IsInterleaved
 pub mod Events
-pub mod Errors

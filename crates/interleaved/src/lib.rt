@@ -12,13 +12,9 @@ mod parts;
 mod queueing;
 mod racing;
 mod resting;
-mod run;
-mod step;
-mod step_error;
 mod taking;
 
 pub use event::Event;
 pub use interleaved::InterleavedCollection;
 pub use member::Member;
 pub use parts::InterleavedParts;
-pub use step_error::StepError;

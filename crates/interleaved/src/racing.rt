@@ -1,7 +1,7 @@
 //! What a worker looks at, and races for.
 ghost use Rattle.std.specs.Prelude.{◌≡◌, true, Err, OnOk, OnErr};
 ghost use Rattle.workers.specs.System.{Look, Race};
-ghost use Rattle.workers.specs.Lawful.{IsLawful};
+ghost use Rattle.workers.specs.Lawful.{IsLawful, IsRefused};
 ghost use Rattle.interleaved.specs.InterleavedValue.{Goes, Stays, WantsDraw, setting_in, system_of};
 
 use crate::interleaved::InterleavedCollection;
@@ -24,6 +24,7 @@ impl<A: Allocator + Clone> InterleavedCollection<A> {
         requires lawful { IsLawful (setting_in self.old) (system_of self.old) (Look t) }
         ensures ok { OnOk result (Goes (Look t) self.old self.new) }
         ensures full { result ≡ Err LookError.HeapFull → WantsDraw self.old t × (self.new.draws.out ≡ true) }
+        ensures refused { result ≡ Err LookError.HeapFull → IsRefused (setting_in self.old) (system_of self.old) (Look t) }
         ensures err { OnErr result (Stays self.old self.new) }
     {
         if let Err(error) = self.members[t as usize].workspace.look(

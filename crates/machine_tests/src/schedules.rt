@@ -1,6 +1,6 @@
 //! Schedules of several workers.
 use heap::{Config, Heap, RootId, Sizes};
-use interleaved::{Event, InterleavedCollection, StepError};
+use machine::{Event, Machine, StepError};
 use std::alloc::Global;
 use std::test::Fail;
 
@@ -71,12 +71,9 @@ fn ran(
     heap: &Heap,
     events: &[Event],
 ) -> Result<(Result<(), (usize, StepError)>, bool), Fail> {
-    let Ok(collection) = heap.open_collection(alloc, 0) else {
-        return Err(Fail::from("not opened"));
-    };
-    let mut machine = InterleavedCollection::new(alloc, heap, &collection, 2)?;
-    let answer = machine.run(alloc, heap, &collection, events);
-    Ok((answer, machine.next_lawful(heap).is_some()))
+    let mut machine = Machine::open(alloc, heap, 0, 2)?;
+    let answer = machine.run(events);
+    Ok((answer, machine.next_lawful().is_some()))
 }
 
 #[test]

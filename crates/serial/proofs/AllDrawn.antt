@@ -44,12 +44,15 @@ no_items : (xs : List ℕ) → ((x : ℕ) → 0 < times_in x xs → 0 < 0) → x
 no_items [] h = refl
 no_items (x ∷ xs) h = absurd (let k = h x (times_first x xs) in omega (arith, k))
 
-pub none_left_of : (free drawn : List ℕ) → length drawn ≡ length free → ((x : ℕ) → times_in x drawn ≡ times_in x (take (length drawn) free)) → left_of free drawn ≡ []
-none_left_of free drawn many same = no_items (left_of free drawn) (λ x some.
+pub none_left : (free drawn : List ℕ) → ((x : ℕ) → times_in x drawn ≡ times_in x free) → left_of free drawn ≡ []
+none_left free drawn same = no_items (left_of free drawn) (λ x some.
     let u : times_in x drawn ≡ 0 = left_undrawn x free drawn some in
     let l = left_less x free drawn in
-    let s : times_in x drawn ≡ times_in x free = same x ∙ ap (λ n. times_in x (take n free)) many ∙ ap (times_in x) (take-length free) in
+    let s = same x in
     omega (arith, u, l, s, some))
+
+pub none_left_of : (free drawn : List ℕ) → length drawn ≡ length free → ((x : ℕ) → times_in x drawn ≡ times_in x (take (length drawn) free)) → left_of free drawn ≡ []
+none_left_of free drawn many same = none_left free drawn (λ x. same x ∙ ap (λ n. times_in x (take n free)) many ∙ ap (times_in x) (take-length free))
 
 pub counted : (free : List ℕ) (seats : List SeatValue) (seat : SeatValue) (k : ℕ) → seats ≡ seat ∷ [] → length (all_drawn seats) ≡ k → ((x : ℕ) → times_in x (all_drawn seats) ≡ times_in x (take k free)) → (any_out seats ≡ true → k ≡ length free)
     → seat.out ≡ true → left_of free seat.drawn ≡ []

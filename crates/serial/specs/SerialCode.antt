@@ -41,14 +41,14 @@ pass_code =
     (λ p. record { number = p.0; passes = p.1.0; known = p.1.1.0; won = p.1.1.1 })
     (λ _. refl)
 
-abbrev copy_code : Coded Copy
+abbrev pub copy_code : Coded Copy
 copy_code =
     code_by (ℕ × (ℕ × (List (Option ℕ) × List ℕ))) (coded× coded_ℕ (coded× coded_ℕ (coded× (coded_list (coded_option coded_ℕ)) (coded_list coded_ℕ))))
     (λ c. (c.name, (c.place, (c.pointers, c.plain))))
     (λ p. record { name = p.0; place = p.1.0; pointers = p.1.1.0; plain = p.1.1.1 })
     (λ _. refl)
 
-abbrev copies_code : Coded Block
+abbrev pub copies_code : Coded Block
 copies_code =
     code_by (ℕ × (ℕ × (List Copy × (ℕ × Option (ℕ × ℕ))))) (coded× coded_ℕ (coded× coded_ℕ (coded× (coded_list copy_code) (coded× coded_ℕ (coded_option (coded× coded_ℕ coded_ℕ))))))
     (λ b. (b.number, (b.destination, (b.copies, (b.front, b.sent)))))

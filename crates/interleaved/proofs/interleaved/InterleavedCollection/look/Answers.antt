@@ -2,10 +2,12 @@ use Rattle.std.proofs.Common.{◌≡◌, false, Ok, Err, sym, ap, subst, ◌∙�
 use Rattle.claims.specs.ClaimsValue.{SeatValue}
 use Rattle.scavenge.specs.Slots.{seen}
 use Rattle.workers.specs.System.{Look}
-use Rattle.interleaved.specs.InterleavedValue.{InterleavedValue, WantsDraw}
+use Rattle.workers.specs.Lawful.{IsRefused}
+use Rattle.serial.proofs.AllDrawn.{none_left}
+use Rattle.interleaved.specs.InterleavedValue.{InterleavedValue, WantsDraw, setting_in, system_of}
 use Rattle.interleaved.proofs.Members.{lawful_as, goes_as, behind, is_in}
 use Rattle.interleaved.proofs.Readiness.{ready_of, few_of}
-use Rattle.interleaved.proofs.Looked.{places_of, config_of, can_of, untouched_of, rooms_of, wants_draw, look_does, look_keeps, has_slot, is_there, same_error}
+use Rattle.interleaved.proofs.Looked.{places_of, config_of, can_of, untouched_of, rooms_of, wants_draw, is_refused, look_does, look_keeps, has_slot, is_there, same_error}
 use Rattle.interleaved.proofs.interleaved.InterleavedCollection.look.Goals as goal
 
 pub look-requires-clause-places : goal.look-requires-clause-places
@@ -85,3 +87,12 @@ returns-in-Err-clause-full g c =
           c.args.heap.now c.args.collection.now (c.requires.heap ∙ ap (λ (x : InterleavedValue). x.heap) (sym c.self.view_is)) (c.requires.collection ∙ ap (λ (x : InterleavedValue). x.collection) (sym c.self.view_is)) c.look.new.pass (c.look.ensures.wanted (c.in-Err.is ∙ ap Err (same_error is)))),
       ap (λ (s : SeatValue). s.out) (c.look.ensures.full (c.in-Err.is ∙ ap Err (same_error is))),
     )
+
+pub returns-in-Err-clause-refused : goal.returns-in-Err-clause-refused
+returns-in-Err-clause-refused g c =
+    let v : InterleavedValue = record { heap = c.self.inside.heap.value; collection = c.self.inside.collection.value; cells = c.self.inside.cells; pass = c.self.inside.pass; claims = c.self.inside.claims; draws = c.self.inside.draws; queues = c.self.inside.queues; workers = c.self.inside.workers; idlers = c.self.inside.idlers; members = c.self.inside.members.items } in
+    λ is. subst (λ (x : InterleavedValue). IsRefused (setting_in x) (system_of x) (Look c.args.t)) c.self.view_is
+    (is_refused v c.args.t
+    (wants_draw v c.self.invariant c.args.t _ (behind c.self.inside.members.items c.args.t c.behind-self.view_is c.index_mut.ensures.value) (lawful_as (Look c.args.t) c.self.view_is c.requires.lawful)
+    c.args.heap.now c.args.collection.now (c.requires.heap ∙ ap (λ (x : InterleavedValue). x.heap) (sym c.self.view_is)) (c.requires.collection ∙ ap (λ (x : InterleavedValue). x.collection) (sym c.self.view_is)) c.look.new.pass (c.look.ensures.wanted (c.in-Err.is ∙ ap Err (same_error is))))
+    (none_left v.claims.source.free v.draws.drawn (c.look.ensures.used_up (c.in-Err.is ∙ ap Err (same_error is)) c.self.invariant.draws.seats)))

@@ -2,7 +2,7 @@
 use scavenge::LookError;
 use std::alloc::AllocError;
 
-/// Why an event didn't come. The collection is as before.
+/// Why an event didn't come. The machine is as before.
 #[derive(Clone, Copy, Debug, PartialEq, Eq)]
 pub enum StepError {
     /// It wasn't lawful.
@@ -13,7 +13,7 @@ pub enum StepError {
 }
 
 impl From<AllocError> for StepError {
-    ghost use Rattle.interleaved.specs.declared.step_error.StepError.TheVariants.{NoMemory};
+    ghost use Rattle.machine.specs.declared.step_error.StepError.TheVariants.{NoMemory};
     ghost use Rattle.std.specs.Prelude.{◌≡◌};
 
     ghost from_gives = { λ _ e. e ≡ NoMemory };
@@ -24,7 +24,7 @@ impl From<AllocError> for StepError {
 }
 
 impl From<LookError> for StepError {
-    ghost use Rattle.interleaved.specs.Errors.{refusal_of};
+    ghost use Rattle.machine.specs.Errors.{refusal_of};
     ghost use Rattle.std.specs.Prelude.{◌≡◌};
 
     ghost from_gives = { λ x e. e ≡ refusal_of x };

@@ -1,6 +1,7 @@
 use Rattle.std.proofs.Common.{map, take}
-use Rattle.interleaved.specs.Events.{event_of, Ran}
-use Rattle.interleaved.proofs.interleaved.InterleavedCollection.run.Given as goal
+use Rattle.interleaved.specs.Events.{event_of}
+use Rattle.machine.specs.Events.{Ran}
+use Rattle.machine.proofs.machine.Machine.run.Given as goal
 
 abbrev pub invariant-loop-i : goal.invariant-loop-i
 invariant-loop-i g l = record { ran : Ran (take l.i (map event_of l.events)) l.fn.self l.self }

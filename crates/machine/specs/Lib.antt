@@ -1,0 +1,4 @@
+-- A machine of several workers, event by event.
+pub mod MachineValue
+pub mod Events
+pub mod Errors

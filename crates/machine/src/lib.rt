@@ -1,0 +1,15 @@
+//! Several workers of a collection that take turns on one thread, event by event, in whatever order.
+#![tactic(auto)]
+
+mod carrying;
+mod machine;
+mod machine_error;
+mod running;
+mod step_error;
+mod stepping;
+
+pub use interleaved::Event;
+pub use machine::Machine;
+pub use machine_error::MachineError;
+pub use scavenge::LookError;
+pub use step_error::StepError;
