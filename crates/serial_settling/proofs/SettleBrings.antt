@@ -42,7 +42,7 @@ append_nil : {A : Type 0} (xs : List A) → xs ++ [] ≡ xs
 append_nil [] = refl
 append_nil (x ∷ xs) = ap (λ ys. x ∷ ys) (append_nil xs)
 
-stands_has : (x : ℕ) (xs : List ℕ) → 0 < times x xs → IsTrue (has xs x)
+pub stands_has : (x : ℕ) (xs : List ℕ) → 0 < times x xs → IsTrue (has xs x)
 stands_has x [] l = absurd (omega arith)
 stands_has x (y ∷ ys) l = by_test (nat_eq y x) refl (stands_has x ys)
   where
@@ -50,11 +50,11 @@ stands_has x (y ∷ ys) l = by_test (nat_eq y x) refl (stands_has x ys)
     by_test true e rest = subst (λ z. has (z ∷ ys) x ≡ true) (sym (eqb-true y x e)) (has_head x ys)
     by_test false e rest = let z : one_if (nat_eq y x) ≡ 0 = ap one_if e in has_tail y ys x (rest (omega arith))
 
-times-places : (place : ℕ) (won : List (ℕ × ℕ)) → times place (map (λ e. e.1) won) ≡ total (λ (q : ℕ × ℕ). one_if (nat_eq q.1 place)) won
+pub times-places : (place : ℕ) (won : List (ℕ × ℕ)) → times place (map (λ e. e.1) won) ≡ total (λ (q : ℕ × ℕ). one_if (nat_eq q.1 place)) won
 times-places place [] = refl
 times-places place (e ∷ es) = ap (λ n. one_if (nat_eq e.1 place) + n) (times-places place es)
 
-not_below : (a b : ℕ) → b ≤ a → nat_lt a b ≡ false
+pub not_below : (a b : ℕ) → b ≤ a → nat_lt a b ≡ false
 not_below a b l = grind arith
 
 module _ (v : SerialValue) (k : IsSerial v) (r : IsReached (setting_in v) (destinations_in v) 1 (targets_in v) v.heap.free (system_of v)) (out : IsOutOfWork v.workspace.worker) (queue : waiting_in (lane_of v) ≡ []) where

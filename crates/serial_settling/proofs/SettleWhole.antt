@@ -34,7 +34,7 @@ use Rattle.serial_settling.specs.Settling.{IsReportOf, ScansWhatItWon, exports_o
 use Rattle.serial_settling.proofs.SettleBrings.{won_live, settles, cells_show, scans_won}
 
 -- what holds of each name that is found holds of each name
-found_all : (P : ℕ → Type 0) (ws : List (Place × Place)) → ((name place : ℕ) → find nat_cmp name (map pair_of ws) ≡ Some place → P name) → All (λ (e : Place × Place). P (place_word e.0)) ws
+pub found_all : (P : ℕ → Type 0) (ws : List (Place × Place)) → ((name place : ℕ) → find nat_cmp name (map pair_of ws) ≡ Some place → P name) → All (λ (e : Place × Place). P (place_word e.0)) ws
 found_all P [] h = All-nil (λ (e : Place × Place). P (place_word e.0))
 found_all P (w ∷ ws) h =
     All-cons (λ (e : Place × Place). P (place_word e.0)) w ws (h (place_word w.0) (place_word w.1) (find_same (place_word w.0) (place_word w.1) (map pair_of ws)))
@@ -43,17 +43,17 @@ found_all P (w ∷ ws) h =
     (λ ne. h name place (find_other name (place_word w.0) (place_word w.1) (map pair_of ws) ne ∙ is))
     (cases_eq name (place_word w.0))))
 
-somes-map : (shape : Shape) (slots : List (Option BlockValue)) → map (named shape) (somes slots) ≡ somes (map (option_map (named shape)) slots)
+pub somes-map : (shape : Shape) (slots : List (Option BlockValue)) → map (named shape) (somes slots) ≡ somes (map (option_map (named shape)) slots)
 somes-map shape [] = refl
 somes-map shape (None ∷ slots) = somes-map shape slots
 somes-map shape (Some b ∷ slots) = ap (λ bs. named shape b ∷ bs) (somes-map shape slots)
 
-somes_each : (P : BlockValue → Type 0) (slots : List (Option BlockValue)) (done : List BlockValue) → ((d : ℕ) → OnSome P (slot_at slots d)) → Each P done → Each P (somes slots ++ done)
+pub somes_each : (P : BlockValue → Type 0) (slots : List (Option BlockValue)) (done : List BlockValue) → ((d : ℕ) → OnSome P (slot_at slots d)) → Each P done → Each P (somes slots ++ done)
 somes_each P [] done h k = k
 somes_each P (None ∷ slots) done h k = somes_each P slots done (λ d. h (suc d)) k
 somes_each P (Some b ∷ slots) done h k = (h 0, somes_each P slots done (λ d. h (suc d)) k)
 
-held_place : (held : List (Option Held)) (n : ℕ) → slice_index_or (map place_of held) n None ≡ place_held held n
+pub held_place : (held : List (Option Held)) (n : ℕ) → slice_index_or (map place_of held) n None ≡ place_held held n
 held_place [] n = refl
 held_place (h ∷ held) zero = refl
 held_place (h ∷ held) (suc n) = held_place held n
@@ -109,13 +109,13 @@ module _ (v : SerialValue) (k : IsSerial v) (heap : HeapValue) (c : CollectionVa
   reports_at_end workers lists alone won scanned = record { lists = lists; alone = alone; won = renames_at_end lists.won won; scanned = scanned }
 
 -- an exported block has as many copies as objects
-named_length : (number offset : ℕ) (origins : List ℕ) (raws : List Raw) → length origins ≡ length raws → length (named_copies number offset origins raws) ≡ length raws
+pub named_length : (number offset : ℕ) (origins : List ℕ) (raws : List Raw) → length origins ≡ length raws → length (named_copies number offset origins raws) ≡ length raws
 named_length number offset [] [] e = refl
 named_length number offset [] (r ∷ raws) e = absurd (omega (arith, e))
 named_length number offset (o ∷ origins) [] e = absurd (omega (arith, e))
 named_length number offset (o ∷ origins) (r ∷ raws) e = ap suc (named_length number (offset + raw_size r) origins raws (omega (arith, e)))
 
-sizes : (shape : Shape) (bs : List BlockValue) → ((i : ℕ) (b : BlockValue) → slice_get bs i ≡ Some b → length b.origins ≡ length b.objects) → map (λ (b : BlockValue). length b.objects) bs ≡ map (λ (b : Block). length b.copies) (map (named shape) bs)
+pub sizes : (shape : Shape) (bs : List BlockValue) → ((i : ℕ) (b : BlockValue) → slice_get bs i ≡ Some b → length b.origins ≡ length b.objects) → map (λ (b : BlockValue). length b.objects) bs ≡ map (λ (b : Block). length b.copies) (map (named shape) bs)
 sizes shape [] noted = refl
 sizes shape (b ∷ bs) noted =
     ap (λ n. n ∷ map (λ (x : BlockValue). length x.objects) bs) (sym (named_length b.number 0 b.origins b.objects (noted 0 b refl)))

@@ -26,7 +26,7 @@ use serial::{SerialCollection, SerialParts};
 use std::alloc::{AllocError, Allocator};
 
 /// What was won, by number.
-fn numbered<A: Allocator + Clone>(
+pub fn numbered<A: Allocator + Clone>(
     alloc: A,
     heap: &Heap<A>,
     collection: &Collection<A>,
@@ -49,7 +49,7 @@ fn numbered<A: Allocator + Clone>(
 }
 
 /// The blocks in one list: those for the destinations, and then those that are done.
-fn in_one_list<A: Allocator>(
+pub fn in_one_list<A: Allocator>(
     alloc: A,
     allocation: Vec<Option<Block<A>>, A>,
     mut done: Vec<Block<A>, A>,
@@ -67,7 +67,7 @@ fn in_one_list<A: Allocator>(
 }
 
 /// The place that each cell holds.
-fn places_in<A: Allocator + Clone>(
+pub fn places_in<A: Allocator + Clone>(
     alloc: A,
     cells: PlainCells<A>,
     pass: PlainPass,

@@ -1,0 +1,5 @@
+pub mod ToldLists
+pub mod Parted
+pub mod EndedLists
+pub mod Ended
+pub mod Delivered

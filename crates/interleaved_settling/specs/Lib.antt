@@ -1,0 +1,3 @@
+-- How a collection by several workers ends.
+pub mod Settling
+pub mod Telling

@@ -1,0 +1,21 @@
+//! Why a collection wasn't settled.
+use std::alloc::AllocError;
+
+/// Why a collection wasn't settled. The heap is as before.
+#[derive(Clone, Copy, Debug, PartialEq, Eq)]
+pub enum SettleError {
+    /// Some worker hasn't ended.
+    NotEnded,
+    NoMemory,
+}
+
+impl From<AllocError> for SettleError {
+    ghost use Rattle.interleaved_settling.specs.declared.settle_error.SettleError.TheVariants.{NoMemory};
+    ghost use Rattle.std.specs.Prelude.{◌≡◌};
+
+    ghost from_gives = { λ _ e. e ≡ NoMemory };
+
+    fn from(_error: AllocError) -> SettleError {
+        SettleError::NoMemory
+    }
+}

@@ -1,0 +1,126 @@
+//! What the workers bring to the commit of their collection.
+ghost use Rattle.std.specs.Prelude.{◌≡◌, ◌↔◌, Err, IfOk, OnOk};
+ghost use Rattle.heap_data.specs.CollectionValue.{IsOpened};
+ghost use Rattle.heap_data.specs.ReportValue.{all_won};
+ghost use Rattle.heap_data.specs.SettledValue.{IsSettled};
+ghost use Rattle.workers.specs.Finish.{NothingLeft};
+ghost use Rattle.workers.specs.Joined.{Each};
+ghost use Rattle.workers.specs.Lawful.{AllEnded};
+ghost use Rattle.interleaved.specs.InterleavedValue.{system_of};
+ghost use Rattle.interleaved_settling.specs.Settling.{AreReportsOf, AreDelivered, ScansOnce};
+ghost use Rattle.interleaved_settling.specs.Telling.{IsAtRest, IsPartOf, AreBrought};
+
+use crate::settle_error::SettleError;
+use crate::told::all_delivered;
+use block_pool::Block;
+use heap::{Collection, Heap, Settled, WorkerReport};
+use interleaved::{InterleavedCollection, InterleavedParts, Member};
+use scavenge::{Parts, Workspace};
+use serial_settling::{in_one_list, numbered, places_in};
+use std::alloc::{AllocError, Allocator};
+
+/// One worker's report, and the blocks that it leaves.
+fn part_of<A: Allocator + Clone>(
+    alloc: A,
+    heap: &Heap<A>,
+    collection: &Collection<A>,
+    workspace: Workspace<A>,
+) -> Result<(WorkerReport<A>, Vec<Block<A>, A>), AllocError>
+    requires opened { IsOpened heap.now collection.now.generation collection.now }
+    requires rest { IsAtRest heap.now collection.now workspace }
+    ensures { IfOk result (λ r. IsPartOf heap.now collection.now workspace r.0 r.1.items) }
+{
+    let Parts {
+        allocation,
+        done,
+        large: _,
+        won,
+        scanned,
+    } = workspace.into_parts();
+    let won = numbered(alloc.clone()?, heap, collection, &won)?;
+    let blocks = in_one_list(alloc, allocation, done)?;
+    Ok((WorkerReport::new(won, scanned), blocks))
+}
+
+/// The workers' reports, and the blocks that they leave, one worker after another.
+fn brought<A: Allocator + Clone>(
+    alloc: A,
+    heap: &Heap<A>,
+    collection: &Collection<A>,
+    members: Vec<Member<A>, A>,
+) -> Result<(Vec<WorkerReport<A>, A>, Vec<Block<A>, A>), AllocError>
+    requires opened { IsOpened heap.now collection.now.generation collection.now }
+    requires rest { Each (λ m. IsAtRest heap.now collection.now m.workspace) members.items }
+    ensures { IfOk result (λ r. AreBrought heap.now collection.now members.items r.0.items r.1.items) }
+{
+    let mut reports = Vec::new(alloc.clone()?);
+    let mut blocks = Vec::new(alloc.clone()?);
+    for member in members {
+        let (_, workspace) = member.into_parts();
+        let (report, mut left) = part_of(alloc.clone()?, heap, collection, workspace)?;
+        reports.push(report)?;
+        blocks.append(&mut left)?;
+    }
+    Ok((reports, blocks))
+}
+
+/// What the workers, who all ended, bring to the commit of their collection. An error says that memory ran out.
+fn gathered<A: Allocator + Clone>(
+    alloc: A,
+    heap: &Heap<A>,
+    collection: Collection<A>,
+    workers: InterleavedCollection<A>,
+) -> Result<Settled<A>, AllocError>
+    requires heap { heap.now ≡ workers.heap }
+    requires collection { collection ≡ workers.collection }
+    requires ended { AllEnded (system_of workers) }
+    ensures settled { IfOk result (λ s. IsSettled workers.heap s.collection s.places.items s.blocks.items (all_won s.workers.items)) }
+    ensures collection { IfOk result (λ s. s.collection ≡ workers.collection) }
+    ensures lists { IfOk result (λ s. AreReportsOf workers.heap workers.collection (system_of workers).workers s.workers.items) }
+    ensures once { IfOk result (λ s. ScansOnce workers.heap workers.collection.generation s.workers.items) }
+    ensures deliveries { IfOk result (λ s. AreDelivered (system_of workers) s.deliveries.items) }
+    ensures left { OnOk result (NothingLeft (system_of workers)) }
+{
+    let InterleavedParts {
+        cells,
+        pass,
+        queues,
+        members,
+    } = workers.into_parts();
+    let n = members.len() as u32;
+    let (reports, blocks) = brought(alloc.clone()?, heap, &collection, members)?;
+    let places = places_in(alloc.clone()?, cells, pass)?;
+    let told = queues.close(alloc.clone()?, Vec::new(alloc.clone()?))?;
+    let deliveries = all_delivered(alloc, &told, n)?;
+    Ok(Settled {
+        collection,
+        places,
+        blocks,
+        workers: reports,
+        deliveries,
+    })
+}
+
+/// What the workers bring to the commit of their collection. An error says that some worker hasn't ended, or that memory ran
+/// out.
+pub fn settle<A: Allocator + Clone>(
+    alloc: A,
+    heap: &Heap<A>,
+    collection: Collection<A>,
+    workers: InterleavedCollection<A>,
+) -> Result<Settled<A>, SettleError>
+    requires heap { heap.now ≡ workers.heap }
+    requires collection { collection ≡ workers.collection }
+    ensures ended { (result ≡ Err SettleError.NotEnded) ↔ ¬ AllEnded (system_of workers) }
+    ensures settled { IfOk result (λ s. IsSettled workers.heap s.collection s.places.items s.blocks.items (all_won s.workers.items)) }
+    ensures collection { IfOk result (λ s. s.collection ≡ workers.collection) }
+    ensures lists { IfOk result (λ s. AreReportsOf workers.heap workers.collection (system_of workers).workers s.workers.items) }
+    ensures once { IfOk result (λ s. ScansOnce workers.heap workers.collection.generation s.workers.items) }
+    ensures deliveries { IfOk result (λ s. AreDelivered (system_of workers) s.deliveries.items) }
+    ensures left { OnOk result (NothingLeft (system_of workers)) }
+{
+    if !workers.all_ended() {
+        return Err(SettleError::NotEnded);
+    }
+    Ok(gathered(alloc, heap, collection, workers)?)
+}
