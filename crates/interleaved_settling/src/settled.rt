@@ -7,6 +7,7 @@ ghost use Rattle.workers.specs.Finish.{NothingLeft};
 ghost use Rattle.workers.specs.Joined.{Each};
 ghost use Rattle.workers.specs.Lawful.{AllEnded};
 ghost use Rattle.interleaved.specs.InterleavedValue.{system_of};
+ghost use Rattle.interleaved.specs.IsInterleaved.{HasReached};
 ghost use Rattle.interleaved_settling.specs.Settling.{AreReportsOf, AreDelivered, ScansOnce};
 ghost use Rattle.interleaved_settling.specs.Telling.{IsAtRest, IsPartOf, AreBrought};
 
@@ -80,6 +81,7 @@ fn gathered<A: Allocator + Clone>(
     ensures once { IfOk result (λ s. ScansOnce workers.heap workers.collection.generation s.workers.items) }
     ensures deliveries { IfOk result (λ s. AreDelivered (system_of workers) s.deliveries.items) }
     ensures left { OnOk result (NothingLeft (system_of workers)) }
+    ensures run { OnOk result (HasReached workers × AllEnded (system_of workers)) }
 {
     let InterleavedParts {
         cells,
@@ -118,6 +120,7 @@ pub fn settle<A: Allocator + Clone>(
     ensures once { IfOk result (λ s. ScansOnce workers.heap workers.collection.generation s.workers.items) }
     ensures deliveries { IfOk result (λ s. AreDelivered (system_of workers) s.deliveries.items) }
     ensures left { OnOk result (NothingLeft (system_of workers)) }
+    ensures run { OnOk result (HasReached workers × AllEnded (system_of workers)) }
 {
     if !workers.all_ended() {
         return Err(SettleError::NotEnded);

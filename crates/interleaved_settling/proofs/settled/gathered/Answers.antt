@@ -53,3 +53,6 @@ returns-clause-deliveries g c =
 
 pub returns-clause-left : goal.returns-clause-left
 returns-clause-left g c = nothing_left c.args.workers c.into_parts-cells.ensures.interleaved c.requires.ended
+
+pub returns-clause-run : goal.returns-clause-run
+returns-clause-run g c = (c.into_parts-cells.ensures.interleaved.reached, c.requires.ended)
