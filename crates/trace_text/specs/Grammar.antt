@@ -10,7 +10,7 @@ use Rattle.model.specs.declared.kind.Kind.TheVariants.{LineTooLong, UnknownComma
 use Rattle.model.specs.Commands.{Command, New, Set, Put, Drop, Collect, Census, Heap}
 
 infixl 10 ◌>>=◌
-abbrev pub ◌>>=◌ : {A B : Type 0} → Result A Kind → (A → Result B Kind) → Result B Kind
+abbrev pub ◌>>=◌ : {A B E : Type 0} → Result A E → (A → Result B E) → Result B E
 (Ok x) >>= f = f x
 (Err e) >>= f = Err e
 

@@ -12,7 +12,7 @@ use crate::words::{four_words, no_words, one_word, split_first_word, three_words
 use model::{Command, Kind};
 
 /// The most bytes that a line has before its line feed.
-const MAX_LINE_LEN: usize = 4096;
+pub const MAX_LINE_LEN: usize = 4096;
 
 const MAX_NAME_LEN: usize = 32;
 
@@ -57,7 +57,7 @@ fn has_digits(word: &[u8]) -> bool
     word.iter().all(|byte| byte.is_ascii_digit())
 }
 
-fn number(word: &[u8]) -> Result<u64, Kind>
+pub fn number(word: &[u8]) -> Result<u64, Kind>
     ensures { Gives (λ found. found) result (number_of word.now) }
 {
     if !has_digits(word) {
@@ -177,7 +177,7 @@ fn command<'a>(word: &[u8], rest: &'a [u8]) -> Result<Command<'a>, Kind>
 }
 
 /// One carriage return at the end is taken off.
-fn without_return(line: &[u8]) -> &[u8]
+pub fn without_return(line: &[u8]) -> &[u8]
     ensures { result.now ≡ without_return line.now }
 {
     line.strip_suffix(b"\r".as_slice()).unwrap_or(line)

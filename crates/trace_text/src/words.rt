@@ -72,6 +72,15 @@ pub fn one_word(rest: &[u8]) -> Result<&[u8], Kind>
     Ok(a)
 }
 
+pub fn two_words(rest: &[u8]) -> Result<(&[u8], &[u8]), Kind>
+    ensures ok { IfOk result (λ found. words rest.now ≡ found.0.now ∷ found.1.now ∷ []) }
+    ensures err { IfErr result (λ e. (e ≡ Kind.WrongWords) × (length (words rest.now) ≢ 2)) }
+{
+    let (a, rest) = split_first_word(rest).ok_or(Kind::WrongWords)?;
+    let b = one_word(rest)?;
+    Ok((a, b))
+}
+
 pub fn three_words(rest: &[u8]) -> Result<(&[u8], &[u8], &[u8]), Kind>
     ensures ok { IfOk result (λ found. words rest.now
         ≡ found.0.now ∷ found.1.now ∷ found.2.now ∷ []) }
