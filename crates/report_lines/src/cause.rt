@@ -1,0 +1,24 @@
+//! What starts a collection.
+ghost use Rattle.std.specs.Prelude.{◌≡◌};
+ghost use Rattle.report_lines.specs.ReportText.{cause_word};
+
+/// What starts a collection.
+#[derive(Clone, Copy, Debug, PartialEq, Eq)]
+pub enum Cause {
+    /// A command of the trace.
+    Command,
+    /// A new object for which its nursery has no room.
+    FullNursery,
+}
+
+impl Cause {
+    /// The first word of the collection's line.
+    pub fn word(self) -> &'static str
+        ensures { result.now ≡ cause_word self }
+    {
+        match self {
+            Cause::Command => "collected",
+            Cause::FullNursery => "auto",
+        }
+    }
+}
