@@ -1,7 +1,7 @@
 //! The whole program over memory: the words of a command line, and what is read and written.
 ghost use Rattle.std.specs.Prelude.{◌≡◌, ◌+◌, ◌-◌, ◌^◌, ◌<◌, ◌≤◌, ◌⊎◌, ◌↔◌, IfOk, IsOk};
 ghost use Rattle.std.specs.Io.KnownBytes.{Appends};
-ghost use Rattle.trace_lines.specs.Faults.{MatchFault};
+ghost use Rattle.trace_lines.specs.Faults.{MatchEachFault};
 ghost use Rattle.trace_lines.specs.FaultText.{fault_line};
 ghost use Rattle.trace_driver.specs.Program.{config_of, AreInRange, EndsAs};
 ghost use Rattle.command_line.specs.declared.words.Options.{Options as Asked};
@@ -33,7 +33,7 @@ fn run_config(options: &Options) -> Result<RunConfig, BadConfig>
 /// The status of a fault, whose line is written to `errors`. A failed write of the line changes nothing.
 fn tell<E: Sink>(fault: &Fault, errors: &mut E) -> u8
     requires { E.failed_writes errors.old < 2 ^ 64 - 1 }
-    ensures status { MatchFault fault.now (λ _ _. result ≡ 2) (λ _. result ≡ 1) (λ _. result ≡ 1) (result ≡ 4) (result ≡ 4) }
+    ensures status { MatchEachFault fault.now (λ _ _. result ≡ 2) (λ _ _. result ≡ 2) (λ _. result ≡ 1) (λ _. result ≡ 1) (result ≡ 4) (result ≡ 4) }
     ensures told { (E.failed_writes errors.new ≡ E.failed_writes errors.old + 1)
         ⊎ ((E.failed_writes errors.new ≡ E.failed_writes errors.old) × Appends (E.contents errors.old) (E.contents errors.new) (fault_line fault.now)) }
     ensures rises { E.failed_writes errors.new ≤ E.failed_writes errors.old + 1 }

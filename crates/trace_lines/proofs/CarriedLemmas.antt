@@ -9,7 +9,7 @@ use Rattle.model.specs.Config.{Config}
 use Rattle.model.specs.Store.{Store}
 use Rattle.model.specs.Commands.{Run}
 use Rattle.trace_lines.specs.declared.fault.Fault.{Fault}
-use Rattle.trace_lines.specs.declared.fault.Fault.TheVariants.{BadTrace, HeapFull, NoMemory, ReadFailed, WriteFailed}
+use Rattle.trace_lines.specs.declared.fault.Fault.TheVariants.{BadTrace, BadSchedule, HeapFull, NoMemory, ReadFailed, WriteFailed}
 use Rattle.trace_lines.specs.Faults.{MatchFault}
 use Rattle.trace_lines.specs.Pieces.{HasNoFeed, finished, pieces}
 use Rattle.trace_lines.specs.Outcome.{after, outcome_from, line_step}
@@ -150,6 +150,7 @@ module _ (stands stands' : Config → Store → Type 0) (number : ℕ) (text : L
       (λ config store there.
       let here = so_far config store there in
       stops_at config number store text number' here.next rest old now here.carries line next is free at kind facts.0 (facts.1 config here.next here.stands'))
+  fault_of_line wants contents before new written (BadSchedule at kind) same facts = absurd facts
   fault_of_line wants contents before new written (HeapFull at) same facts = rw (facts.2, same) (leaves wants at facts.0 facts.1)
   fault_of_line wants contents before new written (NoMemory at) same facts = rw (facts.2, same) (leaves IsSound at facts.0 facts.1)
   fault_of_line wants contents before new written ReadFailed same facts = facts

@@ -7,7 +7,7 @@ use Rattle.model.specs.Config.{Config}
 use Rattle.model.specs.Store.{Store}
 use Rattle.model.specs.Commands.{Outcome as Stepped}
 use Rattle.trace_lines.specs.declared.fault.Fault.{Fault}
-use Rattle.trace_lines.specs.declared.fault.Fault.TheVariants.{BadTrace, HeapFull, NoMemory, ReadFailed, WriteFailed}
+use Rattle.trace_lines.specs.declared.fault.Fault.TheVariants.{BadTrace, BadSchedule, HeapFull, NoMemory, ReadFailed, WriteFailed}
 use Rattle.trace_lines.specs.Faults.{MatchFault}
 use Rattle.trace_lines.specs.Stepped.{AtEach, StepsTo, StepsQuietly}
 
@@ -22,6 +22,7 @@ quiet_steps (Err e) stands stands' step held steps = tt
 pub never_full : {X : Type 0} (r : Result X Fault) (trace : ℕ → Kind → Type 0) (full memory : Option ℕ → Type 0) (written : Type 0) → IfErr r (λ e. MatchFault e trace (λ _. ⊥) memory ⊥ written) → IfErr r (λ e. MatchFault e trace full memory ⊥ written)
 never_full (Ok x) trace full memory written fault = tt
 never_full (Err (BadTrace line kind)) trace full memory written fault = fault
+never_full (Err (BadSchedule line kind)) trace full memory written fault = fault
 never_full (Err (HeapFull line)) trace full memory written fault = absurd fault
 never_full (Err (NoMemory line)) trace full memory written fault = fault
 never_full (Err ReadFailed) trace full memory written fault = fault
@@ -42,6 +43,7 @@ module _ {X T : Type 0} (number : ℕ) (before after : T) (same : after ≡ befo
       ⊥ written)
   quiet_faults (Ok x) fault = tt
   quiet_faults (Err (BadTrace line kind)) fault = (fault.0, fault.1, same)
+  quiet_faults (Err (BadSchedule line kind)) fault = absurd fault
   quiet_faults (Err (HeapFull line)) fault = absurd fault
   quiet_faults (Err (NoMemory line)) fault = (fault.0, fault.1, same)
   quiet_faults (Err ReadFailed) fault = absurd fault

@@ -4,7 +4,7 @@ use Rattle.std.specs.Prelude.{IfSome, IfErr, MatchOption}
 use Rattle.model.specs.Config.{Config}
 use Rattle.model.specs.Store.{Store, empty_store}
 use Rattle.trace_lines.specs.declared.fault.Fault.{Fault}
-use Rattle.trace_lines.specs.declared.fault.Fault.TheVariants.{BadTrace, HeapFull, NoMemory, ReadFailed, WriteFailed}
+use Rattle.trace_lines.specs.declared.fault.Fault.TheVariants.{BadTrace, BadSchedule, HeapFull, NoMemory, ReadFailed, WriteFailed}
 use Rattle.trace_lines.specs.Faults.{MatchFault}
 use Rattle.trace_lines.specs.Pieces.{pieces}
 use Rattle.trace_lines.specs.Outcome.{outcome, outcome_from}
@@ -35,6 +35,7 @@ module _ (wants : Config → Store → List ℕ → Type 0) (stands : Config →
       (λ line. MatchOption line memory (λ at. IfSome before (LeavesOutput (IsSound config) config at old new)))
       read written
   run_fault (BadTrace line kind) facts = of_input (λ input. Prints (outcome config input) (Some (line, kind)) old new) before text same (facts config (empty_store config) begins)
+  run_fault (BadSchedule line kind) facts = facts
   run_fault (HeapFull line) facts = leaves (wants config) config before text full old new line same (facts config (empty_store config) begins)
   run_fault (NoMemory line) facts = leaves (IsSound config) config before text memory old new line same (facts config (empty_store config) begins)
   run_fault ReadFailed facts = absurd facts

@@ -6,7 +6,7 @@ use Rattle.model.specs.declared.kind.Kind.TheVariants.{LineTooLong, UnfinishedLi
 use Rattle.model.specs.Config.{Config}
 use Rattle.model.specs.Store.{Store, empty_store}
 use Rattle.trace_lines.specs.declared.fault.Fault.{Fault}
-use Rattle.trace_lines.specs.declared.fault.Fault.TheVariants.{BadTrace, HeapFull, NoMemory, ReadFailed, WriteFailed}
+use Rattle.trace_lines.specs.declared.fault.Fault.TheVariants.{BadTrace, BadSchedule, HeapFull, NoMemory, ReadFailed, WriteFailed}
 use Rattle.trace_lines.specs.Faults.{MatchFault}
 use Rattle.trace_lines.specs.Sound.{IsSound}
 use Rattle.trace_lines.specs.Stepped.{AtEach}
@@ -93,6 +93,7 @@ pub text_fault : (wants : Config → Store → List ℕ → Type 0) (stands : Co
     (λ at. AtEach stands (λ config store. LeavesBefore (IsSound config) config 1 store text at old new))
     ⊥ written
 text_fault wants stands text old new written (BadTrace at kind) facts = λ config store there. prints_stop config 1 store text at kind old new (facts config store there)
+text_fault wants stands text old new written (BadSchedule at kind) facts = facts
 text_fault wants stands text old new written (HeapFull at) facts = facts
 text_fault wants stands text old new written (NoMemory at) facts = facts
 text_fault wants stands text old new written ReadFailed facts = facts

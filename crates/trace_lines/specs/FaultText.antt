@@ -2,6 +2,8 @@
 use Rattle.std.specs.Prelude.{ℕ, List, [], ◌++◌, Option, Some, None, decimal, codes}
 use Rattle.model.specs.declared.kind.Kind.{Kind}
 use Rattle.model.specs.declared.kind.Kind.TheVariants as kinds
+use Rattle.trace_text.specs.declared.schedule.ScheduleKind.{ScheduleKind}
+use Rattle.trace_text.specs.declared.schedule.ScheduleKind.TheVariants as schedules
 use Rattle.trace_lines.specs.declared.fault.Fault.{Fault}
 use Rattle.trace_lines.specs.declared.fault.Fault.TheVariants as faults
 
@@ -20,9 +22,18 @@ kind_text kinds.NoMutator = codes "no such mutator"
 kind_text kinds.TooBig = codes "too big"
 kind_text kinds.NoGeneration = codes "no such generation"
 
+abbrev pub schedule_kind_text : ScheduleKind → List ℕ
+schedule_kind_text schedules.UnknownEvent = codes "unknown event"
+schedule_kind_text schedules.WrongWords = codes "wrong number of words"
+schedule_kind_text schedules.BadNumber = codes "bad number"
+schedule_kind_text schedules.NotLawful = codes "event not lawful"
+schedule_kind_text schedules.NotEnded = codes "collection not ended"
+schedule_kind_text schedules.UnfinishedSchedule = codes "unfinished schedule"
+
 -- the line that was being carried out, or was read as a line
 abbrev pub line_of : Fault → Option ℕ
 line_of (faults.BadTrace line kind) = Some line
+line_of (faults.BadSchedule line kind) = Some line
 line_of (faults.HeapFull line) = line
 line_of (faults.NoMemory line) = line
 line_of faults.ReadFailed = None
@@ -30,6 +41,7 @@ line_of faults.WriteFailed = None
 
 abbrev pub plain_text : Fault → List ℕ
 plain_text (faults.BadTrace line kind) = kind_text kind
+plain_text (faults.BadSchedule line kind) = schedule_kind_text kind
 plain_text (faults.HeapFull line) = codes "heap full"
 plain_text (faults.NoMemory line) = codes "no memory"
 plain_text faults.ReadFailed = codes "read failed"

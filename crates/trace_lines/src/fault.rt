@@ -1,14 +1,15 @@
 //! Why a run stopped.
 ghost use Rattle.std.specs.Prelude.{◌≡◌, ◌+◌, ◌-◌, ◌^◌, ◌<◌, OnOk, OnErr};
 ghost use Rattle.std.specs.Io.KnownBytes.{Appends};
-ghost use Rattle.trace_lines.specs.FaultText.{kind_text, line_of, plain_text, place_text, fault_line};
-ghost use Rattle.trace_lines.specs.Faults.{MatchFault};
+ghost use Rattle.trace_lines.specs.FaultText.{kind_text, schedule_kind_text, line_of, plain_text, place_text, fault_line};
+ghost use Rattle.trace_lines.specs.Faults.{MatchEachFault};
 
 use byte_streams::{Sink, WriteFailed, write_all};
 use itoa::Buffer;
 use model::Kind;
 use std::fmt;
 use thiserror::Error;
+use trace_text::ScheduleKind;
 
 /// Why a run stopped. Lines are counted from 1.
 #[derive(Clone, Copy, Debug, PartialEq, Eq, Error)]
@@ -16,6 +17,9 @@ pub enum Fault {
     /// The first faulty line.
     #[error("line {0}: {text}", text = kind_text(*.1))]
     BadTrace(u128, Kind),
+    /// The first faulty line of a schedule, or the line that began one which the trace leaves unfinished.
+    #[error("line {0}: {text}", text = schedule_kind_text(*.1))]
+    BadSchedule(u128, ScheduleKind),
     /// Too few blocks were free in this line, or for the nurseries when the heap was made.
     #[error("{place}heap full", place = Place(*.0))]
     HeapFull(Option<u128>),
@@ -61,14 +65,27 @@ fn kind_text(kind: Kind) -> &'static str
     }
 }
 
+fn schedule_kind_text(kind: ScheduleKind) -> &'static str
+    ensures { result.now ≡ schedule_kind_text kind }
+{
+    match kind {
+        ScheduleKind::UnknownEvent => "unknown event",
+        ScheduleKind::WrongWords => "wrong number of words",
+        ScheduleKind::BadNumber => "bad number",
+        ScheduleKind::NotLawful => "event not lawful",
+        ScheduleKind::NotEnded => "collection not ended",
+        ScheduleKind::UnfinishedSchedule => "unfinished schedule",
+    }
+}
+
 impl Fault {
-    /// The exit status of a program that stopped so: 1 for want of blocks or memory, 2 for a faulty trace, 4 for a
-    /// failed read or write.
+    /// The exit status of a program that stopped so: 1 for want of blocks or memory, 2 for a faulty trace or
+    /// schedule, 4 for a failed read or write.
     pub fn status(&self) -> u8
-        ensures { MatchFault self.now (λ _ _. result ≡ 2) (λ _. result ≡ 1) (λ _. result ≡ 1) (result ≡ 4) (result ≡ 4) }
+        ensures { MatchEachFault self.now (λ _ _. result ≡ 2) (λ _ _. result ≡ 2) (λ _. result ≡ 1) (λ _. result ≡ 1) (result ≡ 4) (result ≡ 4) }
     {
         match self {
-            Fault::BadTrace(_, _) => 2,
+            Fault::BadTrace(_, _) | Fault::BadSchedule(_, _) => 2,
             Fault::HeapFull(_) | Fault::NoMemory(_) => 1,
             Fault::ReadFailed | Fault::WriteFailed => 4,
         }
@@ -78,7 +95,7 @@ impl Fault {
         ensures { result ≡ line_of self.now }
     {
         match self {
-            Fault::BadTrace(line, _) => Some(*line),
+            Fault::BadTrace(line, _) | Fault::BadSchedule(line, _) => Some(*line),
             Fault::HeapFull(line) | Fault::NoMemory(line) => *line,
             Fault::ReadFailed | Fault::WriteFailed => None,
         }
@@ -90,6 +107,7 @@ impl Fault {
     {
         match self {
             Fault::BadTrace(_, kind) => kind_text(*kind),
+            Fault::BadSchedule(_, kind) => schedule_kind_text(*kind),
             Fault::HeapFull(_) => "heap full",
             Fault::NoMemory(_) => "no memory",
             Fault::ReadFailed => "read failed",

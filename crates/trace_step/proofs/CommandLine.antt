@@ -7,7 +7,7 @@ use Rattle.model.specs.Store.{Store}
 use Rattle.model.specs.Commands.{Command}
 use Rattle.trace_text.specs.Grammar.{entry_of, ◌>>=◌}
 use Rattle.trace_lines.specs.declared.fault.Fault.{Fault}
-use Rattle.trace_lines.specs.declared.fault.Fault.TheVariants.{BadTrace, HeapFull, NoMemory, ReadFailed, WriteFailed}
+use Rattle.trace_lines.specs.declared.fault.Fault.TheVariants.{BadTrace, BadSchedule, HeapFull, NoMemory, ReadFailed, WriteFailed}
 use Rattle.trace_lines.specs.Faults.{MatchFault}
 use Rattle.trace_lines.specs.Outcome.{line_step, entry_step, command_step}
 use Rattle.trace_lines.specs.Sound.{IsSound, IsSoundCommand}
@@ -40,6 +40,7 @@ module _ (stands : Config → Store → Type 0) (number : ℕ) (line : List ℕ)
       (λ at. (at ≡ Some number) × AtEach stands (λ config store. IsSound config store line) × (new ≡ old))
       ⊥ written
   line_fault (BadTrace at kind) facts = (facts.0, λ config store there. line_is config store line command says ∙ facts.1 config store there, facts.2)
+  line_fault (BadSchedule at kind) facts = absurd facts
   line_fault (HeapFull at) facts = (facts.0, λ config store there. line_full config store line command says (facts.1 config store there), facts.2)
   line_fault (NoMemory at) facts = (facts.0, λ config store there. line_sound config store line command says (facts.1 config store there), facts.2)
   line_fault ReadFailed facts = facts
