@@ -1,7 +1,11 @@
-//! Tests of the lines of a trace, and of whole runs.
+//! Tests of the lines of a trace and of a schedule, of reports, and of whole runs.
 #![tactic(auto)]
 
 #[cfg(test)]
 mod lines;
 #[cfg(test)]
+mod reports;
+#[cfg(test)]
 mod runs;
+#[cfg(test)]
+mod schedules;
