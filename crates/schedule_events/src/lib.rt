@@ -1,0 +1,6 @@
+//! The events of a collection that the events of a schedule name.
+#![tactic(auto)]
+
+mod naming;
+
+pub use naming::named_event;
