@@ -1,0 +1,3 @@
+-- In which order the workers of a run take and scan.
+pub mod Taken
+pub mod Scans
