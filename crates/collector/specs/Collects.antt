@@ -31,19 +31,19 @@ pub record ScansInOrder (lists : WorkerLists) : Type 0 where
   pub small : filter is_small_word lists.scanned ≡ filter is_small_word (won_places lists)
   pub large : filter (λ w. not (is_small_word w)) lists.scanned ≡ filter (λ w. not (is_small_word w)) (won_places lists)
 
--- what a worker by itself sees of the heap
-abbrev pub setting_at : HeapValue → ℕ → Setting
-setting_at heap g = setting_of heap.graph g heap.config.shape heap.config.block_words 1
+-- what n workers see of the heap
+abbrev pub setting_at : HeapValue → ℕ → ℕ → Setting
+setting_at heap g n = setting_of heap.graph g heap.config.shape heap.config.block_words n
 
--- how one worker by itself begins: at the targets of the roots and of the old slots
-abbrev pub opening_at : HeapValue → ℕ → System
-opening_at heap g = opening (dest_count heap.config.shape g) 1 (map target_of_slot (slots_of heap g)) heap.free
+-- how n workers begin: at the targets of the roots and of the old slots
+abbrev pub opening_at : HeapValue → ℕ → ℕ → System
+opening_at heap g n = opening (dest_count heap.config.shape g) n (map target_of_slot (slots_of heap g)) heap.free
 
 -- the lists and the deliveries are those of a run of one worker, each event the next in its order, to its end
 pub record RunsAlone (heap : HeapValue) (g : ℕ) (lists : WorkerLists) (deliveries : List Delivery) : Type 0 where
   pub count : ℕ
   pub last : System
-  pub run : Stepped (setting_at heap g) (next_alone (setting_at heap g)) (opening_at heap g) count last
+  pub run : Stepped (setting_at heap g 1) (next_alone (setting_at heap g 1)) (opening_at heap g 1) count last
   pub ended : AllEnded last
   pub worker : Worker
   pub worker_is : last.workers ≡ worker ∷ []

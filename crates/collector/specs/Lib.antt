@@ -1,3 +1,4 @@
 -- Collections.
 pub mod Collects
+pub mod Together
 pub mod Errors

@@ -19,7 +19,7 @@ use Rattle.serial_settling.proofs.SettleWhole.{named_length}
 use Rattle.interleaved.specs.InterleavedValue.{InterleavedValue, MemberValue, queue_in, exports_in, system_of}
 use Rattle.interleaved.specs.IsInterleaved.{IsInterleaved, HasTaken}
 use Rattle.interleaved.proofs.Places.{get-map}
-use Rattle.interleaved_settling.specs.Settling.{label_of, IsDelivery, AreDelivered}
+use Rattle.collector.specs.Together.{label_of, IsDelivery, AreDelivered}
 use Rattle.interleaved_settling.specs.Telling.{delivery_of, deliveries_of, all_deliveries}
 use Rattle.interleaved_settling.proofs.Parted.{Each-append}
 use Rattle.interleaved_settling.proofs.EndedLists.{each_place}

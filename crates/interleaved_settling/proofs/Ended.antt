@@ -37,7 +37,7 @@ use Rattle.serial_settling.proofs.SettleWhole.{held_place}
 use Rattle.interleaved.specs.InterleavedValue.{InterleavedValue, MemberValue, worker_of, system_of, setting_in, targets_in, destinations_in}
 use Rattle.interleaved.specs.IsInterleaved.{IsInterleaved}
 use Rattle.interleaved.proofs.Places.{get-map}
-use Rattle.interleaved_settling.specs.Settling.{ScansOnce}
+use Rattle.collector.specs.Collects.{ScansOnce}
 use Rattle.interleaved_settling.specs.Telling.{IsAtRest, AreBrought}
 use Rattle.interleaved_settling.proofs.EndedLists.{joined_lists, joined_map, renamed_joined, same_places, parts_won, parts_left, parts_scanned, wins_among, each_name, each_place}
 

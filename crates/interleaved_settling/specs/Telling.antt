@@ -12,7 +12,7 @@ use Rattle.workers.specs.Joined.{Each, blocks_of}
 use Rattle.to_space.specs.Named.{named, IsWhole}
 use Rattle.scavenge.specs.Shown.{WorkspaceValue}
 use Rattle.interleaved.specs.InterleavedValue.{MemberValue, worker_of}
-use Rattle.interleaved_settling.specs.Settling.{AreReportsOf}
+use Rattle.collector.specs.Together.{AreReportsOf}
 
 -- it proposes nothing, and won only what is collected
 pub record IsAtRest (heap : HeapValue) (c : CollectionValue) (w : WorkspaceValue) : Type 0 where
@@ -30,7 +30,7 @@ pub record IsPartOf (heap : HeapValue) (c : CollectionValue) (w : WorkspaceValue
 
 -- those of all workers, in order
 pub record AreBrought (heap : HeapValue) (c : CollectionValue) (members : List MemberValue) (reports : List WorkerLists) (blocks : List BlockValue) : Type 0 where
-  pub reported : AreReportsOf heap c (map worker_of members) reports
+  pub reported : AreReportsOf heap c.generation (map worker_of members) reports
   pub numbers : All (λ (e : ℕ × ℕ). e.0 < c.cells) (all_won reports)
   pub left : map (named heap.config.shape) blocks ≡ flat_map blocks_of (map worker_of members)
   pub whole : Each (IsWhole heap.config.shape heap.config.block_words) blocks

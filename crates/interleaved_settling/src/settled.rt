@@ -3,12 +3,12 @@ ghost use Rattle.std.specs.Prelude.{◌≡◌, ◌↔◌, Err, IfOk, OnOk};
 ghost use Rattle.heap_data.specs.CollectionValue.{IsOpened};
 ghost use Rattle.heap_data.specs.ReportValue.{all_won};
 ghost use Rattle.heap_data.specs.SettledValue.{IsSettled};
-ghost use Rattle.workers.specs.Finish.{NothingLeft};
 ghost use Rattle.workers.specs.Joined.{Each};
 ghost use Rattle.workers.specs.Lawful.{AllEnded};
 ghost use Rattle.interleaved.specs.InterleavedValue.{system_of};
 ghost use Rattle.interleaved.specs.IsInterleaved.{HasReached};
-ghost use Rattle.interleaved_settling.specs.Settling.{AreReportsOf, AreDelivered, ScansOnce};
+ghost use Rattle.collector.specs.Collects.{ScansOnce};
+ghost use Rattle.collector.specs.Together.{Reports};
 ghost use Rattle.interleaved_settling.specs.Telling.{IsAtRest, IsPartOf, AreBrought};
 
 use crate::settle_error::SettleError;
@@ -77,11 +77,9 @@ fn gathered<A: Allocator + Clone>(
     requires ended { AllEnded (system_of workers) }
     ensures settled { IfOk result (λ s. IsSettled workers.heap s.collection s.places.items s.blocks.items (all_won s.workers.items)) }
     ensures collection { IfOk result (λ s. s.collection ≡ workers.collection) }
-    ensures lists { IfOk result (λ s. AreReportsOf workers.heap workers.collection (system_of workers).workers s.workers.items) }
     ensures once { IfOk result (λ s. ScansOnce workers.heap workers.collection.generation s.workers.items) }
-    ensures deliveries { IfOk result (λ s. AreDelivered (system_of workers) s.deliveries.items) }
-    ensures left { OnOk result (NothingLeft (system_of workers)) }
-    ensures run { OnOk result (HasReached workers × AllEnded (system_of workers)) }
+    ensures reports { IfOk result (λ s. Reports workers.heap workers.collection.generation (system_of workers) s.workers.items s.deliveries.items) }
+    ensures reached { OnOk result (HasReached workers) }
 {
     let InterleavedParts {
         cells,
@@ -116,11 +114,9 @@ pub fn settle<A: Allocator + Clone>(
     ensures ended { (result ≡ Err SettleError.NotEnded) ↔ ¬ AllEnded (system_of workers) }
     ensures settled { IfOk result (λ s. IsSettled workers.heap s.collection s.places.items s.blocks.items (all_won s.workers.items)) }
     ensures collection { IfOk result (λ s. s.collection ≡ workers.collection) }
-    ensures lists { IfOk result (λ s. AreReportsOf workers.heap workers.collection (system_of workers).workers s.workers.items) }
     ensures once { IfOk result (λ s. ScansOnce workers.heap workers.collection.generation s.workers.items) }
-    ensures deliveries { IfOk result (λ s. AreDelivered (system_of workers) s.deliveries.items) }
-    ensures left { OnOk result (NothingLeft (system_of workers)) }
-    ensures run { OnOk result (HasReached workers × AllEnded (system_of workers)) }
+    ensures reports { IfOk result (λ s. Reports workers.heap workers.collection.generation (system_of workers) s.workers.items s.deliveries.items) }
+    ensures reached { OnOk result (HasReached workers) }
 {
     if !workers.all_ended() {
         return Err(SettleError::NotEnded);

@@ -1,2 +1,4 @@
+mod Committed
 mod Going
 mod OneByOne
+mod Ordered

@@ -3,12 +3,12 @@ use Rattle.std.specs.Prelude.{◌≡◌, ℕ, Bool, List, map, refl}
 use Rattle.std.specs.Coded.{Coded, code_by, coded×, coded_list, coded_bool, coded_ℕ}
 use Rattle.model.specs.Destination.{dest_count}
 use Rattle.heap_data.specs.HeapValue.{HeapValue, heap_code}
-use Rattle.heap_data.specs.CollectionValue.{CollectionValue, target_of_slot, slots_of}
+use Rattle.heap_data.specs.CollectionValue.{CollectionValue, target_of_slot}
 use Rattle.heap_data.specs.CollectionCode.{collection_code}
 use Rattle.workers.specs.Block.{Block}
 use Rattle.workers.specs.Setting.{Setting}
 use Rattle.workers.specs.Worker.{Worker}
-use Rattle.workers.specs.System.{System, opening}
+use Rattle.workers.specs.System.{System}
 use Rattle.workers.specs.Finish.{IsReached}
 use Rattle.serial.specs.SerialCode.{copies_code, worker_code}
 use Rattle.serial.specs.IsSerial.{IsReadyToCollect}
@@ -45,10 +45,6 @@ machine_of v = record { heap = v.heap; collection = v.collection; workers = v.wo
 -- what its workers see
 abbrev pub setting_in : MachineValue → Setting
 setting_in m = setting_for m.heap m.collection m.workers
-
--- how n workers begin: at the targets of the roots and of the old slots
-abbrev pub opening_at : HeapValue → ℕ → ℕ → System
-opening_at heap g n = opening (dest_count heap.config.shape g) n (map target_of_slot (slots_of heap g)) heap.free
 
 -- some events from the opening on come to where it stands
 abbrev pub HasReached : MachineValue → Type 0

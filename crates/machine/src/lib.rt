@@ -2,6 +2,7 @@
 #![tactic(auto)]
 
 mod carrying;
+mod ending;
 mod machine;
 mod machine_error;
 mod running;
@@ -9,6 +10,7 @@ mod step_error;
 mod stepping;
 
 pub use interleaved::Event;
+pub use interleaved_settling::SettleError;
 pub use machine::Machine;
 pub use machine_error::MachineError;
 pub use scavenge::LookError;

@@ -12,3 +12,4 @@ pub mod PlacedChanged
 pub mod FieldLemmas
 pub mod NamesSame
 pub mod TextSame
+pub mod StandsCollected

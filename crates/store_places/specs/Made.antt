@@ -7,8 +7,9 @@ use Rattle.heap.specs.Commands.{Allocates, Changes, IsValue, value_at}
 use Rattle.heap.specs.ReportValue.{WorkerLists}
 use Rattle.heap_data.specs.declared.report.Delivery.{Delivery}
 use Rattle.collector.specs.Collects.{CollectsAlone}
+use Rattle.collector.specs.Together.{CollectsTogether}
 
--- from a heap with no object on, one call after another, each collection by one worker
+-- from a heap with no object on, one call after another, each collection by one worker or by several together
 pub data MadeByCalls : HeapValue → Type 0 where
   made : (config : Config) → MadeByCalls (empty_heap config)
   allocated : {old new : HeapValue} (mutator p q root : ℕ) → MadeByCalls old → Allocates old mutator p q root new → MadeByCalls new
@@ -16,3 +17,4 @@ pub data MadeByCalls : HeapValue → Type 0 where
   stored : {old new : HeapValue} (root field : ℕ) (value : Option ℕ) → MadeByCalls old → IsValue old.graph value → Changes old root (λ o. with_pointer o field (value_at old.graph value)) new → MadeByCalls new
   written : {old new : HeapValue} (root field word : ℕ) → MadeByCalls old → Changes old root (λ o. record o { plain = slice_set o.plain field word }) new → MadeByCalls new
   collected : {old new : HeapValue} (g kept freed : ℕ) (workers : List WorkerLists) (deliveries : List Delivery) → MadeByCalls old → CollectsAlone old g kept freed workers deliveries new → MadeByCalls new
+  collected_together : {old new : HeapValue} (g n kept freed : ℕ) (workers : List WorkerLists) (deliveries : List Delivery) → MadeByCalls old → CollectsTogether old g n kept freed workers deliveries new → MadeByCalls new

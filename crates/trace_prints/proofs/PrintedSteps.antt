@@ -4,14 +4,12 @@ use Rattle.std.specs.Prelude.{nat_lt}
 use Rattle.std.specs.Io.KnownBytes.{Appends}
 use Rattle.std.proofs.lemmas.Bool.{lt-ltb}
 use Rattle.model.specs.Config.{Config}
-use Rattle.model.specs.Collected.{Collected}
 use Rattle.model.specs.Text.{census_text, collection_line}
-use Rattle.model.specs.Store.{Store, full_rooms, collected, kept_count, freed_count, store_census}
+use Rattle.model.specs.Store.{Store, collected, kept_count, freed_count, store_census}
 use Rattle.model.specs.Commands.{Collect, Census}
 use Rattle.heap.specs.HeapValue.{HeapValue}
 use Rattle.heap.specs.Commands.{heap_census}
-use Rattle.heap.specs.CollectionValue.{young_names}
-use Rattle.heap.specs.ReportValue.{WorkerLists, all_won, renaming_of}
+use Rattle.heap.specs.ReportValue.{WorkerLists}
 use Rattle.heap_data.specs.declared.report.Delivery.{Delivery}
 use Rattle.collector.specs.Collects.{CollectsAlone, IsShortOfBlocks}
 use Rattle.trace_lines.specs.Outcome.{command_step}
@@ -19,8 +17,8 @@ use Rattle.trace_lines.specs.Stepped.{StepsTo}
 use Rattle.trace_session.specs.Refusals.{CommandMayBeFull}
 use Rattle.store_places.specs.Made as made_by
 use Rattle.store_places.specs.Stands.{StandsFor}
-use Rattle.store_places.proofs.PlacedCollected.{placed_collected, named_collected, place'}
-use Rattle.store_places.proofs.CountsSame.{same_census, kept_is, freed_is}
+use Rattle.store_places.proofs.CountsSame.{same_census}
+use Rattle.store_places.proofs.StandsCollected.{stands_collected, kept_same, freed_same}
 
 module _ (heap : HeapValue) (names : List (List ℕ × ℕ)) (config : Config) (store : Store) (stands : StandsFor heap names config store) where
   pub steps_census : (old new : Option (List ℕ)) → Appends old new (census_text (heap_census heap)) → StepsTo (StandsFor heap names) config (command_step config store Census) old new
@@ -38,25 +36,14 @@ module _ (heap : HeapValue) (names : List (List ℕ × ℕ)) (config : Config) (
   steps_collect g kept freed workers deliveries heap' old new alone in_range held =
       let collects = alone.collects in
       let known : nat_lt g config.shape.generations ≡ true = lt-ltb g config.shape.generations (rw (← stands.config_is) in_range) in
-      let kept_same = kept_is store stands.place heap.graph names stands.placed stands.names_are g kept collects.kept_is in
-      let freed_same = freed_is store stands.place heap.graph names stands.placed stands.names_are g kept freed collects.kept_is collects.freed_is in
-      let places = renaming_of (young_names heap.graph g) (all_won workers) in
-      let moved = subst (λ c. Collected c.shape c.block_words heap.graph g places heap'.graph) stands.config_is collects.heap.graph in
       record {
         next = collected config g store;
         out = collection_line (codes "collected") g (kept_count store g) (freed_count store g);
         steps = rw known refl;
-        stands' = record {
-          made = made_by.collected g kept freed workers deliveries stands.made alone;
-          config_is = collects.heap.config ∙ stands.config_is;
-          rooms_are = collects.heap.rooms ∙ ap full_rooms stands.config_is;
-          place = place' config g store stands.place heap.graph heap'.graph names stands.placed stands.names_are _ moved;
-          placed = placed_collected config g store stands.place heap.graph heap'.graph names stands.placed stands.names_are _ moved;
-          names_are = named_collected config g store stands.place heap.graph heap'.graph names stands.placed stands.names_are _ moved;
-        };
+        stands' = stands_collected heap names config store stands g kept freed workers heap' collects (made_by.collected g kept freed workers deliveries stands.made alone);
         held =
-            subst (λ k. Appends old new (collection_line (codes "collected") g k (freed_count store g))) kept_same
-            (subst (λ f. Appends old new (collection_line (codes "collected") g kept f)) freed_same held);
+            subst (λ k. Appends old new (collection_line (codes "collected") g k (freed_count store g))) (kept_same heap names config store stands g kept freed workers heap' collects)
+            (subst (λ f. Appends old new (collection_line (codes "collected") g kept f)) (freed_same heap names config store stands g kept freed workers heap' collects) held);
       }
 
   -- where the heap is short of blocks a collection may be refused

@@ -9,7 +9,7 @@ use Rattle.plain_cells.specs.Plain.{PlainValue as PlainCellsValue}
 use Rattle.plain_queues.specs.PlainValue.{outcomes_of}
 use Rattle.plain_queues.specs.PlainValue.{PlainValue as PlainQueuesValue}
 use Rattle.interleaved.specs.InterleavedValue.{system_of}
-use Rattle.interleaved_settling.specs.Settling.{AreDelivered}
+use Rattle.collector.specs.Together.{AreDelivered}
 use Rattle.interleaved_settling.specs.Telling.{all_deliveries}
 use Rattle.interleaved_settling.proofs.Ended.{at_rest_in, brought_in, settles, scans_once, nothing_left}
 use Rattle.copies.specs.Handed.{CopiesKeyValue}
@@ -37,22 +37,20 @@ returns-clause-settled g c =
     (brought_in c.args.workers c.args.heap.now c.args.collection c.into_parts-cells.result.members.items c.requires.heap c.requires.collection c.into_parts-cells.ensures.members c.in_ok-reports.reports.items c.in_ok-reports.blocks.items c.in_ok-reports.ensures)
     c.in_ok-places.places.items (c.in_ok-places.ensures ∙ ap (λ (k : PlainCellsValue). map place_of k.held) c.into_parts-cells.ensures.cells))
 
-pub returns-clause-lists : goal.returns-clause-lists
-returns-clause-lists g c =
-    (brought_in c.args.workers c.args.heap.now c.args.collection c.into_parts-cells.result.members.items c.requires.heap c.requires.collection c.into_parts-cells.ensures.members c.in_ok-reports.reports.items c.in_ok-reports.blocks.items c.in_ok-reports.ensures).reported
-
 pub returns-clause-once : goal.returns-clause-once
 returns-clause-once g c =
     scans_once c.args.workers c.into_parts-cells.ensures.interleaved c.requires.ended c.in_ok-reports.reports.items c.in_ok-reports.blocks.items
     (brought_in c.args.workers c.args.heap.now c.args.collection c.into_parts-cells.result.members.items c.requires.heap c.requires.collection c.into_parts-cells.ensures.members c.in_ok-reports.reports.items c.in_ok-reports.blocks.items c.in_ok-reports.ensures)
 
-pub returns-clause-deliveries : goal.returns-clause-deliveries
-returns-clause-deliveries g c =
-    subst (AreDelivered (system_of c.args.workers)) (sym (c.in_ok-deliveries.ensures ∙ ap all_deliveries (told_is c.args.workers c.into_parts-cells.result.queues c.in_ok-told.told c.into_parts-cells.ensures.queues (c.in_ok-told.ensures ∙ ap (λ (q : PlainQueuesValue CopiesKeyValue). map outcomes_of q.lanes) c.queues.view_is))))
-    (delivered c.args.workers c.into_parts-cells.ensures.interleaved c.requires.ended)
+pub returns-clause-reports : goal.returns-clause-reports
+returns-clause-reports g c =
+    record {
+      ended = c.requires.ended;
+      left = nothing_left c.args.workers c.into_parts-cells.ensures.interleaved c.requires.ended;
+      lists = (brought_in c.args.workers c.args.heap.now c.args.collection c.into_parts-cells.result.members.items c.requires.heap c.requires.collection c.into_parts-cells.ensures.members c.in_ok-reports.reports.items c.in_ok-reports.blocks.items c.in_ok-reports.ensures).reported;
+      delivered = subst (AreDelivered (system_of c.args.workers)) (sym (c.in_ok-deliveries.ensures ∙ ap all_deliveries (told_is c.args.workers c.into_parts-cells.result.queues c.in_ok-told.told c.into_parts-cells.ensures.queues (c.in_ok-told.ensures ∙ ap (λ (q : PlainQueuesValue CopiesKeyValue). map outcomes_of q.lanes) c.queues.view_is))))
+          (delivered c.args.workers c.into_parts-cells.ensures.interleaved c.requires.ended);
+    }
 
-pub returns-clause-left : goal.returns-clause-left
-returns-clause-left g c = nothing_left c.args.workers c.into_parts-cells.ensures.interleaved c.requires.ended
-
-pub returns-clause-run : goal.returns-clause-run
-returns-clause-run g c = (c.into_parts-cells.ensures.interleaved.reached, c.requires.ended)
+pub returns-clause-reached : goal.returns-clause-reached
+returns-clause-reached g c = c.into_parts-cells.ensures.interleaved.reached

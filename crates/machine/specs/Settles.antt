@@ -1,0 +1,22 @@
+-- What a machine whose workers all ended brings to a commit.
+use Rattle.std.specs.Prelude.{◌≡◌, ℕ, List, Option}
+use Rattle.layout.specs.declared.place.Place.{Place}
+use Rattle.block_pool.specs.BlockValue.{BlockValue}
+use Rattle.heap_data.specs.CollectionValue.{CollectionValue}
+use Rattle.heap_data.specs.ReportValue.{WorkerLists, all_won}
+use Rattle.heap_data.specs.SettledValue.{IsSettled}
+use Rattle.heap_data.specs.declared.report.Delivery.{Delivery}
+use Rattle.collector.specs.Collects.{ScansOnce}
+use Rattle.collector.specs.Together.{Reports}
+use Rattle.run_orders.specs.Scans.{ScansInBlocks}
+use Rattle.run_orders.specs.Taken.{AreTakenInOrder}
+use Rattle.machine.specs.MachineValue.{MachineValue}
+
+-- it may be committed; each name was won once, and each copy was scanned once, in the order of its block; each export was taken once, in its order; and the lists and deliveries are those of where the workers stand
+pub record Settles (m : MachineValue) (collection : CollectionValue) (places : List (Option Place)) (blocks : List BlockValue) (workers : List WorkerLists) (deliveries : List Delivery) : Type 0 where
+  pub collection_is : collection ≡ m.collection
+  pub may_commit : IsSettled m.heap collection places blocks (all_won workers)
+  pub once : ScansOnce m.heap m.collection.generation workers
+  pub in_order : ScansInBlocks m.system.workers m.heap.free
+  pub taken : AreTakenInOrder m.system
+  pub reports_are : Reports m.heap m.collection.generation m.system workers deliveries
