@@ -2,4 +2,10 @@
 #![tactic(auto)]
 
 #[cfg(test)]
+mod events;
+#[cfg(test)]
+mod graphs;
+#[cfg(test)]
 mod schedules;
+#[cfg(test)]
+mod together;

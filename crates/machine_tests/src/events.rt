@@ -1,0 +1,87 @@
+//! Events by number, and each list of three of them.
+use crate::together::census_of;
+use heap::{Config, Heap, Sizes};
+use machine::{Event, Machine, StepError};
+use std::alloc::Global;
+use std::test::Fail;
+
+/// An event of worker `t`, of the kind that is numbered so, the last for all numbers from 9 on.
+pub(crate) fn event_at(kind: u32, t: u32, u: u32) -> Event {
+    match kind {
+        0 => Event::Race(t),
+        1 => Event::Look(t),
+        2 => Event::Scan(t),
+        3 => Event::Export(t),
+        4 => Event::Take(t, u),
+        5 => Event::Own(t, 0),
+        6 => Event::OwnLarge(t),
+        7 => Event::Idle(t),
+        8 => Event::Wake(t),
+        _ => Event::End(t),
+    }
+}
+
+/// A heap of one object with a root.
+fn heap_of_one(alloc: Global) -> Result<Heap, Fail> {
+    let sizes = Sizes {
+        block_words: 64,
+        blocks: 2,
+        mutators: 1,
+        nursery_blocks: 1,
+        generations: 1,
+        steps: 1,
+    };
+    let Ok(config) = Config::new(sizes) else {
+        return Err(Fail::from("bad sizes"));
+    };
+    let mut heap = Heap::new(alloc, config)?;
+    let _root = heap.allocate(0, 1, 1)?;
+    Ok(heap)
+}
+
+/// The list of three events of one worker that is numbered so, below 1,000.
+fn three_events(number: u32) -> [Event; 3] {
+    [
+        event_at(number / 100, 0, 0),
+        event_at(number / 10 % 10, 0, 0),
+        event_at(number % 10, 0, 0),
+    ]
+}
+
+/// The only events that can come first: the worker looks at the root, wins the race for the object, and owns its block.
+const ONLY: [Event; 3] = [Event::Look(0), Event::Race(0), Event::Own(0, 0)];
+
+/// How such a list ends: it stops at the first event that can't come.
+fn expected(events: &[Event; 3]) -> Result<(), (usize, StepError)> {
+    for i in 0..3 {
+        if events[i] != ONLY[i] {
+            return Err((i, StepError::NotLawful));
+        }
+    }
+    Ok(())
+}
+
+/// Whether a list of events of one worker ends so.
+fn ends_so(alloc: Global, heap: &Heap, events: &[Event; 3]) -> Result<bool, Fail> {
+    let mut machine = Machine::open(alloc, heap, 0, 1)?;
+    Ok(machine.run(events) == expected(events))
+}
+
+/// The first list that ends otherwise, or after which the census is another.
+fn first_other(alloc: Global, heap: &Heap) -> Result<Option<u32>, Fail> {
+    let before = census_of(alloc, heap)?;
+    for number in 0..1000 {
+        let is_so = ends_so(alloc, heap, &three_events(number))?;
+        if !is_so || census_of(alloc, heap)? != before {
+            return Ok(Some(number));
+        }
+    }
+    Ok(None)
+}
+
+#[test]
+fn each_list_of_three_events(rt: HostRuntime) -> Result<(), Fail> {
+    let heap = heap_of_one(rt.alloc())?;
+    assert!(rt; first_other(rt.alloc(), &heap)?.is_none());
+    Ok(())
+}
