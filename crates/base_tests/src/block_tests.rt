@@ -1,44 +1,72 @@
 use block_pool::{Block, GrantError, Pool};
 use layout::ObjectRef;
+use std::alloc::{AllocError, Global};
 use std::test::Fail;
+
+/// The number, the generation and the step.
+fn label_of(block: &Block) -> (u32, u8, u8) {
+    (block.number(), block.generation(), block.step())
+}
+
+/// How many objects it has, how many words they take, and how many words there are.
+fn sizes_of(block: &Block) -> (usize, usize, usize) {
+    (block.len(), block.used(), block.words())
+}
+
+fn has_fields(object: &ObjectRef<'_>, pointers: &[u64], words: &[u64]) -> bool {
+    object.pointers == pointers && object.words == words
+}
+
+/// Whether the object of that ordinal has these fields.
+fn is_at(block: &Block, ordinal: usize, pointers: &[u64], words: &[u64]) -> bool {
+    ordinal < block.len() && has_fields(&block.object(ordinal), pointers, words)
+}
+
+/// Where two objects of four and three words come to lie, the second one with fields that are known.
+fn push_two(block: &mut Block) -> Option<(usize, usize)> {
+    if !block.fits(4) {
+        return None;
+    }
+    let first = block.push_new(1, 2);
+    let object = ObjectRef::new(9, &[65536], &[5]);
+    if !block.fits(object.size() as usize) {
+        return None;
+    }
+    Some((first, block.push_object(object)))
+}
+
+/// The offset, the ordinal and the numbers of fields of the second object.
+fn second_of(block: &Block) -> Option<(usize, u16, u32, u32)> {
+    if block.len() <= 1 {
+        return None;
+    }
+    let header = block.object(1).header;
+    Some((
+        block.offset(1),
+        header.ordinal,
+        header.pointers,
+        header.plain,
+    ))
+}
+
+fn begins_at(block: &Block, offset: usize, pointers: &[u64], words: &[u64]) -> bool {
+    match block.object_at(offset) {
+        Some(object) => has_fields(&object, pointers, words),
+        None => false,
+    }
+}
 
 #[test]
 fn objects_lie_one_after_the_other(rt: HostRuntime) -> Result<(), Fail> {
     let mut block = Block::new(rt.alloc(), 16)?;
     block.label(7, 1, 2);
-    assert_eq!(rt;
-        (block.number(), block.generation(), block.step()),
-        (7, 1, 2)
-    );
+    assert_eq!(rt; label_of(&block), (7, 1, 2));
     assert!(rt; block.fits(16) && !block.fits(17) && block.is_empty());
-
-    assert!(rt; block.fits(4));
-    assert_eq!(rt; block.push_new(1, 2), 0);
-    let object = ObjectRef::new(9, &[65536], &[5]);
-    assert!(rt; block.fits(object.size() as usize));
-    assert_eq!(rt; block.push_object(object), 4);
-    assert_eq!(rt; (block.len(), block.used(), block.words()), (2, 7, 16));
-
-    assert!(rt; 1 < block.len());
-    assert_eq!(rt; block.offset(1), 4);
-    let second = block.object(1);
-    assert_eq!(rt;
-        (
-            second.header.ordinal,
-            second.header.pointers,
-            second.header.plain
-        ),
-        (1, 1, 1)
-    );
-    assert_eq!(rt;
-        (second.pointers, second.words),
-        ([65536].as_slice(), [5].as_slice())
-    );
-    let first = block.object_at(0).ok_or("no object")?;
-    assert_eq!(rt;
-        (first.pointers, first.words),
-        ([0].as_slice(), [0, 0].as_slice())
-    );
+    assert_eq!(rt; push_two(&mut block), Some((0, 4)));
+    assert_eq!(rt; sizes_of(&block), (2, 7, 16));
+    assert_eq!(rt; second_of(&block), Some((4, 1, 1, 1)));
+    assert!(rt; is_at(&block, 1, &[65536], &[5]));
+    assert!(rt; begins_at(&block, 0, &[0], &[0, 0]));
     assert!(rt;
         block.object_at(3).is_none()
             && block.object_at(7).is_none()
@@ -58,18 +86,13 @@ fn a_field_is_written(rt: HostRuntime) -> Result<(), Fail> {
     block.set_pointer(1, 1, 65536);
     assert!(rt; 0 < block.len() && 1 < block.object(0).words.len());
     block.set_plain(0, 1, 7);
-    assert!(rt; 1 < block.len());
-    let first = block.object(0);
-    assert_eq!(rt;
-        (first.pointers, first.words),
-        ([0].as_slice(), [0, 7].as_slice())
-    );
-    let second = block.object(1);
-    assert_eq!(rt;
-        (second.pointers, second.words),
-        ([0, 65536].as_slice(), [0].as_slice())
-    );
+    assert!(rt; is_at(&block, 0, &[0], &[0, 7]) && is_at(&block, 1, &[0, 65536], &[0]));
     Ok(())
+}
+
+/// How many objects it has, how many words they take, how many are scanned, and how it was sent.
+fn state_of(block: &Block) -> (usize, usize, usize, Option<(u32, u64)>) {
+    (block.len(), block.used(), block.front(), block.sent())
 }
 
 #[test]
@@ -83,41 +106,43 @@ fn an_object_is_taken_back(rt: HostRuntime) -> Result<(), Fail> {
     block.push_new(0, 4);
     assert!(rt; block.front() < block.len());
     block.take_back_last();
-    assert_eq!(rt; (block.len(), block.used(), block.front()), (1, 3, 1));
+    assert_eq!(rt; state_of(&block), (1, 3, 1, None));
     assert!(rt; block.object_at(3).is_none());
     block.mark_exported(1, 4);
     assert_eq!(rt; block.sent(), Some((1, 4)));
     block.restore_sent(Some((2, 7)));
     assert_eq!(rt; block.sent(), Some((2, 7)));
     block.clear();
-    assert_eq!(rt;
-        (block.len(), block.used(), block.front(), block.sent()),
-        (0, 0, 0, None)
-    );
+    assert_eq!(rt; state_of(&block), (0, 0, 0, None));
     Ok(())
+}
+
+/// Whether so many blocks are granted, and they have these numbers.
+fn is_granted(alloc: Global, pool: &mut Pool, count: usize, numbers: &[u32]) -> bool {
+    match pool.grant(alloc, count) {
+        Ok(granted) => granted.as_slice() == numbers,
+        Err(_) => false,
+    }
+}
+
+/// Whether these numbers are free, and no others.
+fn is_free_list(alloc: Global, pool: &Pool, numbers: &[u32]) -> Result<bool, AllocError> {
+    Ok(pool.free_numbers(alloc)?.as_slice() == numbers)
 }
 
 #[test]
 fn blocks_are_granted_in_rising_order(rt: HostRuntime) -> Result<(), Fail> {
     let mut pool = Pool::new(rt.alloc(), 5)?;
     assert_eq!(rt; (pool.limit(), pool.free_count()), (5, 5));
-    let granted = pool.grant(rt.alloc(), 2).map_err(|_| "not granted")?;
-    assert_eq!(rt; granted.as_slice(), [0, 1].as_slice());
+    assert!(rt; is_granted(rt.alloc(), &mut pool, 2, &[0, 1]));
     assert!(rt; pool.is_free(3));
     pool.take(3);
-    assert_eq!(rt;
-        pool.free_numbers(rt.alloc())?.as_slice(),
-        [2, 4].as_slice()
-    );
-    assert!(rt; !pool.is_free(1) && !pool.is_free(5));
+    assert!(rt; is_free_list(rt.alloc(), &pool, &[2, 4])?);
+    assert!(rt; 1 < pool.limit() && !pool.is_free(1) && !pool.is_free(5));
     pool.give_back(1);
-    assert_eq!(rt;
-        pool.free_numbers(rt.alloc())?.as_slice(),
-        [1, 2, 4].as_slice()
-    );
+    assert!(rt; is_free_list(rt.alloc(), &pool, &[1, 2, 4])?);
     assert_eq!(rt; pool.grant(rt.alloc(), 4).err(), Some(GrantError::HeapFull));
-    let granted = pool.grant(rt.alloc(), 3).map_err(|_| "not granted")?;
-    assert_eq!(rt; granted.as_slice(), [1, 2, 4].as_slice());
+    assert!(rt; is_granted(rt.alloc(), &mut pool, 3, &[1, 2, 4]));
     assert_eq!(rt; pool.free_count(), 0);
     Ok(())
 }

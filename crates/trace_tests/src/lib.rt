@@ -8,4 +8,4 @@ mod reports;
 #[cfg(test)]
 mod runs;
 #[cfg(test)]
-mod schedules;
+mod schedule_lines;

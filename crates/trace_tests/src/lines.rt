@@ -1,103 +1,125 @@
-use std::test::Fail;
 use trace_text::{Command, Kind, Line, parse};
 
-/// The fault of a line, if it has one.
-fn fault_of(line: &[u8]) -> Option<Kind> {
-    parse(line).err()
+/// The first row whose line hasn't this fault.
+fn first_other_fault(rows: &[(&[u8], Kind)]) -> Option<usize> {
+    for (at, (line, kind)) in rows.iter().enumerate() {
+        if parse(line).err() != Some(*kind) {
+            return Some(at);
+        }
+    }
+    None
 }
 
-#[test]
-fn reads_commands(rt: HostRuntime) -> Result<(), Fail> {
-    let line = parse(b" new\ta.b-c_9  0 007 18446744073709551615\r")
-        .ok()
-        .ok_or("a fault")?;
-    let Line::Command(
-        Command::New {
-            name,
-            mutator,
-            pointers,
-            plain,
+/// The first of these lines that says something.
+fn first_with_meaning(lines: &[&[u8]]) -> Option<usize> {
+    for (at, line) in lines.iter().enumerate() {
+        if !matches!(parse(line), Ok(Line::Nothing)) {
+            return Some(at);
+        }
+    }
+    None
+}
+
+/// Whether the line makes an object of this mutator, with so many pointers and plain words.
+fn is_new(line: &[u8], wanted: &[u8], numbers: (u64, u64, u64)) -> bool {
+    match parse(line) {
+        Ok(
+            Line::Command(
+                Command::New {
+                    name,
+                    mutator,
+                    pointers,
+                    plain,
+                },
+            ),
+        ) => name == wanted && (mutator, pointers, plain) == numbers,
+        _ => false,
+    }
+}
+
+fn is_set(line: &[u8], wanted: &[u8], number: u64, other: Option<&[u8]>) -> bool {
+    match parse(line) {
+        Ok(
+            Line::Command(
+                Command::Set {
+                    name,
+                    field,
+                    target,
+                },
+            ),
+        ) => name == wanted && field == number && target == other,
+        _ => false,
+    }
+}
+
+fn is_put(line: &[u8], wanted: &[u8], numbers: (u64, u64)) -> bool {
+    match parse(line) {
+        Ok(Line::Command(Command::Put { name, field, value })) => {
+            name == wanted && (field, value) == numbers
         },
-    ) = line
-    else {
-        return Err(Fail::from("another line"));
-    };
-    assert_eq!(rt; name, b"a.b-c_9".as_slice());
-    assert_eq!(rt; (mutator, pointers, plain), (0, 7, u64::MAX));
-    let line = parse(b"collect 3").ok().ok_or("a fault")?;
-    let Line::Command(Command::Collect { generation }) = line else {
-        return Err(Fail::from("another line"));
-    };
-    assert_eq!(rt; generation, 3);
-    Ok(())
+        _ => false,
+    }
 }
 
-#[test]
-fn reads_fields(rt: HostRuntime) -> Result<(), Fail> {
-    let line = parse(b"set a 18446744073709551615 b")
-        .ok()
-        .ok_or("a fault")?;
-    let Line::Command(
-        Command::Set {
-            name,
-            field,
-            target,
-        },
-    ) = line
-    else {
-        return Err(Fail::from("another line"));
-    };
-    assert_eq!(rt; name, b"a".as_slice());
-    assert_eq!(rt; field, u64::MAX);
-    assert_eq!(rt; target, Some(b"b".as_slice()));
-    let line = parse(b"set a 0 nil").ok().ok_or("a fault")?;
-    assert!(rt; matches!(line, Line::Command(Command::Set { target: None, .. })));
-    let line = parse(b"put a 1 002").ok().ok_or("a fault")?;
-    let Line::Command(Command::Put { name, field, value }) = line else {
-        return Err(Fail::from("another line"));
-    };
-    assert_eq!(rt; name, b"a".as_slice());
-    assert_eq!(rt; (field, value), (1, 2));
-    let line = parse(b"\theap \r").ok().ok_or("a fault")?;
-    assert!(rt; matches!(line, Line::Command(Command::Heap)));
-    Ok(())
-}
-
-#[test]
-fn refuses_faults_of_fields(rt: HostRuntime) {
-    assert_eq!(rt; fault_of(b"set nil 0 a"), Some(Kind::BadName));
-    assert_eq!(rt; fault_of(b"set a nil nil"), Some(Kind::BadNumber));
-    assert_eq!(rt; fault_of(b"set a 0 Nil!"), Some(Kind::BadName));
-    assert_eq!(rt; fault_of(b"set a/ x b/"), Some(Kind::BadName));
-    assert_eq!(rt; fault_of(b"set a x b/"), Some(Kind::BadNumber));
-    assert_eq!(rt; fault_of(b"set a/ 0"), Some(Kind::WrongWords));
-    assert_eq!(rt; fault_of(b"set a/ 0 b c"), Some(Kind::WrongWords));
-    assert_eq!(rt; fault_of(b"put a 0 nil"), Some(Kind::BadNumber));
-    assert_eq!(rt; fault_of(b"put nil x 0"), Some(Kind::BadName));
-    assert_eq!(rt; fault_of(b"put a 0"), Some(Kind::WrongWords));
-    assert_eq!(rt; fault_of(b"put a 0 0 0"), Some(Kind::WrongWords));
-    assert_eq!(rt; fault_of(b"heap 0"), Some(Kind::WrongWords));
-}
-
-#[test]
-fn reads_lines_without_commands(rt: HostRuntime) {
-    for line in [b"".as_slice(), b"\r", b" \t", b"# drop a", b" #\xff"] {
-        assert!(rt; matches!(parse(line), Ok(Line::Nothing)));
+fn is_collect(line: &[u8], number: u64) -> bool {
+    match parse(line) {
+        Ok(Line::Command(Command::Collect { generation })) => generation == number,
+        _ => false,
     }
 }
 
 #[test]
+fn reads_commands(rt: HostRuntime) {
+    let line = b" new\ta.b-c_9  0 007 18446744073709551615\r";
+    assert!(rt; is_new(line, b"a.b-c_9", (0, 7, u64::MAX)));
+    assert!(rt; is_collect(b"collect 3", 3));
+}
+
+#[test]
+fn reads_fields(rt: HostRuntime) {
+    let line = b"set a 18446744073709551615 b";
+    assert!(rt; is_set(line, b"a", u64::MAX, Some(b"b")));
+    assert!(rt; is_set(b"set a 0 nil", b"a", 0, None));
+    assert!(rt; is_put(b"put a 1 002", b"a", (1, 2)));
+    assert!(rt; matches!(parse(b"\theap \r"), Ok(Line::Command(Command::Heap))));
+}
+
+#[test]
+fn refuses_faults_of_fields(rt: HostRuntime) {
+    const ROWS: [(&[u8], Kind); 12] = [
+        (b"set nil 0 a", Kind::BadName),
+        (b"set a nil nil", Kind::BadNumber),
+        (b"set a 0 Nil!", Kind::BadName),
+        (b"set a/ x b/", Kind::BadName),
+        (b"set a x b/", Kind::BadNumber),
+        (b"set a/ 0", Kind::WrongWords),
+        (b"set a/ 0 b c", Kind::WrongWords),
+        (b"put a 0 nil", Kind::BadNumber),
+        (b"put nil x 0", Kind::BadName),
+        (b"put a 0", Kind::WrongWords),
+        (b"put a 0 0 0", Kind::WrongWords),
+        (b"heap 0", Kind::WrongWords),
+    ];
+    assert_eq!(rt; first_other_fault(&ROWS), None);
+}
+
+#[test]
+fn reads_lines_without_commands(rt: HostRuntime) {
+    const LINES: [&[u8]; 6] = [b"", b"\r", b" \t", b"# drop a", b" #\xff", &[b'#'; 4096]];
+    assert_eq!(rt; first_with_meaning(&LINES), None);
+}
+
+#[test]
 fn refuses_the_first_fault(rt: HostRuntime) {
-    assert_eq!(rt; fault_of(b"begin a b"), Some(Kind::UnknownCommand));
-    assert_eq!(rt; fault_of(b"census\r\r"), Some(Kind::UnknownCommand));
-    assert_eq!(rt; fault_of(b"drop nil x"), Some(Kind::WrongWords));
-    assert_eq!(rt; fault_of(b"drop nil"), Some(Kind::BadName));
-    assert_eq!(rt; fault_of(b"new a/ x 0 0"), Some(Kind::BadName));
-    assert_eq!(rt; fault_of(b"new a 0 +1 0"), Some(Kind::BadNumber));
-    assert_eq!(rt;
-        fault_of(b"collect 18446744073709551616"),
-        Some(Kind::BadNumber)
-    );
-    assert_eq!(rt; fault_of([b'#'; 4097].as_slice()), Some(Kind::LineTooLong));
-    assert_eq!(rt; fault_of([b'#'; 4096].as_slice()), None);
+    const ROWS: [(&[u8], Kind); 8] = [
+        (b"begin a b", Kind::UnknownCommand),
+        (b"census\r\r", Kind::UnknownCommand),
+        (b"drop nil x", Kind::WrongWords),
+        (b"drop nil", Kind::BadName),
+        (b"new a/ x 0 0", Kind::BadName),
+        (b"new a 0 +1 0", Kind::BadNumber),
+        (b"collect 18446744073709551616", Kind::BadNumber),
+        (&[b'#'; 4097], Kind::LineTooLong),
+    ];
+    assert_eq!(rt; first_other_fault(&ROWS), None);
 }
