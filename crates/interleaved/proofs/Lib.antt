@@ -1,3 +1,4 @@
+pub use Rattle.serial.proofs.Starts
 pub mod Places
 pub mod Members
 pub mod Alone

@@ -1,5 +1,5 @@
 -- A collection by several workers on one thread, as its calls see it, and as a system of workers.
-use Rattle.std.specs.Prelude.{◌≡◌, ℕ, Bool, true, List, map, slice_index, refl, if◌then◌else◌}
+use Rattle.std.specs.Prelude.{◌≡◌, ℕ, Bool, true, List, length, map, slice_index, refl, if◌then◌else◌}
 use Rattle.std.specs.Coded.{Coded, code_by, coded×, coded_list, coded_bool, coded_ℕ}
 use Rattle.model.specs.Destination.{Shape, dest_count}
 use Rattle.layout.specs.declared.place.Place.{Place}
@@ -94,6 +94,12 @@ system_of v =
       idle = map (λ m. m.idle) v.members;
       ended = map (λ m. m.ended) v.members;
     }
+
+-- there are n workers, each with a queue
+pub record HasWorkers (s : System) (n : ℕ) : Type 0 where
+  pub workers : length s.workers ≡ n
+  pub queues : length s.queues ≡ n
+  pub idle : length s.idle ≡ n
 
 -- what so many workers see of a heap that is collected
 abbrev pub setting_for : HeapValue → CollectionValue → ℕ → Setting

@@ -1,4 +1,7 @@
 -- A collection by several workers on one thread, event by event.
+pub use Rattle.copies.specs.Handed
+pub use Rattle.serial.specs.SerialCode
+pub use Rattle.serial.specs.IsSerial
 pub mod InterleavedValue
 pub mod IsInterleaved
 pub mod Events

@@ -1,7 +1,8 @@
-//! When a worker rests, goes on and ends.
+//! When a worker rests, goes on and ends, and how many there are.
+ghost use Rattle.std.specs.Prelude.{◌≡◌, ◌<◌, ◌≤◌};
 ghost use Rattle.workers.specs.System.{Idle, Wake, End};
 ghost use Rattle.workers.specs.Lawful.{IsLawful};
-ghost use Rattle.interleaved.specs.InterleavedValue.{Goes, setting_in, system_of};
+ghost use Rattle.interleaved.specs.InterleavedValue.{Goes, HasWorkers, setting_in, system_of};
 
 use crate::interleaved::InterleavedCollection;
 use std::alloc::Allocator;
@@ -31,5 +32,15 @@ impl<A: Allocator> InterleavedCollection<A> {
         ensures { Goes (End t) self.old self.new }
     {
         self.members[t as usize].ended = true;
+    }
+
+    /// How many workers there are, 1 to 16.
+    pub fn workers(&self) -> u32
+        ensures count { result ≡ self.now.workers }
+        ensures each { HasWorkers (system_of self.now) result }
+        ensures some { 0 < result }
+        ensures most { result ≤ 16 }
+    {
+        self.workers
     }
 }

@@ -9,7 +9,7 @@ use Rattle.block_pool.specs.BlockValue.{BlockValue}
 use Rattle.exports.specs.declared.deliveries.Delivery.{Delivery as Outcome}
 use Rattle.plain_queues.specs.PlainValue.{PlainLane, outcomes, outcomes_of}
 use Rattle.plain_queues.specs.PlainValue.{PlainValue as PlainQueuesValue}
-use Rattle.copies.specs.Handed.{CopiesKeyValue}
+use Rattle.interleaved.specs.Handed.{CopiesKeyValue}
 use Rattle.heap_data.specs.declared.report.Delivery.{Delivery}
 use Rattle.workers.specs.Block.{Block}
 use Rattle.workers.specs.Joined.{Each}

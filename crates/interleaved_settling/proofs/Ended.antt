@@ -31,7 +31,7 @@ use Rattle.workers.proofs.Kept.{kept}
 use Rattle.scavenge.specs.Slots.{cell_of, seen}
 use Rattle.settling.specs.Brings.{left_blocks}
 use Rattle.settling.proofs.Bridge.{settled}
-use Rattle.serial.proofs.Starts.{has_starts, targets_live}
+use Rattle.interleaved.proofs.Starts.{has_starts, targets_live}
 use Rattle.serial_settling.proofs.SettleBrings.{stands_has, times-places, not_below}
 use Rattle.serial_settling.proofs.SettleWhole.{held_place}
 use Rattle.interleaved.specs.InterleavedValue.{InterleavedValue, MemberValue, worker_of, system_of, setting_in, targets_in, destinations_in}

@@ -1,3 +1,4 @@
+pub use Rattle.serial_settling.proofs.SettleBrings
 pub mod ToldLists
 pub mod Parted
 pub mod EndedLists

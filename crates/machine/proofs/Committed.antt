@@ -12,8 +12,8 @@ use Rattle.heap_data.specs.ReportValue.{WorkerLists, all_won, renaming_of}
 use Rattle.heap_data.specs.declared.report.Delivery.{Delivery}
 use Rattle.workers.specs.System.{opening}
 use Rattle.workers.specs.Steps.{Run}
-use Rattle.collector.specs.Collects.{setting_at, opening_at}
-use Rattle.collector.specs.Together.{RunsTogether, CollectsTogether}
+use Rattle.interleaved_settling.specs.Collects.{setting_at, opening_at}
+use Rattle.interleaved_settling.specs.Together.{RunsTogether, CollectsTogether}
 use Rattle.machine.specs.MachineValue.{MachineValue, HasReached, setting_in}
 use Rattle.machine.specs.Settles.{Settles}
 

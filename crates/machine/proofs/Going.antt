@@ -10,8 +10,8 @@ use Rattle.workers.specs.System as system
 use Rattle.workers.specs.Lawful.{IsLawful, IsRefused, IsNext, AllEnded, next_lawful}
 use Rattle.workers.proofs.Reached.{reached_next, reached_none}
 use Rattle.workers.proofs.RunBrings.{refused_below}
-use Rattle.serial.specs.IsSerial.{IsReadyToCollect}
-use Rattle.serial.proofs.Starts.{targets_live}
+use Rattle.interleaved.specs.IsSerial.{IsReadyToCollect}
+use Rattle.interleaved.proofs.Starts.{targets_live}
 use Rattle.interleaved.specs.declared.event.Event.{Event}
 use Rattle.interleaved.specs.Events.{event_of}
 use Rattle.interleaved.specs.InterleavedValue.{InterleavedValue, Goes, Stays, system_of, destinations_in, targets_in}

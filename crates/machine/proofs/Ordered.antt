@@ -5,7 +5,7 @@ use Rattle.workers.specs.Alone.{AreEmpty}
 use Rattle.heap_data.specs.HeapValue.{HeapValue}
 use Rattle.heap_data.specs.CollectionValue.{CollectionValue}
 use Rattle.interleaved.specs.InterleavedValue.{InterleavedValue, setting_in, destinations_in, targets_in, system_of}
-use Rattle.serial_settling.proofs.SettleBrings.{stands_has}
+use Rattle.interleaved_settling.proofs.SettleBrings.{stands_has}
 use Rattle.run_orders.specs.Scans.{ScansInBlocks}
 use Rattle.run_orders.specs.Taken.{AreTakenInOrder}
 use Rattle.run_orders.proofs.Scans.{scans_in_order}

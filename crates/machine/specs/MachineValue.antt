@@ -10,8 +10,8 @@ use Rattle.workers.specs.Setting.{Setting}
 use Rattle.workers.specs.Worker.{Worker}
 use Rattle.workers.specs.System.{System}
 use Rattle.workers.specs.Finish.{IsReached}
-use Rattle.serial.specs.SerialCode.{copies_code, worker_code}
-use Rattle.serial.specs.IsSerial.{IsReadyToCollect}
+use Rattle.interleaved.specs.SerialCode.{copies_code, worker_code}
+use Rattle.interleaved.specs.IsSerial.{IsReadyToCollect}
 use Rattle.interleaved.specs.InterleavedValue.{InterleavedValue, setting_for}
 use Rattle.interleaved.specs.InterleavedValue as interleaved
 

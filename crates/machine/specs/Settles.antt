@@ -6,8 +6,8 @@ use Rattle.heap_data.specs.CollectionValue.{CollectionValue}
 use Rattle.heap_data.specs.ReportValue.{WorkerLists, all_won}
 use Rattle.heap_data.specs.SettledValue.{IsSettled}
 use Rattle.heap_data.specs.declared.report.Delivery.{Delivery}
-use Rattle.collector.specs.Collects.{ScansOnce}
-use Rattle.collector.specs.Together.{Reports}
+use Rattle.interleaved_settling.specs.Collects.{ScansOnce}
+use Rattle.interleaved_settling.specs.Together.{Reports}
 use Rattle.run_orders.specs.Scans.{ScansInBlocks}
 use Rattle.run_orders.specs.Taken.{AreTakenInOrder}
 use Rattle.machine.specs.MachineValue.{MachineValue}

@@ -1,5 +1,6 @@
 //! A machine, and how it opens.
 ghost use Rattle.std.specs.Prelude.{◌≡◌, ◌<◌, ◌≤◌, ◌⊎◌, ◌↔◌, Err, IfOk};
+ghost use Rattle.interleaved.specs.InterleavedValue.{HasWorkers};
 ghost use Rattle.machine.specs.Events.{Opens};
 
 use crate::machine_error::MachineError;
@@ -50,5 +51,15 @@ impl<'a, A: Allocator + Clone> Machine<'a, A> {
             collection,
             workers,
         })
+    }
+
+    /// How many workers there are, 1 to 16.
+    pub fn workers(&self) -> u32
+        ensures count { result ≡ self.now.workers }
+        ensures each { HasWorkers self.now.system result }
+        ensures some { 0 < result }
+        ensures most { result ≤ 16 }
+    {
+        self.workers.workers()
     }
 }

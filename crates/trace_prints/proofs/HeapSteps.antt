@@ -16,10 +16,10 @@ use Rattle.heap.specs.HeapValue.{HeapValue}
 use Rattle.heap_text.specs.HeapLines.{heap_lines}
 use Rattle.trace_lines.specs.Outcome.{command_step}
 use Rattle.trace_lines.specs.Stepped.{StepsTo}
-use Rattle.store_places.specs.Stands.{StandsFor}
+use Rattle.trace_session.specs.Stands.{StandsFor}
 use Rattle.trace_names.proofs.NamedLemmas.{sorted_of}
 use Rattle.trace_names.proofs.NameLists.{each_named}
-use Rattle.store_places.proofs.TextSame.{same_text}
+use Rattle.trace_session.proofs.TextSame.{same_text}
 
 module _ (heap : HeapValue) (names : List (List ℕ × ℕ)) (config : Config) (store : Store) (stands : StandsFor heap names config store) (rise : IsTrue (is_sorted (slice_cmp nat_cmp) names)) where
   -- each name, however it is written, has a root

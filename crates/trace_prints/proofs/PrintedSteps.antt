@@ -15,10 +15,10 @@ use Rattle.collector.specs.Collects.{CollectsAlone, IsShortOfBlocks}
 use Rattle.trace_lines.specs.Outcome.{command_step}
 use Rattle.trace_lines.specs.Stepped.{StepsTo}
 use Rattle.trace_session.specs.Refusals.{CommandMayBeFull}
-use Rattle.store_places.specs.Made as made_by
-use Rattle.store_places.specs.Stands.{StandsFor}
-use Rattle.store_places.proofs.CountsSame.{same_census}
-use Rattle.store_places.proofs.StandsCollected.{stands_collected, kept_same, freed_same}
+use Rattle.trace_session.specs.Made as made_by
+use Rattle.trace_session.specs.Stands.{StandsFor}
+use Rattle.trace_session.proofs.CountsSame.{same_census}
+use Rattle.trace_session.proofs.StandsCollected.{stands_collected, kept_same, freed_same}
 
 module _ (heap : HeapValue) (names : List (List ℕ × ℕ)) (config : Config) (store : Store) (stands : StandsFor heap names config store) where
   pub steps_census : (old new : Option (List ℕ)) → Appends old new (census_text (heap_census heap)) → StepsTo (StandsFor heap names) config (command_step config store Census) old new

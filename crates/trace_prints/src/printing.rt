@@ -21,7 +21,7 @@ use trace_lines::Fault;
 use trace_session::Session;
 
 /// The fault of a text that was not written in a line.
-fn not_written(number: u128, error: WriteError) -> Fault
+pub fn not_written(number: u128, error: WriteError) -> Fault
     ensures { MatchFault result (λ _ _. ⊥) (λ _. ⊥) (λ at. (at ≡ Some number) × (error ≡ WriteError.NoMemory)) ⊥ (error ≡ WriteError.WriteFailed) }
 {
     match error {

@@ -5,7 +5,7 @@ use Rattle.model.specs.Config.{Config}
 use Rattle.model.specs.Store.{Store}
 use Rattle.model.specs.Commands.{Command, New, Collect, room_in, is_large_size}
 use Rattle.heap.specs.HeapValue.{HeapValue}
-use Rattle.collector.specs.Collects.{IsShortOfBlocks}
+use Rattle.store_places.specs.Collects.{IsShortOfBlocks}
 use Rattle.trace_text.specs.Grammar.{entry_of}
 use Rattle.trace_lines.specs.Sound.{IsSound, IsSoundCommand}
 use Rattle.store_places.specs.Stands.{StandsFor}

@@ -12,7 +12,7 @@ use Rattle.trace_lines.specs.Faults.{MatchFault}
 use Rattle.trace_lines.specs.Outcome.{line_step, entry_step, command_step}
 use Rattle.trace_lines.specs.Sound.{IsSound, IsSoundCommand}
 use Rattle.trace_lines.specs.Stepped.{AtEach}
-use Rattle.trace_session.specs.Refusals.{MayBeFull, CommandMayBeFull, ReadWantsBlocks}
+use Rattle.trace_prints.specs.Refusals.{MayBeFull, CommandMayBeFull, ReadWantsBlocks}
 
 line_is : (config : Config) (store : Store) (line : List ℕ) (command : Command) → entry_of line ≡ Ok (Some command) → line_step config store line ≡ command_step config store command
 unfolding line_step

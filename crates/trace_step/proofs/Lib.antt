@@ -1,2 +1,3 @@
 -- What a line does that is a command.
+pub use Rattle.trace_prints.proofs.StandsCollected
 pub mod CommandLine

@@ -4,3 +4,4 @@
 mod step;
 
 pub use step::carry_out;
+pub use trace_prints::{Session, not_written};

@@ -6,14 +6,13 @@ ghost use Rattle.trace_lines.specs.Faults.{MatchFault};
 ghost use Rattle.trace_lines.specs.Outcome.{line_step, command_step};
 ghost use Rattle.trace_lines.specs.Sound.{IsSound, IsSoundCommand};
 ghost use Rattle.trace_lines.specs.Stepped.{AtEach, StepsTo};
-ghost use Rattle.trace_session.specs.Refusals.{MayBeFull, CommandMayBeFull};
-ghost use Rattle.trace_session.specs.Session.{Stands};
+ghost use Rattle.trace_prints.specs.Refusals.{MayBeFull, CommandMayBeFull};
+ghost use Rattle.trace_prints.specs.Session.{Stands};
 
 use byte_streams::Sink;
 use std::alloc::Allocator;
 use trace_lines::Fault;
-use trace_prints::{census, collect, show_heap};
-use trace_session::Session;
+use trace_prints::{Session, census, collect, show_heap};
 use trace_text::{Command, Line, parse};
 
 /// Carries out one command.

@@ -12,7 +12,7 @@ use Rattle.interleaved.specs.InterleavedValue.{system_of}
 use Rattle.collector.specs.Together.{AreDelivered}
 use Rattle.interleaved_settling.specs.Telling.{all_deliveries}
 use Rattle.interleaved_settling.proofs.Ended.{at_rest_in, brought_in, settles, scans_once, nothing_left}
-use Rattle.copies.specs.Handed.{CopiesKeyValue}
+use Rattle.interleaved.specs.Handed.{CopiesKeyValue}
 use Rattle.interleaved_settling.proofs.Delivered.{told_is, each_taken, delivered}
 use Rattle.interleaved_settling.proofs.settled.gathered.Goals as goal
 

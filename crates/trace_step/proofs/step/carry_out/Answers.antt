@@ -2,7 +2,7 @@ use Rattle.std.proofs.Common.{◌≡◌, Ok, subst}
 use Rattle.model.specs.Commands.{command_of}
 use Rattle.trace_text.specs.Answer.{view}
 use Rattle.trace_text.specs.Grammar.{entry_of}
-use Rattle.trace_session.specs.Session.{Stands}
+use Rattle.trace_prints.specs.Session.{Stands}
 use Rattle.trace_step.proofs.CommandLine.{line_faults}
 use Rattle.trace_step.proofs.step.carry_out.Goals as goal
 

@@ -1,6 +1,6 @@
 use Rattle.std.proofs.Common.{◌≡◌, ◌<◌, ◌≤◌, sym, ap, subst, ◌∙◌, ⊎_elim, arith, rules}
 use Rattle.heap_data.specs.CollectionValue.{IsOpened}
-use Rattle.serial.specs.IsSerial.{IsReadyToCollect}
+use Rattle.interleaved.specs.IsSerial.{IsReadyToCollect}
 use Rattle.interleaved.specs.InterleavedValue.{destinations_in, targets_in}
 use Rattle.workers.specs.System.{opening}
 use Rattle.machine.proofs.Going.{begins, opens}
