@@ -3,4 +3,4 @@
 
 mod words;
 
-pub use words::{Options, Refused, read_words};
+pub use words::{Options, Refused, Task, read_words};

@@ -1,15 +1,27 @@
 //! The words of a command line.
+ghost use Rattle.std.specs.Prelude.{◌≡◌, ◌↔◌, IfSome, Some, codes};
 ghost use Rattle.clap.specs.Values.{kind_of};
 ghost use Rattle.command_line.specs.Refusals.{IsToldOf};
+ghost use Rattle.command_line.specs.declared.words.Task.TheVariants.{Run, Replay};
 
 use clap::error::ErrorKind;
 use clap::{Arg, ArgMatches, Command, Error, value_parser};
 use std::alloc::{AllocError, Global};
 use std::convert::AsStr;
 
-/// The numbers that a command line gives, in no particular range.
+/// What a command line asks for.
+#[derive(Clone, Copy, Debug)]
+pub enum Task {
+    /// To carry out a trace.
+    Run,
+    /// To carry out a trace with the schedules of its collections.
+    Replay,
+}
+
+/// What a command line gives: its task, and the numbers, in no particular range.
 #[derive(Clone, Copy, Debug)]
 pub struct Options {
+    pub task: Task,
     pub threads: u64,
     pub mutators: u64,
     pub generations: u64,
@@ -45,26 +57,44 @@ fn cells_option<'a>(alloc: Global) -> Arg<'a> {
         .default_value("box")
 }
 
-fn run_command<'a>(alloc: Global) -> Result<Command<'a>, AllocError> {
-    Command::new(alloc, "run")
+/// A subcommand with the options that each of them takes.
+fn task_command<'a>(alloc: Global, name: &'a str) -> Result<Command<'a>, AllocError> {
+    Command::new(alloc, name)
         .arg(number_option(alloc, "threads", "1"))?
         .arg(number_option(alloc, "mutators", "1"))?
         .arg(number_option(alloc, "generations", "2"))?
         .arg(number_option(alloc, "steps", "2"))?
         .arg(number_option(alloc, "block-words", "512"))?
         .arg(number_option(alloc, "nursery", "4"))?
-        .arg(number_option(alloc, "blocks", "4096"))?
-        .arg(cells_option(alloc))
+        .arg(number_option(alloc, "blocks", "4096"))
 }
 
 fn gctrace_command<'a>(alloc: Global) -> Result<Command<'a>, AllocError> {
+    let run = task_command(alloc, "run")?.arg(cells_option(alloc))?;
     Command::new(alloc, "gctrace")
         .subcommand_required(true)
-        .subcommand(run_command(alloc)?)
+        .subcommand(run)?
+        .subcommand(task_command(alloc, "replay")?)
 }
 
-fn options_of(matches: &ArgMatches<'_>) -> Option<Options> {
+/// The task of the subcommand of this name.
+fn task_of(name: &str) -> Option<Task>
+    ensures run { (result ≡ Some Run) ↔ (name.now ≡ codes "run") }
+    ensures replay { (result ≡ Some Replay) ↔ (name.now ≡ codes "replay") }
+{
+    match name {
+        "run" => Some(Task::Run),
+        "replay" => Some(Task::Replay),
+        _ => None,
+    }
+}
+
+fn options_of(name: &str, matches: &ArgMatches<'_>) -> Option<Options>
+    ensures run { IfSome result (λ options. (options.task ≡ Run) ↔ (name.now ≡ codes "run")) }
+    ensures replay { IfSome result (λ options. (options.task ≡ Replay) ↔ (name.now ≡ codes "replay")) }
+{
     Some(Options {
+        task: task_of(name)?,
         threads: matches.get_one::<u64>("threads")?,
         mutators: matches.get_one::<u64>("mutators")?,
         generations: matches.get_one::<u64>("generations")?,
@@ -81,7 +111,7 @@ fn parsed_words<'a, T: AsStr>(alloc: Global, words: &'a [T]) -> Result<Options, 
     let matches = command.try_get_matches_from_mut(words)?;
     match matches
         .subcommand()
-        .and_then(|(_name, inner)| options_of(inner))
+        .and_then(|(name, inner)| options_of(name, inner))
     {
         Some(options) => Ok(options),
         // Each option has a default, so that it has a value.

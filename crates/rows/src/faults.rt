@@ -228,7 +228,9 @@ fn numbers_in_range(rt: HostRuntime) {
 fn mistakes_in_the_words(rt: HostRuntime) {
     for words in [
         ["gctrace"].as_slice(),
-        &["gctrace", "replay", "--generations=1"],
+        &["gctrace", "walk", "--generations=1"],
+        &["gctrace", "replay", "--cells=box"],
+        &["gctrace", "replay", "--threads=x"],
         &["gctrace", "run", "--threads=x"],
         &["gctrace", "run", "--threads=-1"],
         &["gctrace", "run", "--blocks=18446744073709551616"],
@@ -256,21 +258,13 @@ For more information, try '--help'.
 ";
     let words = ["gctrace", "run", "--threads=x"];
     assert_run(&rt, rt.alloc(), &words, b"", b"", bad_value, 3);
-    let unknown = b"error: unrecognized subcommand 'replay'
+    let unknown = b"error: unrecognized subcommand 'walk'
 
 Usage: gctrace <COMMAND>
 
 For more information, try '--help'.
 ";
-    assert_run(
-        &rt,
-        rt.alloc(),
-        &["gctrace", "replay"],
-        b"",
-        b"",
-        unknown,
-        3,
-    );
+    assert_run(&rt, rt.alloc(), &["gctrace", "walk"], b"", b"", unknown, 3);
 }
 
 #[test]

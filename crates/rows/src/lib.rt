@@ -18,6 +18,10 @@ mod program;
 #[cfg(test)]
 mod reads_and_writes;
 #[cfg(test)]
+mod refused_replays;
+#[cfg(test)]
+mod replays;
+#[cfg(test)]
 mod texts;
 #[cfg(test)]
 mod worked;

@@ -1,4 +1,6 @@
 //! Runs and collections whose requests for memory are refused in turn.
+ghost use Rattle.std.specs.Prelude.{◌≡◌, IfOk};
+
 use crate::is_front_in_lines;
 use heap::{Config, Sizes};
 use heap_text::Counted;
@@ -97,7 +99,9 @@ impl Read for SlowReader<'_> {
     }
 }
 
-fn small_blocks() -> Result<RunConfig, Fail> {
+fn small_blocks() -> Result<RunConfig, Fail>
+    ensures { IfOk result (λ run. run.workers ≡ 1) }
+{
     let config = Config::new(Sizes {
         block_words: 16,
         blocks: 12,

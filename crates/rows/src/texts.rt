@@ -1,11 +1,15 @@
 //! The calls below the program: a collection's line, and a run.
+ghost use Rattle.std.specs.Prelude.{◌≡◌, IfOk};
+
 use heap::{Config, Sizes};
 use heap_text::{Counted, write_collection};
 use std::test::Fail;
 use trace_driver::{CountedReader, RunConfig, run_one};
 
 /// One block of 16 words for the nursery, and one more.
-fn two_blocks() -> Result<RunConfig, Fail> {
+fn two_blocks() -> Result<RunConfig, Fail>
+    ensures { IfOk result (λ run. run.workers ≡ 1) }
+{
     let config = Config::new(Sizes {
         block_words: 16,
         blocks: 2,

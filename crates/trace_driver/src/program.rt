@@ -7,16 +7,18 @@ ghost use Rattle.trace_driver.specs.Program.{config_of, AreInRange, EndsAs};
 ghost use Rattle.command_line.specs.declared.words.Options.{Options as Asked};
 
 use crate::config::RunConfig;
+use crate::replaying::replay;
 use crate::running::run;
 use byte_streams::{Sink, Source, write_all};
-use command_line::{Options, Refused, read_words};
+use command_line::{Options, Refused, Task, read_words};
 use heap::{BadConfig, Config, Sizes};
 use std::alloc::Global;
 use std::convert::AsStr;
 use trace_lines::{Fault, write_fault};
 
+/// The settings that the words ask for. So far only a replay has more than one worker.
 fn run_config(options: &Options) -> Result<RunConfig, BadConfig>
-    ensures ok { IfOk result (λ run. run.config ≡ config_of options.now) }
+    ensures ok { IfOk result (λ run. (run.config ≡ config_of options.now) × (run.workers ≡ options.now.threads)) }
     ensures in_range { IsOk result ↔ AreInRange options.now }
 {
     let config = Config::new(Sizes {
@@ -27,7 +29,10 @@ fn run_config(options: &Options) -> Result<RunConfig, BadConfig>
         generations: options.generations,
         steps: options.steps,
     })?;
-    RunConfig::new(config, options.threads)
+    match options.task {
+        Task::Run if options.threads != 1 => Err(BadConfig),
+        Task::Run | Task::Replay => RunConfig::new(config, options.threads),
+    }
 }
 
 /// The status of a fault, whose line is written to `errors`. A failed write of the line changes nothing.
@@ -88,9 +93,15 @@ fn run_with<S: Source, W: Sink, E: Sink>(
             return 3;
         }
     };
-    match run(alloc, reader, writer, config) {
-        Ok(()) => 0,
-        Err(fault) => tell(&fault, errors),
+    match options.task {
+        Task::Run => match run(alloc, reader, writer, config) {
+            Ok(()) => 0,
+            Err(fault) => tell(&fault, errors),
+        },
+        Task::Replay => match replay(alloc, reader, writer, config) {
+            Ok(()) => 0,
+            Err(fault) => tell(&fault, errors),
+        },
     }
 }
 

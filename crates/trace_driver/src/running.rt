@@ -6,15 +6,14 @@ ghost use Rattle.trace_lines.specs.Pieces.{HasNoFeed, pieces};
 ghost use Rattle.trace_lines.specs.Sound.{IsSound};
 ghost use Rattle.trace_lines.specs.Carried.{StopsAt, LeavesBefore, LeavesOutput, Prints, PrintsFront};
 ghost use Rattle.trace_lines.specs.Stepped.{AtEach, CarriesOutTo};
-ghost use Rattle.trace_session.specs.Refusals.{MayBeFull};
-ghost use Rattle.trace_session.specs.Session.{Stands};
+ghost use Rattle.trace_step.specs.Refusals.{MayBeFull};
+ghost use Rattle.trace_step.specs.Session.{Stands};
 
 use crate::config::RunConfig;
 use byte_streams::{Sink, Source};
 use std::alloc::Allocator;
 use trace_lines::{Fault, read_all, split_line};
-use trace_session::Session;
-use trace_step::carry_out;
+use trace_step::{Session, carry_out};
 use trace_text::Kind;
 
 /// The most bytes that a line has before its line feed.
@@ -129,13 +128,14 @@ pub fn run_one<A: Allocator + Clone, S: Source, W: Sink>(
     carry_out_text(&mut session, text.as_slice(), writer)
 }
 
-/// Reads a whole trace, carries it out and writes what it prints. It makes the heap first.
+/// Reads a whole trace, carries it out and writes what it prints. It makes the heap first. So far there is one worker.
 pub fn run<A: Allocator + Clone, S: Source, W: Sink>(
     alloc: A,
     reader: &mut S,
     writer: &mut W,
     config: RunConfig,
 ) -> Result<(), Fault>
+    requires one { config.workers ≡ 1 }
     requires readable { S.failed_reads reader.old < 2 ^ 64 - 1 }
     requires writable { W.failed_writes writer.old < 2 ^ 64 - 1 }
     ensures ok { OnOk result (IfSome (S.remaining reader.old) (λ input.
@@ -156,6 +156,5 @@ pub fn run<A: Allocator + Clone, S: Source, W: Sink>(
     ensures reads { S.failed_reads reader.new ≤ S.failed_reads reader.old + 1 }
     ensures writes { W.failed_writes writer.new ≤ W.failed_writes writer.old + 1 }
 {
-    let _one_worker = config.config();
     run_one(alloc, reader, writer, config)
 }

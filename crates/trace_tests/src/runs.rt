@@ -24,7 +24,7 @@ fn runs_without_words(rt: HostRuntime) -> Result<(), Fail> {
         steps: 2,
     };
     let config = Config::new(sizes)?;
-    assert_eq!(rt; RunConfig::new(config, 2).err(), Some(BadConfig));
+    assert_eq!(rt; RunConfig::new(config, 17).err(), Some(BadConfig));
     let mut reader = CountedReader {
         inner: FIRST_RUN,
         failed_reads: 0,

@@ -1,15 +1,15 @@
 use Rattle.std.proofs.Common.{◌≡◌, subst, sym}
 use Rattle.std.specs.Prelude.{IfSome}
 use Rattle.model.specs.Store.{empty_store}
-use Rattle.trace_session.specs.Refusals.{MayBeFull}
-use Rattle.trace_session.specs.Session.{Stands}
+use Rattle.trace_step.specs.Refusals.{MayBeFull}
+use Rattle.trace_step.specs.Session.{Stands}
 use Rattle.trace_lines.proofs.FaultLemmas.{run_faults}
 use Rattle.trace_driver.proofs.running.run_one.Goals as goal
 
 pub returns-clause-err : goal.returns-clause-err
 returns-clause-err g c =
     run_faults MayBeFull (Stands c.in-Ok-new.session) c.args.config.config
-    (subst (λ k. Stands c.in-Ok-new.session k (empty_store k)) c.config.ensures.config c.in-Ok-new.ensures.ok)
+    (subst (λ k. Stands c.in-Ok-new.session k (empty_store k)) c.config.ensures c.in-Ok-new.ensures.ok)
     (g.S.Source.remaining c.args.reader.now) c.as_slice.result.now
     (subst (λ xs. IfSome (g.S.Source.remaining c.args.reader.now) (λ input. xs ≡ input)) (sym c.as_slice.ensures.value) c.in-Ok-read_all.ensures.whole)
     _ _ _ _ _ _ c.carry_out_text.result c.carry_out_text.ensures.err

@@ -1,0 +1,2 @@
+-- How a replay ends.
+pub mod Endings

@@ -1,0 +1,217 @@
+-- A replay goes on by one line, and stops at one.
+use Rattle.std.proofs.Common.{◌≡◌, ℕ, ◌+◌, ◌<◌, ◌≤◌, true, false, List, [], ◌∷◌, ◌++◌, length, length-append, map, Option, Some, None, Result, Ok, Err, refl, sym, ap, subst, ◌∙◌, append_assoc, append-nil, arith, rules}
+use Rattle.std.specs.Prelude.{nat_lt, MatchOption, IfOk, IfErr}
+use Rattle.std.proofs.KnownBytes.{Appends-nil, Appends-trans}
+use Rattle.std.proofs.lemmas.List.{length-map}
+use Rattle.model.specs.declared.kind.Kind.TheVariants.{LineTooLong, UnfinishedLine}
+use Rattle.model.specs.Config.{Config}
+use Rattle.model.specs.Store.{Store}
+use Rattle.model.specs.Commands.{Collect}
+use Rattle.trace_text.specs.Grammar.{entry_of}
+use Rattle.trace_lines.specs.declared.fault.Fault.{Fault}
+use Rattle.trace_lines.specs.declared.fault.Fault.TheVariants.{BadTrace, BadSchedule, HeapFull, NoMemory, ReadFailed, WriteFailed}
+use Rattle.trace_lines.specs.Faults.{MatchFault, MatchEachFault}
+use Rattle.trace_lines.specs.Pieces.{HasNoFeed, Piece, finished, unfinished, pieces}
+use Rattle.trace_lines.specs.Outcome.{line_step}
+use Rattle.trace_lines.specs.Sound.{IsSound}
+use Rattle.trace_lines.specs.Stepped.{AtEach, StepsTo}
+use Rattle.trace_lines.proofs.PieceLemmas.{pieces_line, pieces_last}
+use Rattle.trace_step.specs.SessionType.{Session}
+use Rattle.trace_step.specs.Refusals.{MayBeFull}
+use Rattle.trace_step.specs.Session.{Stands}
+use Rattle.trace_replay.specs.Replays.{State, state_of, IsNoCollection, Replays, stay, step, collection, CollectsTo, ReplaysTo, ReplaysAll}
+use Rattle.trace_replay.specs.ReplayStops.{AfterCollect, HasTraceFault, HasScheduleFault, WantsBlocks, IsSoundAt, StopsIn, outside}
+use Rattle.trace_replay.specs.ReplayStops as stops
+
+-- what follows for each answer
+pub if_ok : {T E : Type 0} {P Q : T → Type 0} → ((x : T) → P x → Q x) → (r : Result T E) → IfOk r P → IfOk r Q
+if_ok f (Ok x) p = f x p
+if_ok f (Err e) p = tt
+
+pub if_err : {T E : Type 0} {P Q : E → Type 0} → ((e : E) → P e → Q e) → (r : Result T E) → IfErr r P → IfErr r Q
+if_err f (Ok x) p = tt
+if_err f (Err e) p = f e p
+
+module _ (config : Config) (n : ℕ) where
+  pub replays_append : {s mid last : State} {a b : List Piece} {out more : List ℕ} → Replays config n s a out mid → Replays config n mid b more last → Replays config n s (a ++ b) (out ++ more) last
+  replays_append stay then = then
+  replays_append {s} {last = last} {b = b} {more = more} (step {line = line} {out = out} {more = rest_out} {rest = rest} steps rest_is) then =
+      subst (λ o. Replays config n s (finished line ∷ (rest ++ b)) o last) (sym (append_assoc out rest_out more)) (step steps (replays_append rest_is then))
+  replays_append {s} {last = last} {b = b} {more = more} (collection {line = line} {out = out} {more = rest_out} {lines = lines} {rest = rest} ends asks collects commits rest_is) then =
+      subst (λ ps. Replays config n s (finished line ∷ ps) ((out ++ rest_out) ++ more) last) (sym (append_assoc (map finished lines) (finished ends ∷ rest) b))
+      (subst (λ o. Replays config n s (finished line ∷ (map finished lines ++ finished ends ∷ (rest ++ b))) o last) (sym (append_assoc out rest_out more)) (collection ends asks collects commits (replays_append rest_is then)))
+
+  module _ {A : Type 0} (session : Session A) (old : State) (number : ℕ) where
+    pub goes_by_line : (line after : List ℕ) (printed printed' : Option (List ℕ)) → IsNoCollection (entry_of line) → StepsTo (Stands session) config (line_step config old.store line) printed printed'
+        → ReplaysTo session config n old number (finished line ∷ pieces after) (number + 1) after printed printed'
+    goes_by_line line after printed printed' plain steps = record {
+      store' = steps.next;
+      stands' = steps.stands';
+      lines = finished line ∷ [];
+      out = steps.out ++ [];
+      replays = step (record { plain = plain; steps = steps.steps; holds = steps.stands' }) stay;
+      left_is = refl;
+      number_is = refl;
+      held = rw (append-nil steps.out) steps.held;
+    }
+
+    pub goes_by_schedule : (g : ℕ) (line text : List ℕ) (number' : ℕ) (rest : List ℕ) (printed printed' : Option (List ℕ)) → entry_of line ≡ Ok (Some (Collect g)) → CollectsTo session config n g old number text number' rest printed printed'
+        → ReplaysTo session config n old number (finished line ∷ pieces text) number' rest printed printed'
+    goes_by_schedule g line text number' rest printed printed' asks to =
+        let c = to.collected in
+        record {
+          store' = to.store';
+          stands' = c.collection.holds;
+          lines = finished line ∷ (map finished c.lines ++ finished c.ends ∷ []);
+          out = c.out ++ [];
+          replays = collection c.ends asks c.collection c.commits stay;
+          left_is = ap (λ ps. finished line ∷ ps) (c.pieces_are ∙ sym (append_assoc (map finished c.lines) (finished c.ends ∷ []) (pieces rest)));
+          number_is = omega (arith, c.number_is, length-append (map finished c.lines), length-map c.lines finished);
+          held = rw (append-nil c.out) c.held;
+        }
+
+  module _ {A : Type 0} (mid : Session A) (old : State) (number : ℕ) (left : List Piece) (number' : ℕ) (rest : List ℕ) (printed printed' : Option (List ℕ)) (so_far : ReplaysTo mid config n old number left number' rest printed printed') where
+    pub joins : (new : Session A) (left' : List Piece) (number'' : ℕ) (rest' : List ℕ) (printed'' : Option (List ℕ)) → pieces rest ≡ left' → ReplaysTo new config n (state_of mid so_far.store') number' left' number'' rest' printed' printed''
+        → ReplaysTo new config n old number left number'' rest' printed printed''
+    joins new left' number'' rest' printed'' is next = record {
+      store' = next.store';
+      stands' = next.stands';
+      lines = so_far.lines ++ next.lines;
+      out = so_far.out ++ next.out;
+      replays = replays_append so_far.replays next.replays;
+      left_is = so_far.left_is ∙ ap (λ ps. so_far.lines ++ ps) (is ∙ next.left_is) ∙ sym (append_assoc so_far.lines next.lines (pieces rest'));
+      number_is = omega (arith, so_far.number_is, next.number_is, length-append so_far.lines);
+      held = Appends-trans printed printed' printed'' so_far.out next.out so_far.held next.held;
+    }
+
+    pub stops_here : (P : State → ℕ → List Piece → ℕ → Type 0) (left' : List Piece) (at : ℕ) → pieces rest ≡ left' → P (state_of mid so_far.store') number' left' at → StopsIn P config n old number left at printed printed'
+    stops_here P left' at is holds = record {
+      lines = so_far.lines;
+      out = so_far.out;
+      mid = state_of mid so_far.store';
+      replays = so_far.replays;
+      left = left';
+      all_are = so_far.left_is ∙ ap (λ ps. so_far.lines ++ ps) is;
+      held = so_far.held;
+      holds = subst (λ k. P (state_of mid so_far.store') k left' at) so_far.number_is holds;
+    }
+
+    no_pieces : (text : List ℕ) → length text ≡ 0 → pieces text ≡ []
+    unfolding pieces
+    no_pieces [] none = refl
+    no_pieces (b ∷ bs) none = absurd (omega (arith, none))
+
+    one_piece : (text : List ℕ) → HasNoFeed text → 0 < length text → pieces text ≡ unfinished text ∷ []
+    one_piece [] free some = elim some [ ]
+    one_piece (b ∷ bs) free some = pieces_last (b ∷ bs) free
+
+    pub ends_whole : length rest ≡ 0 → ReplaysAll config n old left printed printed'
+    ends_whole none = record {
+      last = state_of mid so_far.store';
+      out = so_far.out;
+      replays = subst (λ ps. Replays config n old ps so_far.out (state_of mid so_far.store')) (sym (so_far.left_is ∙ ap (λ ps. so_far.lines ++ ps) (no_pieces rest none) ∙ append-nil so_far.lines)) so_far.replays;
+      held = so_far.held;
+    }
+
+    pub ends_long : HasNoFeed rest → 4096 < length rest → StopsIn (HasTraceFault config n LineTooLong) config n old number left number' printed printed'
+    ends_long free long =
+        let too_long : nat_lt 4096 (length rest) ≡ true = search rules in
+        stops_here (HasTraceFault config n LineTooLong) _ number' (one_piece rest free (omega (arith, long))) (outside {p = unfinished rest} refl refl (rw too_long refl))
+
+    pub ends_unfinished : HasNoFeed rest → 0 < length rest → length rest ≤ 4096 → StopsIn (HasTraceFault config n UnfinishedLine) config n old number left number' printed printed'
+    ends_unfinished free some short =
+        let fits : nat_lt 4096 (length rest) ≡ false = search rules in
+        stops_here (HasTraceFault config n UnfinishedLine) _ number' (one_piece rest free some) (outside {p = unfinished rest} refl refl (rw fits refl))
+
+-- the fault of a line outside schedules
+module _ {A : Type 0} (session : Session A) (n number : ℕ) (line after : List ℕ) (plain : IsNoCollection (entry_of line)) {W : Type 0} (old new : W) (written : Type 0) where
+  pub fault_of_line : (e : Fault)
+      → MatchFault e
+      (λ at kind. (at ≡ number) × AtEach (Stands session) (λ config store. line_step config store line ≡ Err kind) × (new ≡ old))
+      (λ at. (at ≡ Some number) × AtEach (Stands session) (λ config store. MayBeFull config store line) × (new ≡ old))
+      (λ at. (at ≡ Some number) × AtEach (Stands session) (λ config store. IsSound config store line) × (new ≡ old))
+      ⊥ written
+      → MatchEachFault e
+      (λ at kind. AtEach (Stands session) (λ config store. HasTraceFault config n kind (state_of session store) number (finished line ∷ pieces after) at) × (new ≡ old))
+      (λ at kind. AtEach (Stands session) (λ config store. HasScheduleFault config n kind (state_of session store) number (finished line ∷ pieces after) at) × (new ≡ old))
+      (λ at. MatchOption at ⊥ (λ k. AtEach (Stands session) (λ config store. WantsBlocks config n (state_of session store) number (finished line ∷ pieces after) k)) × (new ≡ old))
+      (λ at. MatchOption at ⊥ (λ k. AtEach (Stands session) (λ config store. IsSoundAt config n (state_of session store) number (finished line ∷ pieces after) k)) × (new ≡ old))
+      ⊥ written
+  fault_of_line (BadTrace at kind) f = (λ config store stands. outside {p = finished line} refl f.0 (f.1 config store stands), f.2)
+  fault_of_line (BadSchedule at kind) f = absurd f
+  fault_of_line (HeapFull None) f = absurd (let is = f.0 in cc)
+  fault_of_line (HeapFull (Some at)) f = (λ config store stands. stops.outside {line = line} refl (let is = f.0 in cc) plain (f.1 config store stands), f.2)
+  fault_of_line (NoMemory None) f = absurd (let is = f.0 in cc)
+  fault_of_line (NoMemory (Some at)) f = (λ config store stands. stops.outside {line = line} refl (let is = f.0 in cc) (f.1 config store stands), f.2)
+  fault_of_line ReadFailed f = f
+  fault_of_line WriteFailed f = f
+
+-- that of a line with its schedule
+module _ {A : Type 0} (session : Session A) (n g number : ℕ) (line after : List ℕ) (asks : entry_of line ≡ Ok (Some (Collect g))) {W : Type 0} (old new : W) (written : Type 0) where
+  pub fault_of_schedule : (e : Fault)
+      → MatchEachFault e
+      (λ at kind. AtEach (Stands session) (λ config store. AfterCollect g after (λ left. HasTraceFault config n kind (state_of session store) number left at)) × (new ≡ old))
+      (λ at kind. AtEach (Stands session) (λ config store. AfterCollect g after (λ left. HasScheduleFault config n kind (state_of session store) number left at)) × (new ≡ old))
+      (λ at. MatchOption at ⊥ (λ k. AtEach (Stands session) (λ config store. AfterCollect g after (λ left. WantsBlocks config n (state_of session store) number left k))) × (new ≡ old))
+      (λ at. MatchOption at ⊥ (λ k. AtEach (Stands session) (λ config store. AfterCollect g after (λ left. IsSoundAt config n (state_of session store) number left k))) × (new ≡ old))
+      ⊥ written
+      → MatchEachFault e
+      (λ at kind. AtEach (Stands session) (λ config store. HasTraceFault config n kind (state_of session store) number (finished line ∷ pieces after) at) × (new ≡ old))
+      (λ at kind. AtEach (Stands session) (λ config store. HasScheduleFault config n kind (state_of session store) number (finished line ∷ pieces after) at) × (new ≡ old))
+      (λ at. MatchOption at ⊥ (λ k. AtEach (Stands session) (λ config store. WantsBlocks config n (state_of session store) number (finished line ∷ pieces after) k)) × (new ≡ old))
+      (λ at. MatchOption at ⊥ (λ k. AtEach (Stands session) (λ config store. IsSoundAt config n (state_of session store) number (finished line ∷ pieces after) k)) × (new ≡ old))
+      ⊥ written
+  fault_of_schedule (BadTrace at kind) f = (λ config store stands. f.0 config store stands line asks, f.1)
+  fault_of_schedule (BadSchedule at kind) f = (λ config store stands. f.0 config store stands line asks, f.1)
+  fault_of_schedule (HeapFull None) f = absurd f.0
+  fault_of_schedule (HeapFull (Some at)) f = (λ config store stands. f.0 config store stands line asks, f.1)
+  fault_of_schedule (NoMemory None) f = absurd f.0
+  fault_of_schedule (NoMemory (Some at)) f = (λ config store stands. f.0 config store stands line asks, f.1)
+  fault_of_schedule ReadFailed f = f
+  fault_of_schedule WriteFailed f = f
+
+-- before any line
+pub starts : (config : Config) (n : ℕ) {A : Type 0} (session : Session A) (store : Store) (number : ℕ) (text : List ℕ) (printed : Option (List ℕ)) → Stands session config store → ReplaysTo session config n (state_of session store) number (pieces text) number text printed printed
+starts config n session store number text printed stands = record { store' = store; stands' = stands; lines = []; out = []; replays = stay; left_is = refl; number_is = omega arith; held = Appends-nil printed }
+
+-- at each store for which a session stands
+module _ {A : Type 0} (old mid : Session A) (n number : ℕ) (text : List ℕ) (number' : ℕ) (rest : List ℕ) {W : Type 0} (contents : W → Option (List ℕ)) (printed : Option (List ℕ)) (before : W) (so_far : AtEach (Stands old) (λ config store. ReplaysTo mid config n (state_of old store) number (pieces text) number' rest printed (contents before)))
+    (line after : List ℕ) (is : rest ≡ line ++ 10 ∷ after) (free : HasNoFeed line) where
+  pieces_is : pieces rest ≡ finished line ∷ pieces after
+  pieces_is = ap pieces is ∙ pieces_line line after free
+
+  pub goes_on : (new : Session A) (number'' : ℕ) (rest' : List ℕ) (printed'' : Option (List ℕ))
+      → AtEach (Stands mid) (λ config store. ReplaysTo new config n (state_of mid store) number' (finished line ∷ pieces after) number'' rest' (contents before) printed'')
+      → AtEach (Stands old) (λ config store. ReplaysTo new config n (state_of old store) number (pieces text) number'' rest' printed printed'')
+  goes_on new number'' rest' printed'' next = λ config store stands.
+      let here = so_far config store stands in
+      joins config n mid (state_of old store) number (pieces text) number' rest printed (contents before) here new _ number'' rest' printed'' pieces_is (next config here.store' here.stands')
+
+  stops_somewhere : (P : Config → State → ℕ → List Piece → ℕ → Type 0) (at : ℕ) (after_it : W) → after_it ≡ before → AtEach (Stands mid) (λ config store. P config (state_of mid store) number' (finished line ∷ pieces after) at)
+      → AtEach (Stands old) (λ config store. StopsIn (P config) config n (state_of old store) number (pieces text) at printed (contents after_it))
+  stops_somewhere P at after_it same holds = λ config store stands.
+      let here = so_far config store stands in
+      subst (λ w. StopsIn (P config) config n (state_of old store) number (pieces text) at printed (contents w)) (sym same)
+      (stops_here config n mid (state_of old store) number (pieces text) number' rest printed (contents before) here (P config) _ at pieces_is (holds config here.store' here.stands'))
+
+  pub fault_of_next : (new : W) (written written' : Type 0) → (written → written') → (e : Fault)
+      → MatchEachFault e
+      (λ at kind. AtEach (Stands mid) (λ config store. HasTraceFault config n kind (state_of mid store) number' (finished line ∷ pieces after) at) × (new ≡ before))
+      (λ at kind. AtEach (Stands mid) (λ config store. HasScheduleFault config n kind (state_of mid store) number' (finished line ∷ pieces after) at) × (new ≡ before))
+      (λ at. MatchOption at ⊥ (λ k. AtEach (Stands mid) (λ config store. WantsBlocks config n (state_of mid store) number' (finished line ∷ pieces after) k)) × (new ≡ before))
+      (λ at. MatchOption at ⊥ (λ k. AtEach (Stands mid) (λ config store. IsSoundAt config n (state_of mid store) number' (finished line ∷ pieces after) k)) × (new ≡ before))
+      ⊥ written
+      → MatchEachFault e
+      (λ at kind. AtEach (Stands old) (λ config store. StopsIn (HasTraceFault config n kind) config n (state_of old store) number (pieces text) at printed (contents new)))
+      (λ at kind. AtEach (Stands old) (λ config store. StopsIn (HasScheduleFault config n kind) config n (state_of old store) number (pieces text) at printed (contents new)))
+      (λ at. MatchOption at ⊥ (λ k. AtEach (Stands old) (λ config store. StopsIn (WantsBlocks config n) config n (state_of old store) number (pieces text) k printed (contents new))))
+      (λ at. MatchOption at ⊥ (λ k. AtEach (Stands old) (λ config store. StopsIn (IsSoundAt config n) config n (state_of old store) number (pieces text) k printed (contents new))))
+      ⊥ written'
+  fault_of_next new written written' told (BadTrace at kind) f = stops_somewhere (λ config. HasTraceFault config n kind) at new f.1 f.0
+  fault_of_next new written written' told (BadSchedule at kind) f = stops_somewhere (λ config. HasScheduleFault config n kind) at new f.1 f.0
+  fault_of_next new written written' told (HeapFull None) f = f.0
+  fault_of_next new written written' told (HeapFull (Some at)) f = stops_somewhere (λ config. WantsBlocks config n) at new f.1 f.0
+  fault_of_next new written written' told (NoMemory None) f = f.0
+  fault_of_next new written written' told (NoMemory (Some at)) f = stops_somewhere (λ config. IsSoundAt config n) at new f.1 f.0
+  fault_of_next new written written' told ReadFailed f = f
+  fault_of_next new written written' told WriteFailed f = told f

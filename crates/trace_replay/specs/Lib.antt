@@ -1,0 +1,3 @@
+-- What the replay of a trace prints, and where it stops.
+pub mod Replays
+pub mod ReplayStops

@@ -1,0 +1,68 @@
+-- Where the replay of a trace stops.
+use Rattle.std.specs.Prelude.{◌≡◌, ℕ, ◌+◌, List, ◌∷◌, ◌++◌, length, Option, Some, Ok, Err}
+use Rattle.std.specs.Io.KnownBytes.{Appends}
+use Rattle.model.specs.Config.{Config}
+use Rattle.model.specs.Store.{empty_store}
+use Rattle.model.specs.Commands.{Collect}
+use Rattle.model.specs.declared.kind.Kind.{Kind}
+use Rattle.schedules.specs.Collects.{setting_at, opening_at}
+use Rattle.schedules.specs.Events.{IsShortOfBlocks}
+use Rattle.trace_text.specs.Grammar.{entry_of}
+use Rattle.trace_text.specs.declared.schedule.ScheduleKind.{ScheduleKind}
+use Rattle.trace_lines.specs.Pieces.{Piece, finished, pieces}
+use Rattle.trace_lines.specs.Outcome.{piece_step}
+use Rattle.trace_lines.specs.Sound.{IsSound, IsSoundCommand}
+use Rattle.trace_step.specs.Refusals.{MayBeFull}
+use Rattle.schedules.specs.Stops.{IsUnreadable, IsRefusedBlocks, IsSoundLine, OfLine, StopsAt, StopsWith}
+use Rattle.trace_replay.specs.Replays.{State, Holds, IsNoCollection, Replays}
+
+-- a `collect` line without a fault, and the text after it
+pub record OpensSchedule (config : Config) (s : State) (left : List Piece) : Type 0 where
+  pub line : List ℕ
+  pub g : ℕ
+  pub asks : entry_of line ≡ Ok (Some (Collect g))
+  pub sound : IsSoundCommand config s.store (Collect g)
+  pub text : List ℕ
+  pub left_is : left ≡ finished line ∷ pieces text
+
+-- P of what is left at a `collect` line, however it is written, with this text after it
+abbrev pub AfterCollect : ℕ → List ℕ → (List Piece → Type 0) → Type 0
+AfterCollect g text P = (line : List ℕ) → entry_of line ≡ Ok (Some (Collect g)) → P (finished line ∷ pieces text)
+
+-- the piece with number `at` is a faulty line of the trace: the first of those that are left, or one of the schedule that it opens
+pub data HasTraceFault (config : Config) (n : ℕ) (kind : Kind) (s : State) (number : ℕ) (left : List Piece) (at : ℕ) : Type 0 where
+  outside : {p : Piece} {rest : List Piece} → left ≡ p ∷ rest → at ≡ number → piece_step config s.store p ≡ Err kind → HasTraceFault config n kind s number left at
+  inside : (opens : OpensSchedule config s left) → StopsAt (IsUnreadable kind) (setting_at s.heap opens.g n) (opening_at s.heap opens.g n) (number + 1) opens.text at → HasTraceFault config n kind s number left at
+
+-- it is a faulty line of the schedule
+pub record HasScheduleFault (config : Config) (n : ℕ) (kind : ScheduleKind) (s : State) (number : ℕ) (left : List Piece) (at : ℕ) : Type 0 where
+  pub opens : OpensSchedule config s left
+  pub stops : StopsWith (setting_at s.heap opens.g n) (opening_at s.heap opens.g n) number opens.text at kind
+
+-- it has no fault, and blocks are wanting in it
+pub data WantsBlocks (config : Config) (n : ℕ) (s : State) (number : ℕ) (left : List Piece) (at : ℕ) : Type 0 where
+  outside : {line : List ℕ} {rest : List Piece} → left ≡ finished line ∷ rest → at ≡ number → IsNoCollection (entry_of line) → MayBeFull config s.store line → WantsBlocks config n s number left at
+  inside : (opens : OpensSchedule config s left) → StopsAt (OfLine (IsRefusedBlocks (setting_at s.heap opens.g n))) (setting_at s.heap opens.g n) (opening_at s.heap opens.g n) (number + 1) opens.text at → IsShortOfBlocks s.heap opens.g n → WantsBlocks config n s number left at
+
+-- it has no fault
+pub data IsSoundAt (config : Config) (n : ℕ) (s : State) (number : ℕ) (left : List Piece) (at : ℕ) : Type 0 where
+  outside : {line : List ℕ} {rest : List Piece} → left ≡ finished line ∷ rest → at ≡ number → IsSound config s.store line → IsSoundAt config n s number left at
+  inside : (opens : OpensSchedule config s left) → StopsAt (OfLine (IsSoundLine (setting_at s.heap opens.g n))) (setting_at s.heap opens.g n) (opening_at s.heap opens.g n) (number + 1) opens.text at → IsSoundAt config n s number left at
+
+-- from line `number` on lines were carried out and printed, and P holds of where they lead, of the number of the next line, of all pieces that are left, and of line `at`
+pub record StopsIn (P : State → ℕ → List Piece → ℕ → Type 0) (config : Config) (n : ℕ) (old : State) (number : ℕ) (all : List Piece) (at : ℕ) (printed printed' : Option (List ℕ)) : Type 0 where
+  pub lines : List Piece
+  pub out : List ℕ
+  pub mid : State
+  pub replays : Replays config n old lines out mid
+  pub left : List Piece
+  pub all_are : all ≡ lines ++ left
+  pub held : Appends printed printed' out
+  pub holds : P mid (number + length lines) left at
+
+-- the same of a whole text, from a heap without objects on
+pub record Stops (P : State → ℕ → List Piece → ℕ → Type 0) (config : Config) (n : ℕ) (at : ℕ) (printed printed' : Option (List ℕ)) (text : List ℕ) : Type 0 where
+  pub first : State
+  pub begins : first.store ≡ empty_store config
+  pub holds : Holds config first
+  pub stops : StopsIn P config n first 1 (pieces text) at printed printed'

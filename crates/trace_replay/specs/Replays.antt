@@ -1,0 +1,108 @@
+-- What the lines of a trace print where each collection has a schedule.
+use Rattle.std.specs.Prelude.{◌≡◌, ℕ, ◌+◌, List, [], ◌∷◌, ◌++◌, length, map, Option, Some, Result, Ok}
+use Rattle.std.specs.Io.KnownBytes.{Appends}
+use Rattle.model.specs.Config.{Config}
+use Rattle.model.specs.Store.{Store, empty_store}
+use Rattle.model.specs.Commands.{Command, Collect}
+use Rattle.model.specs.declared.kind.Kind.{Kind}
+use Rattle.heap_data.specs.HeapValue.{HeapValue}
+use Rattle.heap_data.specs.ReportValue.{WorkerLists}
+use Rattle.heap_data.specs.declared.report.Delivery.{Delivery}
+use Rattle.workers.specs.System.{System}
+use Rattle.schedules.specs.Collects.{Collects, setting_at, opening_at}
+use Rattle.schedules.specs.Together.{Reports}
+use Rattle.report_lines.specs.ReportText.{workers_text}
+use Rattle.trace_text.specs.Grammar.{entry_of}
+use Rattle.trace_text.specs.ScheduleGrammar.{schedule_line_of}
+use Rattle.trace_text.specs.declared.schedule.ScheduleLine.TheVariants.{Commit}
+use Rattle.trace_lines.specs.Pieces.{Piece, finished, pieces}
+use Rattle.trace_lines.specs.Outcome.{line_step, command_step}
+use Rattle.trace_step.specs.Stands.{StandsFor}
+use Rattle.trace_step.specs.SessionType.{Session}
+use Rattle.schedules.specs.Runs.{LinesRun}
+
+-- a heap with its named roots, and the store that they stand for
+pub record State : Type 0 where
+  pub heap : HeapValue
+  pub names : List (List ℕ × ℕ)
+  pub store : Store
+
+abbrev pub state_of : {A : Type 0} → Session A → Store → State
+state_of session store = record { heap = session.heap; names = session.names; store = store }
+
+abbrev pub Holds : Config → State → Type 0
+Holds config s = StandsFor s.heap s.names config s.store
+
+-- what was read is no command to collect
+abbrev pub IsNoCollection : Result (Option Command) Kind → Type 0
+IsNoCollection (Ok (Some (Collect g))) = ⊥
+IsNoCollection _ = Unit {0}
+
+-- a line outside schedules does what it does in any run
+pub record Steps (config : Config) (old : State) (line out : List ℕ) (new : State) : Type 0 where
+  pub plain : IsNoCollection (entry_of line)
+  pub steps : line_step config old.store line ≡ Ok (new.store, out)
+  pub holds : Holds config new
+
+-- a collection of the generations 0 to g by n workers, and the lines of its schedule: the store and the collection's line are those of any run, and the lines after that one tell of what the schedule's events brought the workers to, in the heap as it then was
+pub record Collection (config : Config) (n g : ℕ) (old : State) (lines : List (List ℕ)) (out : List ℕ) (new : State) : Type 0 where
+  pub front : List ℕ
+  pub steps : command_step config old.store (Collect g) ≡ Ok (new.store, front)
+  pub kept : ℕ
+  pub freed : ℕ
+  pub workers : List WorkerLists
+  pub deliveries : List Delivery
+  pub collects : Collects old.heap g kept freed workers new.heap
+  pub last : System
+  pub run : LinesRun (setting_at old.heap g n) (opening_at old.heap g n) lines last
+  pub reports_are : Reports old.heap g last workers deliveries
+  pub out_is : out ≡ front ++ workers_text workers deliveries
+  pub names_are : new.names ≡ old.names
+  pub holds : Holds config new
+
+-- lines one after another, and what they print
+pub data Replays (config : Config) (n : ℕ) : State → List Piece → List ℕ → State → Type 0 where
+  stay : {s : State} → Replays config n s [] [] s
+  step : {s mid last : State} {line out more : List ℕ} {rest : List Piece} → Steps config s line out mid → Replays config n mid rest more last → Replays config n s (finished line ∷ rest) (out ++ more) last
+  collection : {g : ℕ} {s mid last : State} {line out more : List ℕ} {lines : List (List ℕ)} {rest : List Piece} (ends : List ℕ) → entry_of line ≡ Ok (Some (Collect g)) → Collection config n g s lines out mid → schedule_line_of ends ≡ Ok Commit → Replays config n mid rest more last → Replays config n s (finished line ∷ (map finished lines ++ finished ends ∷ rest)) (out ++ more) last
+
+-- after a `collect` line with this number its schedule was carried out and printed, and leaves the rest of the text, from line number' on
+pub record HasCollected (config : Config) (n g : ℕ) (old : State) (number : ℕ) (text : List ℕ) (number' : ℕ) (rest : List ℕ) (printed printed' : Option (List ℕ)) (new : State) : Type 0 where
+  pub lines : List (List ℕ)
+  pub out : List ℕ
+  pub collection : Collection config n g old lines out new
+  pub ends : List ℕ
+  pub commits : schedule_line_of ends ≡ Ok Commit
+  pub pieces_are : pieces text ≡ map finished lines ++ finished ends ∷ pieces rest
+  pub number_is : number' ≡ number + length lines + 2
+  pub held : Appends printed printed' out
+
+-- the same, where it leads to a store for which the session stands
+pub record CollectsTo {A : Type 0} (session : Session A) (config : Config) (n g : ℕ) (old : State) (number : ℕ) (text : List ℕ) (number' : ℕ) (rest : List ℕ) (printed printed' : Option (List ℕ)) : Type 0 where
+  pub store' : Store
+  pub collected : HasCollected config n g old number text number' rest printed printed' (state_of session store')
+
+-- of the pieces that are left from line `number` on some were carried out and printed, and leave this text, from line number' on, and a store for which the session stands
+pub record ReplaysTo {A : Type 0} (session : Session A) (config : Config) (n : ℕ) (old : State) (number : ℕ) (left : List Piece) (number' : ℕ) (rest : List ℕ) (printed printed' : Option (List ℕ)) : Type 0 where
+  pub store' : Store
+  pub stands' : Holds config (state_of session store')
+  pub lines : List Piece
+  pub out : List ℕ
+  pub replays : Replays config n old lines out (state_of session store')
+  pub left_is : left ≡ lines ++ pieces rest
+  pub number_is : number' ≡ number + length lines
+  pub held : Appends printed printed' out
+
+-- all pieces
+pub record ReplaysAll (config : Config) (n : ℕ) (old : State) (all : List Piece) (printed printed' : Option (List ℕ)) : Type 0 where
+  pub last : State
+  pub out : List ℕ
+  pub replays : Replays config n old all out last
+  pub held : Appends printed printed' out
+
+-- a whole text, from a heap without objects on
+pub record IsReplayed (config : Config) (n : ℕ) (printed printed' : Option (List ℕ)) (text : List ℕ) : Type 0 where
+  pub first : State
+  pub begins : first.store ≡ empty_store config
+  pub holds : Holds config first
+  pub replays : ReplaysAll config n first (pieces text) printed printed'

@@ -1,0 +1,7 @@
+//! Carries out a trace whose collections have schedules.
+#![tactic(auto)]
+
+mod collecting;
+mod replaying;
+
+pub use replaying::replay;

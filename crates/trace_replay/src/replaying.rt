@@ -1,0 +1,183 @@
+//! A whole trace.
+ghost use Rattle.std.specs.Prelude.{◌≡◌, ◌+◌, ◌-◌, ◌^◌, ◌*◌, ◌<◌, ◌≤◌, ◌⊎◌, ◌∷◌, Some, Ok, length, MatchOption, IfSome, IfNone, IfOk, OnOk, IfErr};
+ghost use Rattle.model.specs.Commands.{Collect};
+ghost use Rattle.trace_text.specs.Grammar.{entry_of};
+ghost use Rattle.trace_lines.specs.Faults.{MatchEachFault};
+ghost use Rattle.trace_lines.specs.Pieces.{HasNoFeed, finished, pieces};
+ghost use Rattle.trace_lines.specs.Stepped.{AtEach};
+ghost use Rattle.trace_step.specs.Session.{Stands};
+ghost use Rattle.trace_replay.specs.Replays.{IsNoCollection, IsReplayed, ReplaysAll, ReplaysTo, state_of};
+ghost use Rattle.trace_replay.specs.ReplayStops.{HasTraceFault, HasScheduleFault, WantsBlocks, IsSoundAt, StopsIn, Stops};
+
+use crate::collecting::collect;
+use byte_streams::{Sink, Source};
+use heap::Config;
+use model::Kind;
+use std::alloc::Allocator;
+use trace_lines::{Fault, read_all, split_line};
+use trace_step::{Session, carry_out};
+use trace_text::{Command, Line, parse};
+
+/// The most bytes that a line has before its line feed.
+const MAX_LINE_LEN: usize = 4096;
+
+/// The oldest generation that a line asks to collect.
+fn collected(line: &[u8]) -> Option<u64>
+    ensures some { IfSome result (λ g. entry_of line.now ≡ Ok (Some (Collect g))) }
+    ensures none { IfNone result (IsNoCollection (entry_of line.now)) }
+{
+    match parse(line) {
+        Ok(Line::Command(Command::Collect { generation })) => Some(generation),
+        _ => None,
+    }
+}
+
+/// Carries out line `number`, with its schedule where it is one, and gives the number of the next line and what is left of
+/// the text.
+fn carry_out_first<'t, A: Allocator + Clone, W: Sink>(
+    session: &mut Session<A>,
+    workers: u32,
+    number: u128,
+    line: &[u8],
+    after: &'t [u8],
+    writer: &mut W,
+) -> Result<(u128, &'t [u8]), Fault>
+    requires some { 0 < workers }
+    requires most { workers ≤ 16 }
+    requires room { number + 1 + length after.now < 2 ^ 127 }
+    requires countable { W.failed_writes writer.old < 2 ^ 64 - 1 }
+    ensures ok { IfOk result (λ found. AtEach (Stands session.old) (λ config store.
+        ReplaysTo session.new config workers (state_of session.old store) number (finished line.now ∷ pieces after.now) found.0 found.1.now (W.contents writer.old) (W.contents writer.new))) }
+    ensures left { IfOk result (λ found. found.0 + length found.1.now ≤ number + 1 + length after.now) }
+    ensures later { IfOk result (λ found. number < found.0) }
+    ensures counts { OnOk result (W.failed_writes writer.new ≡ W.failed_writes writer.old) }
+    ensures rises { W.failed_writes writer.new ≤ W.failed_writes writer.old + 1 }
+    ensures err { IfErr result (λ e. MatchEachFault e
+        (λ at kind. AtEach (Stands session.old) (λ config store. HasTraceFault config workers kind (state_of session.old store) number (finished line.now ∷ pieces after.now) at) × (writer.new ≡ writer.old))
+        (λ at kind. AtEach (Stands session.old) (λ config store. HasScheduleFault config workers kind (state_of session.old store) number (finished line.now ∷ pieces after.now) at) × (writer.new ≡ writer.old))
+        (λ at. MatchOption at ⊥ (λ k. AtEach (Stands session.old) (λ config store. WantsBlocks config workers (state_of session.old store) number (finished line.now ∷ pieces after.now) k)) × (writer.new ≡ writer.old))
+        (λ at. MatchOption at ⊥ (λ k. AtEach (Stands session.old) (λ config store. IsSoundAt config workers (state_of session.old store) number (finished line.now ∷ pieces after.now) k)) × (writer.new ≡ writer.old))
+        ⊥
+        (W.failed_writes writer.new ≡ W.failed_writes writer.old + 1)) }
+{
+    if let Some(generation) = collected(line) {
+        return collect(session, workers, number, generation, after, writer);
+    }
+    match carry_out(session, number, line, writer) {
+        Ok(()) => Ok((number + 1, after)),
+        Err(fault) => Err(fault),
+    }
+}
+
+/// Carries out the finished lines of a text, and gives the number of the next line and what comes after them.
+fn carry_out_lines<'t, A: Allocator + Clone, W: Sink>(
+    session: &mut Session<A>,
+    workers: u32,
+    text: &'t [u8],
+    writer: &mut W,
+) -> Result<(u128, &'t [u8]), Fault>
+    requires some { 0 < workers }
+    requires most { workers ≤ 16 }
+    requires room { length text.now < 2 ^ 64 }
+    requires countable { W.failed_writes writer.old < 2 ^ 64 - 1 }
+    ensures ok { IfOk result (λ found. AtEach (Stands session.old) (λ config store.
+        ReplaysTo session.new config workers (state_of session.old store) 1 (pieces text.now) found.0 found.1.now (W.contents writer.old) (W.contents writer.new))) }
+    ensures feeds { IfOk result (λ found. HasNoFeed found.1.now) }
+    ensures counts { OnOk result (W.failed_writes writer.new ≡ W.failed_writes writer.old) }
+    ensures rises { W.failed_writes writer.new ≤ W.failed_writes writer.old + 1 }
+    ensures err { IfErr result (λ e. MatchEachFault e
+        (λ at kind. AtEach (Stands session.old) (λ config store. StopsIn (HasTraceFault config workers kind) config workers (state_of session.old store) 1 (pieces text.now) at (W.contents writer.old) (W.contents writer.new)))
+        (λ at kind. AtEach (Stands session.old) (λ config store. StopsIn (HasScheduleFault config workers kind) config workers (state_of session.old store) 1 (pieces text.now) at (W.contents writer.old) (W.contents writer.new)))
+        (λ at. MatchOption at ⊥ (λ line. AtEach (Stands session.old) (λ config store. StopsIn (WantsBlocks config workers) config workers (state_of session.old store) 1 (pieces text.now) line (W.contents writer.old) (W.contents writer.new))))
+        (λ at. MatchOption at ⊥ (λ line. AtEach (Stands session.old) (λ config store. StopsIn (IsSoundAt config workers) config workers (state_of session.old store) 1 (pieces text.now) line (W.contents writer.old) (W.contents writer.new))))
+        ⊥
+        (W.failed_writes writer.new ≡ W.failed_writes writer.old + 1)) }
+{
+    let mut next = 1;
+    let mut rest = text;
+    while let Some((line, after)) = split_line(rest) {
+        match carry_out_first(session, workers, next, line, after, writer) {
+            Ok(found) => (next, rest) = found,
+            Err(fault) => return Err(fault),
+        }
+    }
+    Ok((next, rest))
+}
+
+/// Carries out a whole trace.
+fn carry_out_text<A: Allocator + Clone, W: Sink>(
+    session: &mut Session<A>,
+    workers: u32,
+    text: &[u8],
+    writer: &mut W,
+) -> Result<(), Fault>
+    requires some { 0 < workers }
+    requires most { workers ≤ 16 }
+    requires room { length text.now < 2 ^ 64 }
+    requires countable { W.failed_writes writer.old < 2 ^ 64 - 1 }
+    ensures ok { OnOk result (AtEach (Stands session.old) (λ config store. ReplaysAll config workers (state_of session.old store) (pieces text.now) (W.contents writer.old) (W.contents writer.new))) }
+    ensures rises { W.failed_writes writer.new ≤ W.failed_writes writer.old + 1 }
+    ensures err { IfErr result (λ e. MatchEachFault e
+        (λ at kind. AtEach (Stands session.old) (λ config store. StopsIn (HasTraceFault config workers kind) config workers (state_of session.old store) 1 (pieces text.now) at (W.contents writer.old) (W.contents writer.new)))
+        (λ at kind. AtEach (Stands session.old) (λ config store. StopsIn (HasScheduleFault config workers kind) config workers (state_of session.old store) 1 (pieces text.now) at (W.contents writer.old) (W.contents writer.new)))
+        (λ at. MatchOption at ⊥ (λ line. AtEach (Stands session.old) (λ config store. StopsIn (WantsBlocks config workers) config workers (state_of session.old store) 1 (pieces text.now) line (W.contents writer.old) (W.contents writer.new))))
+        (λ at. MatchOption at ⊥ (λ line. AtEach (Stands session.old) (λ config store. StopsIn (IsSoundAt config workers) config workers (state_of session.old store) 1 (pieces text.now) line (W.contents writer.old) (W.contents writer.new))))
+        ⊥
+        (W.failed_writes writer.new ≡ W.failed_writes writer.old + 1)) }
+{
+    let (number, rest) = match carry_out_lines(session, workers, text, writer) {
+        Ok(done) => done,
+        Err(fault) => return Err(fault),
+    };
+    if rest.is_empty() {
+        Ok(())
+    } else if rest.len() > MAX_LINE_LEN {
+        Err(Fault::BadTrace(number, Kind::LineTooLong))
+    } else {
+        Err(Fault::BadTrace(number, Kind::UnfinishedLine))
+    }
+}
+
+/// Reads a whole trace whose collections have schedules, carries it out with so many workers, 1 to 16, on one thread, and
+/// writes what it prints. It makes the heap first.
+pub fn replay<A: Allocator + Clone, S: Source, W: Sink>(
+    alloc: A,
+    reader: &mut S,
+    writer: &mut W,
+    config: Config,
+    workers: u32,
+) -> Result<(), Fault>
+    requires some { 0 < workers }
+    requires most { workers ≤ 16 }
+    requires readable { S.failed_reads reader.old < 2 ^ 64 - 1 }
+    requires writable { W.failed_writes writer.old < 2 ^ 64 - 1 }
+    ensures ok { OnOk result (IfSome (S.remaining reader.old) (IsReplayed config workers (W.contents writer.old) (W.contents writer.new))) }
+    ensures err { IfErr result (λ e. MatchEachFault e
+        (λ at kind. IfSome (S.remaining reader.old) (Stops (HasTraceFault config workers kind) config workers at (W.contents writer.old) (W.contents writer.new)))
+        (λ at kind. IfSome (S.remaining reader.old) (Stops (HasScheduleFault config workers kind) config workers at (W.contents writer.old) (W.contents writer.new)))
+        (λ at. MatchOption at
+        ((config.blocks < config.mutators * config.nursery_blocks) × (writer.new ≡ writer.old) × (reader.new ≡ reader.old))
+        (λ line. IfSome (S.remaining reader.old) (Stops (WantsBlocks config workers) config workers line (W.contents writer.old) (W.contents writer.new))))
+        (λ at. MatchOption at
+        (writer.new ≡ writer.old)
+        (λ line. IfSome (S.remaining reader.old) (Stops (IsSoundAt config workers) config workers line (W.contents writer.old) (W.contents writer.new))))
+        ((writer.new ≡ writer.old)
+        × ((S.failed_reads reader.new ≡ S.failed_reads reader.old + 1)
+        ⊎ IfSome (S.remaining reader.old) (λ input. 2 ^ 64 - 1 ≤ length input)))
+        (W.failed_writes writer.new ≡ W.failed_writes writer.old + 1)) }
+    ensures reads { S.failed_reads reader.new ≤ S.failed_reads reader.old + 1 }
+    ensures writes { W.failed_writes writer.new ≤ W.failed_writes writer.old + 1 }
+{
+    let Ok(text_alloc) = alloc.clone() else {
+        return Err(Fault::NoMemory(None));
+    };
+    let mut session = match Session::new(alloc, config) {
+        Ok(session) => session,
+        Err(fault) => return Err(fault),
+    };
+    let text = match read_all(text_alloc, reader) {
+        Ok(text) => text,
+        Err(fault) => return Err(fault),
+    };
+    carry_out_text(&mut session, workers, text.as_slice(), writer)
+}
