@@ -14,6 +14,7 @@ use Rattle.heap_data.specs.CollectionValue.{CollectionValue, AreFreeBlocks, targ
 use Rattle.heap_data.specs.CollectedHeap.{CollectedHeap}
 use Rattle.heap_data.specs.ReportValue.{WorkerLists, renaming_of, all_won}
 use Rattle.heap_data.specs.declared.report.Delivery.{Delivery}
+use Rattle.heap.proofs.SoundHeap.{heap_free, heap_object}
 use Rattle.workers.specs.Setting.{Setting, is_large_name}
 use Rattle.workers.specs.Worker.{Worker, Hand, Nothing, current_in, current_object}
 use Rattle.workers.specs.WorkerSteps.{current_slot, slot_of_starts, IsOutOfWork}
@@ -32,7 +33,6 @@ use Rattle.serial.specs.SerialValue.{SerialValue, WantsDraw, system_of, setting_
 use Rattle.serial.specs.IsSerial.{IsReadyToCollect}
 use Rattle.serial_settling.specs.Settling.{IsReportOf, ScansWhatItWon, exports_of, own_deliveries}
 use Rattle.serial.proofs.OpenBlocks.{none_open}
-use Rattle.serial.proofs.Readiness.{one_destination}
 use Rattle.serial.proofs.Starts.{targets_live}
 use Rattle.serial_steps.specs.Stepping.{IsOf, IsDone, IsFull, HasStepped}
 use Rattle.collector.specs.Collects.{is_small_word, won_places, ScansInOrder, RunsAlone, ScansAlone, ScansOnce, CollectsAlone, IsShortOfBlocks}
@@ -83,13 +83,13 @@ has_below limit number free all some = go free (λ k l. all k 0 l) some
 tells_small : (v : SerialValue) → IsReadyToCollect v.heap v.collection → TellsSmall (setting_in v) v.heap.free is_small_word
 tells_small v r =
     record {
-      in_block = λ number offset here l. (let b = has_below v.heap.config.blocks number v.heap.free r.free.in_range here in let m = r.range.most_blocks in let k : (number + 1) * 65536 + offset < 9223372036854775808 + 0 = omega (arith, b, m, l) in lt-ltb _ _ k);
+      in_block = λ number offset here l. (let b = has_below v.heap.config.blocks number v.heap.free (heap_free v.heap r.sound).in_range here in let m = r.range.most_blocks in let k : (number + 1) * 65536 + offset < 9223372036854775808 + 0 = omega (arith, b, m, l) in lt-ltb _ _ k);
       large = λ name is. absurd (true≢false (sym is ∙ none name (object_at v.heap.graph name) refl));
     }
   where
     none : (name : ℕ) (o : Option Object) → object_at v.heap.graph name ≡ o → option_map_or (is_large v.heap.config.block_words) o false ≡ false
     none name None e = refl
-    none name (Some x) e = let s = (r.plain.objects name x e).small in grind (arith, s)
+    none name (Some x) e = let s = (heap_object v.heap r.sound name x e).small in grind (arith, s)
 
 same_places : (names : List ℕ) (won : List (ℕ × ℕ)) → map (λ (q : ℕ × ℕ). q.1) (renaming_of names won) ≡ map (λ (q : ℕ × ℕ). q.1) won
 same_places names [] = refl
@@ -115,13 +115,13 @@ module _ (v : SerialValue) (r : IsReadyToCollect v.heap v.collection) (h : HasSt
   ends : Ends idle_system 0 ended_system
   ends = record { is_idle = refl; not_ended = refl; all_idle = refl; change = refl }
 
-  in_order : ScannedInOrder is_small_word v.workspace.worker
-  in_order =
+  in_order : destinations_in v ≡ 1 → ScannedInOrder is_small_word v.workspace.worker
+  in_order one =
       ended_in_order (setting_in v) (destinations_in v) (targets_in v) v.heap.free is_small_word (tells_small v r) (let m = r.range.most_words in omega (arith, m)) (h.count + 1 + 1) ended_system
       (reached_more (setting_in v) (destinations_in v) 1 (targets_in v) v.heap.free idle_system ended_system (End 0)
       (reached_more (setting_in v) (destinations_in v) 1 (targets_in v) v.heap.free (system_of v) idle_system (Idle 0) (reached_of v r h) idles) ends)
       (stepped_more (setting_in v) (End 0) (stepped_more (setting_in v) (Idle 0) h.run (ap Some (next_idle (setting_in v) v.workspace.worker (map (named v.workspace.config.shape) (waiting_in (lane_of v))) done.out queue_none)) idles) refl ends)
-      all_ended (let o = one_destination v.heap.config.shape r.plain.one_generation v.collection.generation in omega (arith, o)) v.workspace.worker refl
+      all_ended (omega (arith, one)) v.workspace.worker refl
 
   run_to_end : Stepped (setting_in v) (next_alone (setting_in v)) (opening (destinations_in v) 1 (targets_in v) v.heap.free) (h.count + 1 + 1) ended_system
   run_to_end =
@@ -152,8 +152,8 @@ module _ (v : SerialValue) (r : IsReadyToCollect v.heap v.collection) (h : HasSt
         alone = report.alone;
         runs = runs report.lists deliveries report.won report.scanned told;
         order = λ one. record {
-          small = ap (filter is_small_word) report.scanned ∙ in_order.small_ones ∙ ap (filter is_small_word) (sym places);
-          large = ap (filter (λ x. not (is_small_word x))) report.scanned ∙ in_order.large_ones ∙ ap (filter (λ x. not (is_small_word x))) (sym places);
+          small = ap (filter is_small_word) report.scanned ∙ (in_order one).small_ones ∙ ap (filter is_small_word) (sym places);
+          large = ap (filter (λ x. not (is_small_word x))) report.scanned ∙ (in_order one).large_ones ∙ ap (filter (λ x. not (is_small_word x))) (sym places);
         };
       }
 

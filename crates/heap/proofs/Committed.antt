@@ -1,8 +1,7 @@
 -- After a commit the heap is the collected one.
-use Rattle.std.proofs.Common.{◌≡◌, ℕ, zero, suc, ◌*◌, ◌-◌, ◌<◌, Bool, true, false, cond, List, [], ◌∷◌, map, replicate, Option, Some, None, refl, sym, ap, subst, ◌∙◌, arith, ⊎_elim, inl, inr}
+use Rattle.std.proofs.Common.{◌≡◌, ℕ, ◌*◌, ◌-◌, ◌<◌, Bool, true, false, cond, List, [], ◌∷◌, map, replicate, Option, Some, None, refl, sym, ap, subst, ◌∙◌, arith, ⊎_elim, inl, inr}
 use Rattle.std.proofs.lemmas.Bool.{true≢false}
-use Rattle.std.specs.Prelude.{slice_index_or, unwrap_or, nat_eq}
-use Rattle.std.specs.List.{IsDistinct}
+use Rattle.std.specs.Prelude.{unwrap_or}
 use Rattle.std.specs.Option.{option_map}
 use Rattle.std.specs.Ordering.{nat_cmp, eq_by_cmp}
 use Rattle.std.specs.FinMap.{get, find, entries, get-entries, get-empty}
@@ -12,7 +11,6 @@ use Rattle.model.specs.Reached.{has}
 use Rattle.model.specs.Collected.{Collected, renamed, moved_to}
 use Rattle.model.specs.Destination.{dest}
 use Rattle.model.specs.Room.{Room}
-use Rattle.model.proofs.Has.{has_none}
 use Rattle.model.proofs.ClosedLemmas.{closed_collected}
 use Rattle.model.proofs.NatMap.{find_same}
 use Rattle.layout.specs.Object.{Raw}
@@ -31,8 +29,8 @@ use Rattle.block_table.specs.Table.{slot_objects}
 use Rattle.heap_data.specs.ReportValue.{renaming_of}
 use Rattle.heap_data.specs.CollectionValue.{CollectionValue, young_names}
 use Rattle.heap_data.specs.SettledValue.{IsSettled}
-use Rattle.heap_data.specs.CollectedHeap.{CollectedHeap, IsIn, HoldsObject, IsFreeBlock, IsRemembered}
-use Rattle.heap_data.proofs.PlainObjects.{not_large_plain, points_plain}
+use Rattle.heap_data.specs.CollectedHeap.{CollectedHeap, IsIn, HoldsObject, IsFreeBlock}
+use Rattle.heap_data.proofs.PlainObjects.{not_large_plain}
 use Rattle.block_table.proofs.Installed.{numbers_of, EachFits, find-copies}
 use Rattle.block_table.proofs.Installed.{all_numbers, installed-some}
 use Rattle.heap.proofs.RootMap.{get-roots}
@@ -54,10 +52,6 @@ renamed_all f slots pairs n are =
     go : (o : Option ℕ) → find nat_cmp n pairs ≡ option_map f o → renamed_word pairs n o ≡ option_map f o
     go None is = refl
     go (Some w) is = ap (λ p. Some (unwrap_or p w)) is
-
-none_distinct : IsDistinct nat_eq []
-unfolding IsDistinct
-none_distinct = tt
 
 first_object : (number : ℕ) (block : BlockValue) → (block.objects ≡ [] → ⊥) → (o : Object) × (find nat_cmp (small_word number 0) (slot_objects number (Some block)) ≡ Some o)
 first_object number block some = go block.objects some
@@ -137,18 +131,6 @@ module _ (space space' : SpaceValue) (slots slots' : List (Option Place)) (colle
           let holds : HoldsObject (heap_of space' slots').graph block = record { offset = 0; object = object.0; in_range = omega arith; there = at_block block 0 (omega arith) ∙ ap (λ s. find nat_cmp (small_word block 0) (slot_objects block s)) is ∙ object.1 } in
           absurd (free.holds_none holds)
 
-  none_remembers : (generation : ℕ) → IsRemembered (heap_of space' slots').graph generation []
-  none_remembers generation = record {
-    once = none_distinct;
-    exact = λ name o is. (λ h. has_none name h, λ h. absurd (true≢false (sym h.1 ∙ points_plain (get space'.objects) space'.config.block_words o (plain' name o is))));
-    there = λ k d lt. absurd (omega (arith, lt));
-  }
-
-  no_members : (n generation : ℕ) → slice_index_or {A = List ℕ} (replicate n []) generation [] ≡ []
-  no_members zero generation = refl
-  no_members (suc n) zero = refl
-  no_members (suc n) (suc generation) = no_members n generation
-
   pub collected_heap : CollectedHeap (heap_of space slots) collection.generation (renaming_of (young_names (heap_of space slots).graph collection.generation) won) (heap_of space' slots')
   collected_heap = record {
     config = replaced.config;
@@ -158,5 +140,4 @@ module _ (space space' : SpaceValue) (slots slots' : List (Option Place)) (colle
     free = λ block. (free_block block, block_free block);
     rising = replaced.rising;
     large_blocks = λ name bs. (λ is. absurd (some_not_none (sym is ∙ get-empty nat_cmp name)), λ h. absurd (some_not_none (sym h.1 ∙ get-empty nat_cmp name)));
-    remembered = λ generation lt. subst (IsRemembered (heap_of space' slots').graph generation) (sym (no_members space'.config.shape.generations generation)) (none_remembers generation);
   }

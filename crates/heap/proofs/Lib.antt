@@ -10,3 +10,4 @@ pub mod RenamedRoots
 pub mod SettledLemmas
 pub mod Committed
 pub mod KeptCount
+pub mod SoundHeap

@@ -4,6 +4,7 @@ pub mod Roots
 pub mod RootView
 pub mod HeapView
 pub mod Found
+pub mod IsHeap
 pub use Rattle.steps.specs.ConfigRange
 pub use Rattle.steps.specs.ConfigView
 pub use Rattle.steps.specs.StepPairs

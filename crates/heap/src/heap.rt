@@ -5,6 +5,7 @@ ghost use Rattle.model.specs.Graph.{root_at, without_root, with_pointer};
 ghost use Rattle.layout.specs.Place.{place_word};
 ghost use Rattle.heap_data.specs.HeapValue.{empty_heap, nursery_count};
 ghost use Rattle.heap.specs.Found.{IsFound};
+ghost use Rattle.heap.specs.IsHeap.{IsHeap};
 ghost use Rattle.heap.specs.Commands.{Allocates, is_too_big, room_for, heap_census, Changes, HasPointer, HasPlain, IsValue, value_at, rooted_object};
 ghost use Rattle.std.specs.Prelude.{MatchOption, IsSomeAnd, IsNone, ◌⊎◌, slice_get, slice_set, slice_index, length, sum_by, Err};
 ghost use Rattle.model.specs.Graph.{IsClosed, object_at};
@@ -12,7 +13,7 @@ ghost use Rattle.model.specs.Live.{IsYoung};
 ghost use Rattle.model.specs.LiveCount.{LiveCount};
 ghost use Rattle.layout.specs.ObjectRef.{raw_of};
 ghost use Rattle.heap_data.specs.Words.{IsShownAs};
-ghost use Rattle.heap_data.specs.Plain.{IsPlainHeap, NamesArePlaces};
+ghost use Rattle.heap_data.specs.Plain.{NamesArePlaces};
 ghost use Rattle.steps.specs.ConfigRange.{IsInRange};
 ghost use Rattle.steps.specs.StepPairs.{step_pair, stands_at};
 ghost use Rattle.heap_data.specs.CollectionValue.{IsOpened, AreFreeBlocks, FreeBlocksAreEmpty, young_names};
@@ -292,7 +293,7 @@ impl<A: Allocator + Clone> Heap<A> {
         // What holds of every heap.
         ensures range { IsInRange self.now.config }
         ensures closed { IsClosed self.now.graph }
-        ensures plain { IsPlainHeap self.now }
+        ensures sound { IsHeap self.now }
         ensures places { NamesArePlaces self.now.graph }
         ensures free { AreFreeBlocks self.now.config.blocks self.now.free }
         ensures empty { FreeBlocksAreEmpty self.now }

@@ -36,6 +36,10 @@ pub record IsRemembered (graph : Graph) (generation : ℕ) (members : List ℕ) 
   pub exact : (name : ℕ) (o : Object) → object_at graph name ≡ Some o → IsTrue (has members name) ↔ ((o.generation ≡ generation) × IsTrue (points_younger (object_at graph) o))
   pub there : All (λ name. (o : Object) × (object_at graph name ≡ Some o)) members
 
+-- the remembered sets are those of the graph
+pub record HasRememberedSets (heap : HeapValue) : Type 0 where
+  pub remembered : (generation : ℕ) → generation < heap.config.shape.generations → IsRemembered heap.graph generation (slice_index_or heap.remembered generation [])
+
 -- new is what a collection of the generations 0 to g leaves of old, renamed by places
 pub record CollectedHeap (old : HeapValue) (g : ℕ) (places : List (ℕ × ℕ)) (new : HeapValue) : Type 0 where
   pub config : new.config ≡ old.config
@@ -47,4 +51,3 @@ pub record CollectedHeap (old : HeapValue) (g : ℕ) (places : List (ℕ × ℕ)
   pub rising : IsStrictlyIncreasing new.free
   -- the blocks of the large objects that are kept stay theirs
   pub large_blocks : (name : ℕ) (blocks : List ℕ) → (get new.large_blocks name ≡ Some blocks) ↔ (IsKept old.graph g name × (get old.large_blocks name ≡ Some blocks))
-  pub remembered : (generation : ℕ) → generation < old.config.shape.generations → IsRemembered new.graph generation (slice_index_or new.remembered generation [])

@@ -9,8 +9,10 @@ use Rattle.workers.specs.Block.{Block}
 use Rattle.workers.specs.Worker.{Worker}
 use Rattle.workers.specs.Lawful.{MayAct, HasQueued, lowest_open}
 use Rattle.workers.specs.WorkerSteps.{IsFree, IsOutOfWork, CanLook, CanScan}
+use Rattle.model.specs.Graph.{IsClosed}
 use Rattle.heap_data.specs.HeapValue.{HeapValue}
 use Rattle.heap_data.specs.Plain.{NamesArePlaces}
+use Rattle.heap.proofs.SoundHeap.{heap_closed, heap_places}
 use Rattle.scavenge.specs.Slots.{objects_of, IsUntouched}
 use Rattle.serial.proofs.OpenBlocks.{none_there, open_there}
 use Rattle.to_space.specs.Named.{named}
@@ -164,8 +166,11 @@ module _ (v : InterleavedValue) (w : Worker) (heap : HeapValue) (same : heap ≡
 
 -- what reading a worker's slot relies on
 module _ (v : InterleavedValue) (k : IsInterleaved v) (t : ℕ) (m : MemberValue) (at : slice_get v.members t ≡ Some m) (heap : HeapValue) (same : heap ≡ v.heap) where
+  pub closed_there : IsClosed heap.graph
+  closed_there = subst (λ (h : HeapValue). IsClosed h.graph) (sym same) (heap_closed v.heap k.ready.sound)
+
   pub places_there : NamesArePlaces heap.graph
-  places_there = subst (λ (h : HeapValue). NamesArePlaces h.graph) (sym same) k.ready.places
+  places_there = subst (λ (h : HeapValue). NamesArePlaces h.graph) (sym same) (heap_places v.heap k.ready.sound)
 
   pub untouched_there : IsUntouched (objects_of heap) m.workspace.worker
   untouched_there = subst (λ (h : HeapValue). IsUntouched (objects_of h) m.workspace.worker) (sym same) (ready_of v.heap v.collection k.ready v.workers t m (k.each t m at)).untouched

@@ -4,6 +4,7 @@ use Rattle.std.specs.Prelude.{IsSome, OnErr, slice_get, slice_set, slice_index_o
 use Rattle.std.specs.Bool.{OnTrue}
 use Rattle.std.specs.Ordering.{nat_cmp}
 use Rattle.std.specs.FinMap.{find}
+use Rattle.model.specs.Graph.{IsClosed}
 use Rattle.layout.specs.declared.place.Place.{Place}
 use Rattle.claims.specs.ClaimsValue.{SeatValue, IsSeatOf}
 use Rattle.plain_cells.specs.Plain.{PlainPassValue, IsFit, place_held, known_by}
@@ -11,6 +12,7 @@ use Rattle.plain_cells.specs.Plain.{PlainValue as PlainCellsValue}
 use Rattle.heap_data.specs.HeapValue.{HeapValue}
 use Rattle.heap_data.specs.CollectionValue.{CollectionValue}
 use Rattle.heap_data.specs.Plain.{NamesArePlaces}
+use Rattle.heap.proofs.SoundHeap.{heap_closed, heap_places}
 use Rattle.workers.specs.Setting.{Setting}
 use Rattle.workers.specs.Worker.{Worker}
 use Rattle.workers.specs.WorkerSteps.{current_slot, CanLook, cell_wanted, draw_wanted, after_look}
@@ -35,8 +37,11 @@ use Rattle.interleaved.proofs.Readiness.{ready_of}
 
 -- what a look relies on, of the heap and the collection that are passed
 module _ (v : InterleavedValue) (k : IsInterleaved v) (t : ℕ) (m : MemberValue) (at : slice_get v.members t ≡ Some m) (heap : HeapValue) (c : CollectionValue) (same_heap : heap ≡ v.heap) (same_collection : c ≡ v.collection) where
+  pub closed_of : IsClosed heap.graph
+  closed_of = subst (λ (h : HeapValue). IsClosed h.graph) (sym same_heap) (heap_closed v.heap k.ready.sound)
+
   pub places_of : NamesArePlaces heap.graph
-  places_of = subst (λ (h : HeapValue). NamesArePlaces h.graph) (sym same_heap) k.ready.places
+  places_of = subst (λ (h : HeapValue). NamesArePlaces h.graph) (sym same_heap) (heap_places v.heap k.ready.sound)
 
   pub config_of : m.workspace.config ≡ heap.config
   config_of = (k.each t m at).config ∙ ap (λ (h : HeapValue). h.config) (sym same_heap)

@@ -5,6 +5,7 @@ use Rattle.claims.proofs.ClaimLemmas.{IsDistinct-rising, times-distinct}
 use Rattle.model.specs.Destination.{dest_count}
 use Rattle.heap_data.specs.HeapValue.{HeapValue}
 use Rattle.heap_data.specs.CollectionValue.{CollectionValue, target_of_slot}
+use Rattle.heap.proofs.SoundHeap.{heap_free}
 use Rattle.workers.specs.System.{System, Event, opening}
 use Rattle.workers.specs.Steps.{Run, stay}
 use Rattle.workers.specs.Total.{times}
@@ -41,7 +42,7 @@ reached_first v ready some first =
     record {
       some = some;
       room = room_of v.heap v.collection ready v.workers;
-      distinct = λ k. (let d = times-distinct v.heap.free (IsDistinct-rising v.heap.free ready.free.rising) k in let s = same_times k v.heap.free in omega (arith, d, s));
+      distinct = λ k. (let d = times-distinct v.heap.free (IsDistinct-rising v.heap.free (heap_free v.heap ready.sound).rising) k in let s = same_times k v.heap.free in omega (arith, d, s));
       events = [];
       run = subst (Run (setting_in v) (opening (destinations_in v) v.workers (targets_in v) v.heap.free) []) (sym first) stay;
     }

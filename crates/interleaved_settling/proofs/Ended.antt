@@ -16,6 +16,7 @@ use Rattle.heap_data.specs.ReportValue.{WorkerLists, all_won, renaming_of}
 use Rattle.heap_data.specs.HeapValue.{HeapValue}
 use Rattle.heap_data.specs.CollectionValue.{CollectionValue, young_names}
 use Rattle.heap_data.specs.SettledValue.{IsSettled}
+use Rattle.heap.proofs.SoundHeap.{heap_empty, heap_object}
 use Rattle.plain_cells.specs.Plain.{place_of, place_held}
 use Rattle.workers.specs.Setting.{is_large_name}
 use Rattle.workers.specs.Worker.{Worker}
@@ -43,7 +44,7 @@ use Rattle.interleaved_settling.proofs.EndedLists.{joined_lists, joined_map, ren
 
 module _ (v : InterleavedValue) (k : IsInterleaved v) (ended : AllEnded (system_of v)) where
   empty : AreEmpty v.heap.graph v.heap.free
-  empty number offset l o = k.ready.empty number offset (stands_has number v.heap.free l) o
+  empty number offset l o = heap_empty v.heap k.ready.sound number offset (stands_has number v.heap.free l) o
 
   pub brings : RunBrings v.heap.graph v.collection.generation v.heap.config.shape v.heap.config.block_words (destinations_in v) v.workers (targets_in v) v.heap.free (system_of v)
   brings =
@@ -99,7 +100,7 @@ module _ (v : InterleavedValue) (k : IsInterleaved v) (ended : AllEnded (system_
 
       small : (o : Option Object) → object_at v.heap.graph name ≡ o → option_map_or (is_large v.heap.config.block_words) o false ≡ false
       small None e = refl
-      small (Some o) e = not_below _ _ (k.ready.plain.objects name o e).small
+      small (Some o) e = not_below _ _ (heap_object v.heap k.ready.sound name o e).small
 
       by_size : (b : Bool) → is_large_name (seen v.heap v.collection) name ≡ b → option_map place_word (place_held v.cells.held number) ≡ cell_of (seen v.heap v.collection) (Some name) (place_held v.cells.held number)
       by_size true e = absurd (true≢false (sym e ∙ small (object_at v.heap.graph name) refl))

@@ -4,6 +4,7 @@ use Rattle.workers.specs.Lawful.{AllEnded}
 use Rattle.workers.specs.Alone.{AreEmpty}
 use Rattle.heap_data.specs.HeapValue.{HeapValue}
 use Rattle.heap_data.specs.CollectionValue.{CollectionValue}
+use Rattle.heap.proofs.SoundHeap.{heap_empty}
 use Rattle.interleaved.specs.InterleavedValue.{InterleavedValue, setting_in, destinations_in, targets_in, system_of}
 use Rattle.interleaved_settling.proofs.SettleBrings.{stands_has}
 use Rattle.run_orders.specs.Scans.{ScansInBlocks}
@@ -17,7 +18,7 @@ module _ (heap : HeapValue) (c : CollectionValue) (v : InterleavedValue) (k : Is
   taken = taken_in_order (setting_in v) (destinations_in v) v.workers (targets_in v) v.heap.free (system_of v) k.reached
 
   empty : AreEmpty v.heap.graph v.heap.free
-  empty number offset l o = k.ready.empty number offset (stands_has number v.heap.free l) o
+  empty number offset l o = heap_empty v.heap k.ready.sound number offset (stands_has number v.heap.free l) o
 
   pub in_order : AllEnded (system_of v) → ScansInBlocks (machine_of v).system.workers (machine_of v).heap.free
   in_order ended =

@@ -4,13 +4,14 @@ use Rattle.std.proofs.lemmas.Bool.{cases_eq, eqb-true, and_parts, lt-ltb, true�
 use Rattle.std.specs.Prelude.{nat_eq, nat_lt}
 use Rattle.std.specs.Set.{distinct_count}
 use Rattle.model.specs.Destination.{Shape, dest_count}
-use Rattle.model.specs.Laws.{is_same_step, destinations, DestCountIsExact}
+use Rattle.model.specs.DestinationList.{is_same_step, destinations}
+use Rattle.model.specs.Laws.{DestCountIsExact}
 
-holds_below : (ℕ → Bool) → ℕ → Bool
+unfoldable pub holds_below : (ℕ → Bool) → ℕ → Bool
 holds_below p zero = true
 holds_below p (suc n) = p n && holds_below p n
 
-holds_at : (p : ℕ → Bool) (n k : ℕ) → holds_below p n ≡ true → k < n → p k ≡ true
+pub holds_at : (p : ℕ → Bool) (n k : ℕ) → holds_below p n ≡ true → k < n → p k ≡ true
 unfolding holds_below
 holds_at p zero k h lt = absurd (omega arith)
 holds_at p (suc n) k h lt =
@@ -19,7 +20,7 @@ holds_at p (suc n) k h lt =
     (λ ne. holds_at p n k (and_parts (p n) (holds_below p n) h).1 (omega arith))
     (cases_eq k n)
 
-shape_of : ℕ → ℕ → Shape
+unfoldable pub shape_of : ℕ → ℕ → Shape
 shape_of generations steps = record { generations = generations; steps = steps }
 
 test : ℕ → ℕ → ℕ → Bool
@@ -29,7 +30,7 @@ all_tests : holds_below (λ n. holds_below (λ s. holds_below (λ g. test (n + 1
 unfolding holds_below test shape_of
 all_tests = refl
 
-tested : (b c : Bool) → (not b || c) ≡ true → b ≡ true → c ≡ true
+pub tested : (b c : Bool) → (not b || c) ≡ true → b ≡ true → c ≡ true
 tested true c h e = h
 tested false c h e = absurd (true≢false (sym e))
 

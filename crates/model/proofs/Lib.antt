@@ -12,6 +12,8 @@ pub mod TargetLemmas
 pub mod Among
 pub mod OldSlotsExact
 pub mod DestCount
+pub mod Destinations
+pub mod DestNumber
 pub mod ClosedLemmas
 pub mod SpreadSame
 pub mod Options

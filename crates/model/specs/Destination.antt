@@ -1,5 +1,5 @@
 -- Where an object goes when it survives, and how many such places a collection has.
-use Rattle.std.specs.Prelude.{ℕ, zero, suc, ◌+◌, ◌-◌, ◌*◌, List, [], ◌∷◌, ◌++◌, map, flat_map, if◌then◌else◌, nat_lt, max}
+use Rattle.std.specs.Prelude.{ℕ, zero, suc, ◌+◌, ◌-◌, ◌*◌, List, [], ◌∷◌, ◌++◌, map, flat_map, ◌<◌, if◌then◌else◌, nat_lt, max}
 
 -- generations and steps of a heap; each generation but the oldest has so many steps
 pub record Shape : Type 0 where
@@ -8,6 +8,15 @@ pub record Shape : Type 0 where
 
 abbrev pub oldest : Shape → ℕ
 oldest shape = shape.generations - 1
+
+-- how many steps a generation has: the oldest has one
+abbrev pub steps_in : Shape → ℕ → ℕ
+steps_in shape h = if nat_lt h (oldest shape) then shape.steps else 1
+
+-- a generation, and one of its steps
+pub record IsStep (shape : Shape) (at : ℕ × ℕ) : Type 0 where
+  pub generation : at.0 < shape.generations
+  pub step : at.1 < steps_in shape at.0
 
 -- the generation and step after one survived collection
 abbrev pub dest : Shape → ℕ × ℕ → ℕ × ℕ

@@ -1,5 +1,5 @@
 -- What holds of the definitions.
-use Rattle.std.specs.Prelude.{◌≡◌, ℕ, ◌<◌, ◌≤◌, ◌↔◌, Bool, true, ◌&&◌, List, map, filter, length, Some, None, nat_eq, nat_le}
+use Rattle.std.specs.Prelude.{◌≡◌, ℕ, ◌<◌, ◌≤◌, ◌↔◌, true, List, length, Some, None, nat_eq}
 use Rattle.std.specs.List.{IsDistinct, Contains}
 use Rattle.std.specs.Set.{distinct_count}
 use Rattle.model.specs.declared.kind.Kind.{Kind}
@@ -8,7 +8,8 @@ use Rattle.model.specs.Reached.{Reached, has, reached_list}
 use Rattle.model.specs.Live.{IsYoung, IsOldSlot}
 use Rattle.model.specs.LiveCount.{LiveCount, LiveWords}
 use Rattle.model.specs.OldSlots.{Slot, old_slots}
-use Rattle.model.specs.Destination.{Shape, dest, dest_count, all_steps}
+use Rattle.model.specs.Destination.{Shape, dest_count}
+use Rattle.model.specs.DestinationList.{is_same_step, destinations}
 use Rattle.model.specs.Config.{Config}
 use Rattle.model.specs.Commands.{Command, meaning}
 
@@ -56,13 +57,6 @@ pub record IsOldToYoung (graph : Graph) (g : ℕ) (slot : Slot) : Type 0 where
 abbrev pub OldSlotsAreExact : Type 0
 OldSlotsAreExact =
     (graph : Graph) (generations g : ℕ) (slot : Slot) → GenerationsBelow graph generations → (Contains (old_slots graph generations g) slot ↔ IsOldToYoung graph g slot)
-
-abbrev pub is_same_step : ℕ × ℕ → ℕ × ℕ → Bool
-is_same_step a b = nat_eq a.0 b.0 && nat_eq a.1 b.1
-
--- where a collection of the generations 0 to g sends what survives, step by step
-abbrev pub destinations : Shape → ℕ → List (ℕ × ℕ)
-destinations shape g = map (dest shape) (filter (λ at. nat_le at.0 g) (all_steps shape))
 
 -- for each shape that a heap may have
 abbrev pub DestCountIsExact : Type 0

@@ -6,6 +6,7 @@ pub mod Reached
 pub mod Live
 pub mod OldSlots
 pub mod Destination
+pub mod DestinationList
 pub mod Collected
 pub mod LiveCount
 pub mod SpaceBound

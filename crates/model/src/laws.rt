@@ -1,6 +1,7 @@
 //! What holds of the definitions: the contract of each function here is a theorem on them, and its body is empty.
 ghost use Rattle.model.specs.Rows.{config_of, first_trace, first_output, pointer_trace, pointer_output, cycle_trace, cycle_output, remembered_trace, remembered_output, dead_old_trace, dead_old_output, large_trace, large_output, full_trace, full_output, ageing_trace, ageing_output, no_generation_trace, no_generation_output, made_old_trace, made_old_output, two_mutators_trace, two_mutators_output, block_left_trace, block_left_output, get_trace, get_output};
 ghost use Rattle.model.specs.Laws.{Writes, Faults, ReachedListIsExact, LiveCountIsOne, LiveWordsAreOne, OldSlotsAreExact, DestCountIsExact};
+ghost use Rattle.model.specs.DestinationList.{DestinationListIsExact};
 ghost use Rattle.model.specs.declared.kind.Kind.TheVariants as kind;
 
 /// Each worked trace writes its output, and the last one has a fault in its fifth command.
@@ -43,4 +44,9 @@ pub fn old_slots_are_exact()
 /// The number of destinations is that of the distinct places where survivors go.
 pub fn dest_count_is_exact()
     ensures { DestCountIsExact }
+{}
+
+/// The list of destinations has each place where survivors go, once, by rising numbers.
+pub fn destination_list_is_exact()
+    ensures { DestinationListIsExact }
 {}

@@ -27,6 +27,7 @@ use Rattle.workers.specs.System.{System, Race, opening_worker}
 use Rattle.workers.proofs.Acts.{ProposalFit}
 use Rattle.workers.proofs.Kept.{collected-young}
 use Rattle.workers.proofs.ReadyLemmas.{few_fields}
+use Rattle.heap.proofs.SoundHeap.{heap_object}
 use Rattle.workers.proofs.Starts.{opens}
 use Rattle.workers.proofs.SystemFalls.{Sound, run_sound}
 use Rattle.workers.proofs.SystemParts.{find-new}
@@ -57,7 +58,7 @@ few_of v k =
         go : (o : Option Object) → object_at v.heap.graph name ≡ o → length (option_map_or (λ (x : Object). x.pointers) o []) ≤ 512
         go None e = omega arith
         go (Some o) e =
-            let s : size_of o ≤ v.heap.config.block_words / 4 = (k.ready.plain.objects name o e).small in
+            let s : size_of o ≤ v.heap.config.block_words / 4 = (heap_object v.heap k.ready.sound name o e).small in
             let m = k.ready.range.most_words in
             omega arith
 

@@ -1,17 +1,15 @@
 -- What holds of a collection by one worker between its events.
-use Rattle.std.specs.Prelude.{◌≡◌, ℕ, ◌<◌, ◌≤◌, length, Option, Some, None, slice_get, IsTrue}
+use Rattle.std.specs.Prelude.{◌≡◌, ℕ, ◌≤◌, length, Option, Some, slice_get}
 use Rattle.std.specs.Ordering.{nat_cmp}
 use Rattle.std.specs.FinMap.{find}
-use Rattle.model.specs.Graph.{IsClosed, object_at}
-use Rattle.model.specs.Reached.{has}
-use Rattle.layout.specs.Place.{small_word, IsLargeAt}
+use Rattle.layout.specs.Place.{IsLargeAt}
 use Rattle.block_pool.specs.BlockValue.{BlockValue}
 use Rattle.claims.specs.ClaimsValue.{IsSeatOf}
 use Rattle.plain_cells.specs.Plain.{IsFit, place_held}
 use Rattle.steps.specs.ConfigRange.{IsInRange}
 use Rattle.heap_data.specs.HeapValue.{HeapValue}
-use Rattle.heap_data.specs.CollectionValue.{CollectionValue, IsOpened, AreFreeBlocks}
-use Rattle.heap_data.specs.Plain.{IsPlainHeap, NamesArePlaces}
+use Rattle.heap_data.specs.CollectionValue.{CollectionValue, IsOpened}
+use Rattle.heap.specs.IsHeap.{IsHeap}
 use Rattle.workers.specs.System.{opening_worker}
 use Rattle.workers.specs.Worker.{Worker}
 use Rattle.workers.specs.WorkerRun.{WorkerRun, History}
@@ -24,12 +22,8 @@ use Rattle.serial.specs.SerialValue.{SerialValue, lane_of, setting_in, targets_i
 -- a collection that was opened on the heap as it is, and what holds of the heap
 pub record IsReadyToCollect (heap : HeapValue) (c : CollectionValue) : Type 0 where
   pub opened : IsOpened heap c.generation c
-  pub closed : IsClosed heap.graph
-  pub plain : IsPlainHeap heap
-  pub places : NamesArePlaces heap.graph
-  pub free : AreFreeBlocks heap.config.blocks heap.free
+  pub sound : IsHeap heap
   pub range : IsInRange heap.config
-  pub empty : (block offset : ℕ) → IsTrue (has heap.free block) → offset < 65536 → object_at heap.graph (small_word block offset) ≡ None
 
 -- the cells hold what was won: that of a large object the worker's claim, any other the place of the copy
 pub record AreForwarded (v : SerialValue) : Type 0 where

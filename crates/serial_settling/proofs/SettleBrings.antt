@@ -15,6 +15,7 @@ use Rattle.block_pool.specs.BlockValue.{BlockValue}
 use Rattle.heap_data.specs.ReportValue.{renaming_of}
 use Rattle.heap_data.specs.CollectionValue.{young_names}
 use Rattle.heap_data.specs.SettledValue.{IsSettled}
+use Rattle.heap.proofs.SoundHeap.{heap_empty, heap_object}
 use Rattle.plain_cells.specs.Plain.{place_held}
 use Rattle.workers.specs.Setting.{is_large_name}
 use Rattle.workers.specs.Worker.{Worker}
@@ -77,7 +78,7 @@ module _ (v : SerialValue) (k : IsSerial v) (r : IsReached (setting_in v) (desti
   all_ended (suc t) l = absurd (omega arith)
 
   empty : AreEmpty v.heap.graph v.heap.free
-  empty number offset l o = k.ready.empty number offset (stands_has number v.heap.free l) o
+  empty number offset l o = heap_empty v.heap k.ready.sound number offset (stands_has number v.heap.free l) o
 
   brings : RunBrings v.heap.graph v.collection.generation v.heap.config.shape v.heap.config.block_words (destinations_in v) 1 (targets_in v) v.heap.free ended_system
   brings =
@@ -167,7 +168,7 @@ module _ (v : SerialValue) (k : IsSerial v) (r : IsReached (setting_in v) (desti
 
       small : (o : Option Object) → object_at v.heap.graph name ≡ o → option_map_or (is_large v.heap.config.block_words) o false ≡ false
       small None e = refl
-      small (Some o) e = not_below _ _ (k.ready.plain.objects name o e).small
+      small (Some o) e = not_below _ _ (heap_object v.heap k.ready.sound name o e).small
 
       by_size : (b : Bool) → is_large_name (setting_in v) name ≡ b → option_map place_word (place_held v.cells.held number) ≡ cell_of (setting_in v) (Some name) (place_held v.cells.held number)
       by_size true e = absurd (true≢false (sym e ∙ small (object_at v.heap.graph name) refl))

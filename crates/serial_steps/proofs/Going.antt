@@ -4,6 +4,7 @@ use Rattle.claims.specs.Drawn.{times_in}
 use Rattle.claims.proofs.ClaimLemmas.{IsDistinct-rising, times-distinct}
 use Rattle.heap_data.specs.HeapValue.{HeapValue}
 use Rattle.heap_data.specs.CollectionValue.{CollectionValue, target_of_slot}
+use Rattle.heap.proofs.SoundHeap.{heap_free}
 use Rattle.model.specs.Destination.{dest_count}
 use Rattle.workers.specs.Setting.{Setting, setting_of}
 use Rattle.workers.specs.Worker.{Worker, Hand, Nothing, Open, Holding, HoldingLarge, Proposal}
@@ -32,7 +33,7 @@ reached_of v ready h =
     record {
       some = omega arith;
       room = room_of v ready;
-      distinct = λ k. (let d = times-distinct v.heap.free (IsDistinct-rising v.heap.free ready.free.rising) k in let s = same_times k v.heap.free in omega (arith, d, s));
+      distinct = λ k. (let d = times-distinct v.heap.free (IsDistinct-rising v.heap.free (heap_free v.heap ready.sound).rising) k in let s = same_times k v.heap.free in omega (arith, d, s));
       events = r.0;
       run = r.1;
     }

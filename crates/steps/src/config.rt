@@ -1,7 +1,10 @@
 //! The sizes of a heap.
-ghost use Rattle.std.specs.Prelude.{◌≡◌, ◌%◌, ◌↔◌, IsOk, IfOk};
+ghost use Rattle.std.specs.Prelude.{◌≡◌, ◌+◌, ◌-◌, ◌*◌, ◌%◌, ◌↔◌, IsOk, IfOk};
+ghost use Rattle.model.specs.Destination.{dest, dest_count};
 ghost use Rattle.steps.specs.ConfigRange.{IsInRange, sizes_of};
+ghost use Rattle.steps.specs.StepPairs.{step_pair};
 
+use crate::step_id::StepId;
 use std::marker::Model;
 
 /// Sizes of a heap as a user gives them, any of which may be out of range.
@@ -127,5 +130,49 @@ impl Config {
         ensures in_range { IsInRange self.now }
     {
         self.steps
+    }
+    /// Where an object of that step goes when it survives a collection: to the next step, after the last one to the
+    /// next generation. The oldest generation has one step.
+    pub fn dest(&self, at: StepId) -> StepId
+        ensures { step_pair result ≡ dest self.now.shape (step_pair at) }
+    {
+        let oldest = self.generations - 1;
+        if at.generation as usize >= oldest {
+            return StepId {
+                generation: oldest as u8,
+                step: 0,
+            };
+        }
+        if (at.step as usize) < self.steps - 1 {
+            return StepId {
+                generation: at.generation,
+                step: at.step + 1,
+            };
+        }
+        StepId {
+            generation: at.generation + 1,
+            step: 0,
+        }
+    }
+
+    /// How many destinations a collection of the generations 0 to `g` has.
+    pub fn dest_count(&self, g: u8) -> usize
+        ensures value { result ≡ dest_count self.now.shape g }
+        ensures in_range { IsInRange self.now }
+    {
+        let oldest = self.generations - 1;
+        let g = g as usize;
+        if g < oldest {
+            return (g + 1) * self.steps;
+        }
+        (oldest * self.steps).max(1)
+    }
+
+    /// The number of a destination: they are numbered from 0, by generation, then by step.
+    pub fn dest_number(&self, to: StepId) -> usize
+        ensures { result ≡ to.generation * self.now.shape.steps + to.step - 1 }
+    {
+        let after = to.generation as usize * self.steps + to.step as usize;
+        after.saturating_sub(1)
     }
 }

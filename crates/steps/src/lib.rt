@@ -2,7 +2,9 @@
 #![tactic(auto)]
 
 mod config;
+mod destinations;
 mod step_id;
 
 pub use config::{BadConfig, Config, Sizes};
+pub use destinations::Destinations;
 pub use step_id::StepId;

@@ -1,5 +1,5 @@
 /// A generation and one of its steps.
-#[derive(Clone, Copy, Debug, PartialEq, Eq)]
+#[derive(Clone, Copy, Debug, Default, PartialEq, Eq)]
 pub struct StepId {
     pub generation: u8,
     pub step: u8,

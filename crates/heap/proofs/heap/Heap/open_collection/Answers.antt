@@ -1,30 +1,30 @@
 use Rattle.std.proofs.Common.{◌≡◌, ap, arith}
-use Rattle.heap.proofs.OpenedHeap.{plain_heap}
+use Rattle.heap.proofs.OpenedHeap.{sound_heap}
 use Rattle.heap.proofs.heap.Heap.open_collection.Goals as goal
 
 pub returns-then-g-generations-clause-closed : goal.returns-then-g-generations-clause-closed
 returns-then-g-generations-clause-closed g c =
     rw (← c.self.view_is) c.self.invariant
 
-pub returns-then-g-generations-clause-plain : goal.returns-then-g-generations-clause-plain
-returns-then-g-generations-clause-plain g c =
-    rw (← c.self.view_is) (plain_heap c.self.inside.space c.self.inside.roots.slots c.config.ensures.in_range c.config.ensures.plain)
+pub returns-then-g-generations-clause-sound : goal.returns-then-g-generations-clause-sound
+returns-then-g-generations-clause-sound g c =
+    rw (← c.self.view_is) (sound_heap c.self.inside.space c.self.inside.roots.slots c.config.ensures.in_range c.config.ensures.plain c.self.invariant c.config.ensures.places c.free_count-free.ensures.blocks c.free_count-free.ensures.empty)
 
 pub returns-in-Ok-clause-closed : goal.returns-in-Ok-clause-closed
 returns-in-Ok-clause-closed g c =
     rw (← c.self.view_is) c.self.invariant
 
-pub returns-in-Ok-clause-plain : goal.returns-in-Ok-clause-plain
-returns-in-Ok-clause-plain g c =
-    rw (← c.self.view_is) (plain_heap c.self.inside.space c.self.inside.roots.slots c.config.ensures.in_range c.config.ensures.plain)
+pub returns-in-Ok-clause-sound : goal.returns-in-Ok-clause-sound
+returns-in-Ok-clause-sound g c =
+    rw (← c.self.view_is) (sound_heap c.self.inside.space c.self.inside.roots.slots c.config.ensures.in_range c.config.ensures.plain c.self.invariant c.config.ensures.places c.free_count-free.ensures.blocks c.free_count-free.ensures.empty)
 
 pub returns-in-Err-clause-closed : goal.returns-in-Err-clause-closed
 returns-in-Err-clause-closed g c =
     rw (← c.self.view_is) c.self.invariant
 
-pub returns-in-Err-clause-plain : goal.returns-in-Err-clause-plain
-returns-in-Err-clause-plain g c =
-    rw (← c.self.view_is) (plain_heap c.self.inside.space c.self.inside.roots.slots c.config.ensures.in_range c.config.ensures.plain)
+pub returns-in-Err-clause-sound : goal.returns-in-Err-clause-sound
+returns-in-Err-clause-sound g c =
+    rw (← c.self.view_is) (sound_heap c.self.inside.space c.self.inside.roots.slots c.config.ensures.in_range c.config.ensures.plain c.self.invariant c.config.ensures.places c.free_count-free.ensures.blocks c.free_count-free.ensures.empty)
 
 pub returns-in-Ok-clause-ok : goal.returns-in-Ok-clause-ok
 returns-in-Ok-clause-ok g c =

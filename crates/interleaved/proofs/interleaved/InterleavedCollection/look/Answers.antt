@@ -5,10 +5,20 @@ use Rattle.workers.specs.System.{Look}
 use Rattle.workers.specs.Lawful.{IsRefused}
 use Rattle.serial.proofs.AllDrawn.{none_left}
 use Rattle.interleaved.specs.InterleavedValue.{InterleavedValue, WantsDraw, setting_in, system_of}
+use Rattle.serial.proofs.Readiness.{numbers_below}
 use Rattle.interleaved.proofs.Members.{lawful_as, goes_as, behind, is_in}
 use Rattle.interleaved.proofs.Readiness.{ready_of, few_of}
-use Rattle.interleaved.proofs.Looked.{places_of, config_of, can_of, untouched_of, rooms_of, wants_draw, is_refused, look_does, look_keeps, has_slot, is_there, same_error}
+use Rattle.interleaved.proofs.Looked.{closed_of, places_of, config_of, can_of, untouched_of, rooms_of, wants_draw, is_refused, look_does, look_keeps, has_slot, is_there, same_error}
 use Rattle.interleaved.proofs.interleaved.InterleavedCollection.look.Goals as goal
+
+pub look-requires-clause-closed : goal.look-requires-clause-closed
+look-requires-clause-closed g c =
+    let v : InterleavedValue = record { heap = c.self.inside.heap.value; collection = c.self.inside.collection.value; cells = c.self.inside.cells; pass = c.self.inside.pass; claims = c.self.inside.claims; draws = c.self.inside.draws; queues = c.self.inside.queues; workers = c.self.inside.workers; idlers = c.self.inside.idlers; members = c.self.inside.members.items } in
+    let i = is_in _ v c.args.t _ (behind c.self.inside.members.items c.args.t c.behind-self.view_is c.index_mut.ensures.value) (lawful_as (Look c.args.t) c.self.view_is c.requires.lawful) in
+    closed_of v c.self.invariant c.args.t _ i.there c.args.heap.now c.args.collection.now (c.requires.heap ∙ ap (λ (x : InterleavedValue). x.heap) (sym c.self.view_is)) (c.requires.collection ∙ ap (λ (x : InterleavedValue). x.collection) (sym c.self.view_is))
+
+pub look-requires-clause-numbers : goal.look-requires-clause-numbers
+look-requires-clause-numbers g c = numbers_below _ _ c.self.invariant.ready _ c.self.invariant.draws.free
 
 pub look-requires-clause-places : goal.look-requires-clause-places
 look-requires-clause-places g c =

@@ -4,9 +4,14 @@ use Rattle.std.specs.Option.{option_map}
 use Rattle.workers.specs.Lawful.{HasQueued, next_of_worker, queue_at}
 use Rattle.interleaved.specs.InterleavedValue.{InterleavedValue, system_of, setting_in}
 use Rattle.interleaved.specs.Events.{event_of}
-use Rattle.interleaved.proofs.Laws.{Says, places_there, untouched_there}
+use Rattle.interleaved.proofs.Laws.{Says, closed_there, places_there, untouched_there}
 use Rattle.interleaved.proofs.Choosing.{queue_some, queue_has, member_at, next_is}
 use Rattle.interleaved.proofs.interleaved.InterleavedCollection.next_of.Goals as goal
+
+pub next-requires-clause-closed : goal.next-requires-clause-closed
+next-requires-clause-closed g c =
+    let v : InterleavedValue = record { heap = c.self.inside.heap.value; collection = c.self.inside.collection.value; cells = c.self.inside.cells; pass = c.self.inside.pass; claims = c.self.inside.claims; draws = c.self.inside.draws; queues = c.self.inside.queues; workers = c.self.inside.workers; idlers = c.self.inside.idlers; members = c.self.inside.members.items } in
+    closed_there v c.self.invariant c.args.t c.index.result.now (member_at v c.self.invariant c.args.t c.index.result.now (subst (λ (x : InterleavedValue). c.args.t < x.workers) (sym c.self.view_is) c.requires.there) c.index.ensures) c.args.heap.now (c.requires.heap ∙ ap (λ (x : InterleavedValue). x.heap) (sym c.self.view_is))
 
 pub next-requires-clause-places : goal.next-requires-clause-places
 next-requires-clause-places g c =

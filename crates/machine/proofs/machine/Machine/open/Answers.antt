@@ -11,7 +11,7 @@ use Rattle.machine.proofs.machine.Machine.open.Goals.{In_ok-workers}
 ready : (g : given.Over) → (c : In_ok-workers g) → IsReadyToCollect c.args.heap.now c.in_ok-collection.collection
 ready g c =
     let e = c.in_ok-collection.ensures in
-    record { opened = subst (λ k. IsOpened c.args.heap.now k c.in_ok-collection.collection) (sym e.ok.generation) e.ok; closed = e.closed; plain = e.plain; places = e.places; free = e.free; range = e.range; empty = e.empty }
+    record { opened = subst (λ k. IsOpened c.args.heap.now k c.in_ok-collection.collection) (sym e.ok.generation) e.ok; sound = e.sound; range = e.range }
 
 few : (g : given.Over) → (c : In_ok-workers g) → (0 < c.args.n) × (c.args.n ≤ 16)
 few g c = (search rules, search rules)

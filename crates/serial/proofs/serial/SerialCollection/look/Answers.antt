@@ -5,9 +5,17 @@ use Rattle.workers.specs.WorkerSteps.{current_slot}
 use Rattle.workers.specs.System.{Look}
 use Rattle.serial.specs.SerialValue.{SerialValue, Goes, WantsDraw, setting_in}
 use Rattle.serial.proofs.Raced.{few_of}
-use Rattle.serial.proofs.Looked.{places_of, untouched_of, rooms_of, wants_draw, look_goes, look_keeps, can_look, some_slot, none_here}
-use Rattle.serial.proofs.Readiness.{ready_of}
+use Rattle.serial.proofs.Looked.{closed_of, places_of, untouched_of, rooms_of, wants_draw, look_goes, look_keeps, can_look, some_slot, none_here}
+use Rattle.serial.proofs.Readiness.{ready_of, numbers_below}
 use Rattle.serial.proofs.serial.SerialCollection.look.Goals as goal
+
+pub look-requires-clause-closed : goal.look-requires-clause-closed
+look-requires-clause-closed g c =
+    closed_of _ c.self.invariant c.args.heap.now c.args.collection.now
+    (c.requires.heap ∙ ap (λ (v : SerialValue). v.heap) (sym c.self.view_is)) (c.requires.collection ∙ ap (λ (v : SerialValue). v.collection) (sym c.self.view_is))
+
+pub look-requires-clause-numbers : goal.look-requires-clause-numbers
+look-requires-clause-numbers g c = numbers_below _ _ c.self.invariant.ready _ c.self.invariant.draws.free
 
 pub look-requires-clause-places : goal.look-requires-clause-places
 look-requires-clause-places g c =

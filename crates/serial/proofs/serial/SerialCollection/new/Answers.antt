@@ -9,6 +9,7 @@ use Rattle.claims.proofs.ClaimLemmas.{IsDistinct-rising}
 use Rattle.copies.specs.Handed.{CopiesKeyValue}
 use Rattle.plain_cells.specs.Plain.{IsFit, empty_cells}
 use Rattle.plain_queues.specs.PlainValue.{new_pending}
+use Rattle.heap.proofs.SoundHeap.{heap_free}
 use Rattle.serial.specs.IsSerial.{IsReadyToCollect}
 use Rattle.serial.specs.SerialValue.{SerialValue}
 use Rattle.serial.proofs.Beginning.{few_free, only_item, key_of, first_of, begun, first_system}
@@ -17,13 +18,13 @@ use Rattle.serial.proofs.serial.SerialCollection.new.Goals as goal
 pub new-requires-clause-once : goal.new-requires-clause-once
 new-requires-clause-once g c =
     let free = c.in_ok-extend_from_slice.ensures.items ∙ ap (λ xs. xs ++ c.free.result.now) c.new-free.ensures.items ∙ c.free.ensures ∙ c.requires.opened.free in
-    IsDistinct-rising c.extend_from_slice.new.self.items (subst IsStrictlyIncreasing (sym free) c.requires.free.rising)
+    IsDistinct-rising c.extend_from_slice.new.self.items (subst IsStrictlyIncreasing (sym free) (heap_free c.args.heap.now c.requires.sound).rising)
 
 pub new-requires-clause-few : goal.new-requires-clause-few
 new-requires-clause-few g c =
     let free = c.in_ok-extend_from_slice.ensures.items ∙ ap (λ xs. xs ++ c.free.result.now) c.new-free.ensures.items ∙ c.free.ensures ∙ c.requires.opened.free in
     let l : length c.extend_from_slice.new.self.items ≡ length c.args.heap.now.free = ap length free in
-    let f = few_free c.args.heap.now.config.blocks c.args.heap.now.free c.requires.free in
+    let f = few_free c.args.heap.now.config.blocks c.args.heap.now.free (heap_free c.args.heap.now c.requires.sound) in
     omega (arith, l, f, c.requires.range.most_blocks)
 
 pub invariant_of-result : goal.invariant_of-result

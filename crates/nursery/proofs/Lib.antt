@@ -1,0 +1,2 @@
+-- Where a nursery puts a new object.
+pub mod Nurseries

@@ -1,0 +1,3 @@
+-- What contracts see of a nursery.
+pub mod NurseryValue
+pub mod NurseryView

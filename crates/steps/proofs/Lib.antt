@@ -1,0 +1,3 @@
+-- What follows from the ranges of a heap's sizes, and of destinations.
+pub mod Ranges
+pub mod Placing
