@@ -1,29 +1,25 @@
 -- The blocks put in so far.
-use Rattle.std.proofs.Common.{◌≡◌, ◌≢◌, ℕ, ◌<◌, Bool, true, false, cond, ◌||◌, ◌&&◌, not, List, [], ◌∷◌, ◌++◌, length, set, get_or, Option, Some, None, refl, sym, ap, subst, ◌∙◌, arith, ⊎_elim, get_or-set_other, get_or-set_same, append_assoc, length-append}
+use Rattle.std.proofs.Common.{◌≡◌, ◌≢◌, ℕ, ◌<◌, Bool, true, false, cond, ◌&&◌, not, List, [], ◌∷◌, ◌++◌, length, set, get_or, Option, Some, None, refl, sym, ap, subst, ◌∙◌, arith, ⊎_elim, get_or-set_other, get_or-set_same, append_assoc, length-append}
 use Rattle.std.proofs.Math.Seq.{get_or-append_seam}
 use Rattle.std.proofs.lemmas.Bool.{cases_eq, true≢false, eq-eqb, ne_eqb}
 use Rattle.std.proofs.lemmas.Bool.Decides.{nat_tests}
 use Rattle.std.proofs.lemmas.List.{append-nil}
 use Rattle.std.specs.Prelude.{nat_eq, nat_lt, is_some, All, Contains}
 use Rattle.std.specs.List.{IsDistinct}
-use Rattle.std.specs.Cmp.{nat_eq_equiv}
-use Rattle.std.proofs.lemmas.Map.Keys.{IsDistinct-push}
 use Rattle.model.specs.Reached.{has}
-use Rattle.model.proofs.Same.{distinct_absent, IsDistinct-append}
+use Rattle.model.proofs.Same.{distinct_absent}
 use Rattle.layout.specs.Object.{Raw}
 use Rattle.block_pool.specs.BlockValue.{BlockValue}
 use Rattle.block_pool.specs.PoolValue.{without}
 use Rattle.block_table.specs.Installed.{is_installed_at, installed}
 use Rattle.block_table.proofs.Installed.{numbers_of, none_installed, distinct_rest}
-use Rattle.block_table.proofs.Areas.{has-push, has-without, contains-has}
+use Rattle.block_table.proofs.Areas.{has-without, contains-has}
 
-pub record Installing (all rest : List BlockValue) (old now : List (Option BlockValue)) (before free area : List ℕ) : Type 0 where
+pub record Installing (all rest : List BlockValue) (old now : List (Option BlockValue)) (before free : List ℕ) : Type 0 where
   pub done : List BlockValue
   pub whole : all ≡ rest ++ done
   pub slots : (n : ℕ) → get_or now n None ≡ cond (is_some (installed done n)) (installed done n) (get_or old n None)
   pub free_is : (n : ℕ) → has free n ≡ (has before n && not (is_some (installed done n)))
-  pub area_is : (n : ℕ) → has area n ≡ is_some (installed done n)
-  pub once : IsDistinct nat_eq area
 
 and_yes : (b : Bool) → b ≡ (b && true)
 and_yes true = refl
@@ -33,24 +29,13 @@ pub none_distinct : IsDistinct nat_eq []
 unfolding IsDistinct
 none_distinct = tt
 
-no_list : (xs : List ℕ) → length xs ≡ 0 → xs ≡ []
-no_list [] e = refl
-no_list (x ∷ xs) e = absurd (omega arith)
-
-pub Installing-none : (all : List BlockValue) (old : List (Option BlockValue)) (before area : List ℕ) → length area ≡ 0 → Installing all all old old before before area
-Installing-none all old before area empty =
-    let none : area ≡ [] = no_list area empty in
-    record {
-      done = [];
-      whole = sym (append-nil all);
-      slots = λ n. refl;
-      free_is = λ n. and_yes (has before n);
-      area_is = λ n. rw none refl;
-      once = rw none none_distinct;
-    }
-
-one_distinct : (x : ℕ) → IsDistinct nat_eq (x ∷ [])
-one_distinct x = IsDistinct-push nat_eq_equiv [] x none_distinct refl
+pub Installing-none : (all : List BlockValue) (old : List (Option BlockValue)) (before : List ℕ) → Installing all all old old before before
+Installing-none all old before = record {
+  done = [];
+  whole = sym (append-nil all);
+  slots = λ n. refl;
+  free_is = λ n. and_yes (has before n);
+}
 
 pub All-middle : {X : Type 0} (P : X → Type 0) (xs : List X) (y : X) (ys : List X) → All P (xs ++ y ∷ ys) → P y
 All-middle P xs y ys all = subst P (get_or-append_seam xs y ys y) (all (length xs) y (omega (arith, length-append xs (y ∷ ys))))
@@ -59,7 +44,7 @@ distinct_after : (xs : List BlockValue) (b : BlockValue) (ys : List BlockValue) 
 distinct_after [] b ys once = distinct_absent b.number (numbers_of ys) once
 distinct_after (x ∷ xs) b ys once = distinct_after xs b ys (distinct_rest x.number (numbers_of (xs ++ b ∷ ys)) once)
 
-module _ (all rest rest' : List BlockValue) (b : BlockValue) (old now : List (Option BlockValue)) (before free area : List ℕ) (was : rest ≡ rest' ++ b ∷ []) (so_far : Installing all rest old now before free area) where
+module _ (all rest rest' : List BlockValue) (b : BlockValue) (old now : List (Option BlockValue)) (before free : List ℕ) (was : rest ≡ rest' ++ b ∷ []) (so_far : Installing all rest old now before free) where
   pub whole_is : all ≡ rest' ++ b ∷ so_far.done
   whole_is = so_far.whole ∙ ap (λ xs. xs ++ so_far.done) was ∙ append_assoc rest' (b ∷ []) so_far.done
 
@@ -77,14 +62,12 @@ module _ (all rest rest' : List BlockValue) (b : BlockValue) (old now : List (Op
       go true e = absurd (true≢false e)
       go false e = refl
 
-  pub Installing-skip : b.objects ≡ [] → Installing all rest' old now before free area
+  pub Installing-skip : b.objects ≡ [] → Installing all rest' old now before free
   Installing-skip none = record {
     done = b ∷ so_far.done;
     whole = whole_is;
     slots = λ n. so_far.slots n ∙ sym (ap (λ o. cond (is_some o) o (get_or old n None)) (skipped n none));
     free_is = λ n. so_far.free_is n ∙ sym (ap (λ o. has before n && not (is_some o)) (skipped n none));
-    area_is = λ n. so_far.area_is n ∙ sym (ap is_some (skipped n none));
-    once = so_far.once;
   }
 
   module _ (once : IsDistinct nat_eq (numbers_of all)) (some : 0 < length b.objects) where
@@ -106,7 +89,7 @@ module _ (all rest rest' : List BlockValue) (b : BlockValue) (old now : List (Op
     pub still_free : has before b.number ≡ true → Contains free b.number
     still_free was_free = contains-has free b.number (so_far.free_is b.number ∙ ap (λ t. t && not (is_some (installed so_far.done b.number))) was_free ∙ ap (λ o. true && not (is_some o)) absent)
 
-    pub Installing-put : b.number < length now → has before b.number ≡ true → Installing all rest' old (set now b.number (Some b)) before (without b.number free) (area ++ b.number ∷ [])
+    pub Installing-put : b.number < length now → has before b.number ≡ true → Installing all rest' old (set now b.number (Some b)) before (without b.number free)
     Installing-put room was_free = record {
       done = b ∷ so_far.done;
       whole = whole_is;
@@ -119,30 +102,14 @@ module _ (all rest rest' : List BlockValue) (b : BlockValue) (old now : List (Op
           (λ e. ap (λ t. has free n && not t) (eq-eqb n b.number e) ∙ never (has free n) ∙ sym (ap (λ m. has before n && not (is_some (installed (b ∷ so_far.done) m))) e ∙ ap (λ o. has before n && not (is_some o)) here ∙ never (has before n)))
           (λ ne. ap (λ t. has free n && not t) (ne_eqb n b.number ne) ∙ sym (and_yes (has free n)) ∙ so_far.free_is n ∙ sym (ap (λ o. has before n && not (is_some o)) (elsewhere n ne)))
           (cases_eq n b.number);
-      area_is = λ n. has-push area b.number n ∙ ⊎_elim
-          (λ e. ap (λ t. has area n || t) (eq-eqb n b.number e) ∙ or_yes (has area n) ∙ sym (ap (λ m. is_some (installed (b ∷ so_far.done) m)) e ∙ ap is_some here))
-          (λ ne. ap (λ t. has area n || t) (ne_eqb n b.number ne) ∙ or_none (has area n) ∙ so_far.area_is n ∙ sym (ap is_some (elsewhere n ne)))
-          (cases_eq n b.number);
-      once = IsDistinct-append area (b.number ∷ []) so_far.once (one_distinct b.number) (λ q h. alone q (so_far.area_is b.number ∙ ap is_some absent) h);
     }
       where
         never : (t : Bool) → (t && not true) ≡ false
         never true = refl
         never false = refl
 
-        or_yes : (t : Bool) → (t || true) ≡ true
-        or_yes true = refl
-        or_yes false = refl
-
-        or_none : (t : Bool) → (t || false) ≡ t
-        or_none true = refl
-        or_none false = refl
-
-        alone : (q : ℕ) → has area b.number ≡ false → has area q ≡ true → has (b.number ∷ []) q ≡ false
-        alone q none h = ap (λ t. t || false) (ne_eqb q b.number (λ e. true≢false (sym h ∙ ap (has area) e ∙ none)))
-
-pub Installing-all : (all rest : List BlockValue) (old now : List (Option BlockValue)) (before free area : List ℕ) → rest ≡ [] → (so_far : Installing all rest old now before free area) → so_far.done ≡ all
-Installing-all all rest old now before free area none so_far = sym (so_far.whole ∙ ap (λ xs. xs ++ so_far.done) none)
+pub Installing-all : (all rest : List BlockValue) (old now : List (Option BlockValue)) (before free : List ℕ) → rest ≡ [] → (so_far : Installing all rest old now before free) → so_far.done ≡ all
+Installing-all all rest old now before free none so_far = sym (so_far.whole ∙ ap (λ xs. xs ++ so_far.done) none)
 
 pub some_object : (block : BlockValue) → ¬ (block.objects ≡ []) → 0 < length block.objects
 some_object block other = go block.objects other

@@ -9,5 +9,11 @@ pub mod TableReads
 pub mod Installed
 pub mod Areas
 pub mod Installing
-pub mod PlainBlocks
+pub mod SmallBlocks
 pub mod CanCommit
+pub mod YoungBlocks
+pub mod StepBlocks
+pub mod Numbers
+pub mod GraphObjects
+pub mod FieldSlots
+pub mod Remembering

@@ -17,7 +17,7 @@ use Rattle.block_table.proofs.TableLemmas.{TableFits, TableFits-rest, slot_objec
 abbrev pub names_of : List (ℕ × Object) → List ℕ
 names_of es = map (λ e. e.0) es
 
-names_of-append : (xs ys : List (ℕ × Object)) → names_of (xs ++ ys) ≡ names_of xs ++ names_of ys
+pub names_of-append : (xs ys : List (ℕ × Object)) → names_of (xs ++ ys) ≡ names_of xs ++ names_of ys
 names_of-append [] ys = refl
 names_of-append (x ∷ xs) ys = ap (λ ns. x.0 ∷ ns) (names_of-append xs ys)
 

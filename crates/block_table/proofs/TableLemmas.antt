@@ -1,5 +1,5 @@
 -- Which block a place's object is in.
-use Rattle.std.proofs.Common.{◌≡◌, ℕ, zero, suc, ◌+◌, ◌-◌, ◌/◌, ◌<◌, ◌≤◌, List, [], ◌∷◌, Option, Some, None, sum_by, refl, ◌∙◌, arith, ⊎_elim, ◌⊎◌, inl, inr}
+use Rattle.std.proofs.Common.{◌≡◌, ℕ, zero, suc, ◌+◌, ◌-◌, ◌/◌, ◌<◌, ◌≤◌, List, [], ◌∷◌, Option, Some, None, sum_by, refl, sym, ◌∙◌, arith, ⊎_elim, ◌⊎◌, inl, inr}
 use Rattle.std.proofs.lemmas.Bool.{cases_lt}
 use Rattle.std.proofs.lemmas.List.Sums.{sum_by-cons}
 use Rattle.std.specs.Ordering.{nat_cmp}
@@ -8,8 +8,9 @@ use Rattle.model.specs.Graph.{Object}
 use Rattle.layout.specs.Object.{Raw, raw_size}
 use Rattle.layout.specs.Place.{small_word}
 use Rattle.block_pool.specs.BlockValue.{BlockValue, used_of}
-use Rattle.heap_data.specs.BlockObjects.{objects_from}
+use Rattle.heap_data.specs.BlockObjects.{objects_from, block_objects}
 use Rattle.block_table.specs.Table.{slot_at, slot_objects, table_objects}
+use Rattle.model.proofs.Options.{some_not_none}
 use Rattle.model.proofs.Finds.{KeysWithin, KeysWithin-weaken, find_below, find_above, find_in_first, find_in_second}
 
 -- the objects lie between the first word and the end
@@ -68,6 +69,17 @@ pub find-at : (table : List (Option BlockValue)) (n q : ℕ) → TableFits table
 find-at table n q fits word =
     let none : 0 + n ≡ n = omega arith in
     rw none at (find-table 0 table n q fits (omega (arith, word.low)) (omega (arith, word.high)))
+
+-- what is found in a block is at one of its words
+pub found_word : (number : ℕ) (block : BlockValue) (q : ℕ) (o : Object) → used_of block ≤ 512 → find nat_cmp q (block_objects number block) ≡ Some o → IsWordOf number q
+found_word number block q o fits is =
+    ⊎_elim
+    (λ lt. absurd (some_not_none (sym is ∙ find_below q _ _ _ (slot_objects-within number (Some block) fits) lt)))
+    (λ ge. ⊎_elim
+    (λ lt. record { low = ge; high = lt })
+    (λ above. absurd (some_not_none (sym is ∙ find_above q _ _ _ (slot_objects-within number (Some block) fits) above)))
+    (cases_lt q (small_word (number + 1) 0)))
+    (cases_lt q (small_word number 0))
 
 -- every word is below the first block, or a word of one
 pub word_cases : (q : ℕ) → (q < small_word 0 0) ⊎ ((n : ℕ) × IsWordOf n q)

@@ -4,7 +4,7 @@ use Rattle.std.proofs.lemmas.Bool.{cases_eq}
 use Rattle.std.proofs.lemmas.List.Sums.{sum_by-cons}
 use Rattle.std.specs.Ordering.{nat_cmp}
 use Rattle.std.specs.Cmp.{nat_cmp_total}
-use Rattle.std.specs.FinMap.{FinMap, find, get, insert, entries, from_entries, get-from_entries}
+use Rattle.std.specs.FinMap.{find, get, insert, entries, get-from_entries}
 use Rattle.model.specs.Graph.{Object}
 use Rattle.model.proofs.NatMap.{find_same, find_other, same_nat_map, get-insert_same, get-insert_other}
 use Rattle.model.proofs.Rising.{KeysRise, KeysBelow, KeysRise-append, KeysRise-weaker, entries-from_entries}
@@ -12,12 +12,9 @@ use Rattle.layout.specs.Object.{Raw, raw_size}
 use Rattle.layout.specs.Place.{small_word}
 use Rattle.block_pool.specs.BlockValue.{BlockValue, used_of}
 use Rattle.heap_data.specs.BlockObjects.{object_of, objects_from, block_objects}
-use Rattle.block_table.specs.Table.{slot_at, slot_objects, table_objects, with_more}
+use Rattle.block_table.specs.Table.{slot_at, slot_objects, table_objects, objects_map, with_more}
 use Rattle.model.proofs.Finds.{find-append, or_else, find_above}
 use Rattle.block_table.proofs.TableLemmas.{SlotFits, TableFits, TableFits-rest, IsWordOf, find-at, word_cases, find-first, object_in, objects_from-within}
-
-abbrev pub objects_map : List (Option BlockValue) → FinMap nat_cmp Object
-objects_map table = from_entries (table_objects 0 table)
 
 pub get-objects_map : (table : List (Option BlockValue)) (q : ℕ) → get (objects_map table) q ≡ object_in table q
 get-objects_map table q = get-from_entries nat_cmp_total (table_objects 0 table) q

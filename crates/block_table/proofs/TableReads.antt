@@ -1,5 +1,5 @@
 -- What a function that reads or changes the table block by block knows of the block that it found.
-use Rattle.std.proofs.Common.{◌≡◌, ◌≢◌, ℕ, ◌+◌, ◌*◌, ◌<◌, ◌≤◌, Bool, true, false, cond, List, [], ◌∷◌, ◌++◌, length, take, get_or, Option, Some, None, sum_by, max, refl, sym, ap, ◌∙◌, arith, ⊎_elim, length-append}
+use Rattle.std.proofs.Common.{◌≡◌, ◌≢◌, ℕ, ◌+◌, ◌*◌, ◌<◌, ◌≤◌, Bool, true, false, cond, List, [], ◌∷◌, ◌++◌, length, take, get_or, Option, Some, None, sum_by, max, take_all, refl, sym, ap, ◌∙◌, arith, ⊎_elim, length-append}
 use Rattle.std.proofs.lemmas.Bool.{cases_lt}
 use Rattle.std.proofs.lemmas.Bool.Decides.{nat_tests}
 use Rattle.std.proofs.lemmas.List.Sums.{sum_by_more}
@@ -63,9 +63,8 @@ pub record HasCounted (table : List (Option BlockValue)) (bases : List ℕ) (i o
   pub objects_are : objects ≡ sum_by slot_len (take i table)
   pub few : objects ≤ i * 512
 
-pub counted_more : (table : List (Option BlockValue)) (bases : List ℕ) (i objects size more : ℕ) (slot : Option BlockValue) → i < length table → slot ≡ get_or table i slot → slot_len slot ≡ size → size ≤ 512 → more ≡ objects + size → HasCounted table bases i objects → HasCounted table (bases ++ objects ∷ []) (i + 1) more
-counted_more table bases i objects size more slot lt is len most sum so_far =
-    let here : slot_len (get_or table i None) ≡ size = ap slot_len (get_or_any table i None slot lt ∙ sym is) ∙ len in
+pub counted_more : (table : List (Option BlockValue)) (bases : List ℕ) (i objects size more : ℕ) → i < length table → slot_len (get_or table i None) ≡ size → size ≤ 512 → more ≡ objects + size → HasCounted table bases i objects → HasCounted table (bases ++ objects ∷ []) (i + 1) more
+counted_more table bases i objects size more lt here most sum so_far =
     let each = push_each (λ b x. x ≡ objects_before table b) bases objects 0 (λ b h. so_far.each b (omega (arith, so_far.len))) (so_far.objects_are ∙ ap (objects_before table) (sym so_far.len)) in
     record {
       len = omega (arith, length-append bases (objects ∷ []), so_far.len);
@@ -73,3 +72,6 @@ counted_more table bases i objects size more slot lt is len most sum so_far =
       objects_are = omega (arith, sum_by_more slot_len table i None lt, here, sum, so_far.objects_are);
       few = omega (arith, sum, so_far.few, most);
     }
+
+pub sum-all : (f : Option BlockValue → ℕ) (table : List (Option BlockValue)) (i : ℕ) → length table ≤ i → sum_by f (take i table) ≡ sum_by f table
+sum-all f table i le = ap (sum_by f) (take_all i table le)

@@ -2,3 +2,4 @@
 pub mod Table
 pub mod Installed
 pub mod Begins
+pub mod TableGraph

@@ -1,7 +1,10 @@
 -- The objects of the blocks of a heap, by place.
-use Rattle.std.specs.Prelude.{◌≡◌, ℕ, ◌+◌, ◌/◌, ◌≤◌, List, [], ◌∷◌, ◌++◌, length, Option, Some, None, take, sum_by, length, slice_index_or}
+use Rattle.std.specs.Prelude.{◌≡◌, ℕ, ◌+◌, ◌/◌, ◌≤◌, List, [], ◌∷◌, ◌++◌, length, map, Option, Some, None, IsSome, take, sum_by, slice_get, slice_index_or, nat_eq, nat_le, ◌&&◌, if◌then◌else◌}
+use Rattle.std.specs.Ordering.{nat_cmp}
+use Rattle.std.specs.FinMap.{FinMap, from_entries, get}
 use Rattle.model.specs.Graph.{Object}
 use Rattle.model.specs.Config.{Config}
+use Rattle.model.specs.Destination.{IsStep}
 use Rattle.layout.specs.Object.{Raw, raw_size}
 use Rattle.block_pool.specs.BlockValue.{BlockValue, used_of}
 use Rattle.heap_data.specs.BlockObjects.{block_objects}
@@ -24,14 +27,39 @@ abbrev pub AreSmall : ℕ → List Raw → Type 0
 AreSmall block_words [] = Unit {0}
 AreSmall block_words (raw ∷ raws) = (raw_size raw ≤ block_words / 4) × AreSmall block_words raws
 
--- a block of the heap with that number, of the one generation that there is today
+-- a block of the heap with that number
 pub record IsHeapBlock (config : Config) (number : ℕ) (block : BlockValue) : Type 0 where
   pub number_is : block.number ≡ number
   pub words : block.words ≡ config.block_words
-  pub generation : block.generation ≡ 0
-  pub step : block.step ≡ 0
+  pub step : IsStep config.shape (block.generation, block.step)
   pub fits : used_of block ≤ config.block_words
   pub objects : AreSmall config.block_words block.objects
+
+-- each block is one of the heap's, where the first has this number
+abbrev pub AreHeapBlocks : Config → ℕ → List (Option BlockValue) → Type 0
+AreHeapBlocks config number table = (n : ℕ) (block : BlockValue) → slot_at table n ≡ Some block → IsHeapBlock config (number + n) block
+
+-- the objects of the blocks by place
+abbrev pub objects_map : List (Option BlockValue) → FinMap nat_cmp Object
+objects_map table = from_entries (table_objects 0 table)
+
+-- each pointer of an object leads to an object
+abbrev pub IsClosedTable : List (Option BlockValue) → Type 0
+IsClosedTable table = (name i target : ℕ) (o : Object) → get (objects_map table) name ≡ Some o → slice_get o.pointers i ≡ Some (Some target) → IsSome (get (objects_map table) target)
+
+-- the block where its generation is at most g
+abbrev pub young_slot : ℕ → Option BlockValue → Option BlockValue
+young_slot g None = None
+young_slot g (Some block) = if nat_le block.generation g then Some block else None
+
+-- the blocks of the generations 0 to g
+abbrev pub young_table : ℕ → List (Option BlockValue) → List (Option BlockValue)
+young_table g table = map (young_slot g) table
+
+-- the block where it is of that generation and step
+abbrev pub step_slot : ℕ × ℕ → Option BlockValue → Option BlockValue
+step_slot at None = None
+step_slot at (Some block) = if nat_eq block.generation at.0 && nat_eq block.step at.1 then Some block else None
 
 -- a block with one object more
 abbrev pub with_more : BlockValue → Raw → BlockValue

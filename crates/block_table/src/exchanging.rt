@@ -1,5 +1,5 @@
 //! How a collection changes the table of blocks.
-ghost use Rattle.std.specs.Prelude.{◌≡◌, ℕ, ◌+◌, ◌<◌, ◌≤◌, None, Some, slice_set, true, false, length, nat_eq, nat_lt, vec_len, map, slice_index_or, vec_capacity, OnOk, max, All, ◌||◌, ◌&&◌, not, is_some, if◌then◌else◌};
+ghost use Rattle.std.specs.Prelude.{◌≡◌, ℕ, ◌+◌, ◌<◌, ◌≤◌, None, Some, slice_set, true, false, length, nat_eq, nat_lt, map, slice_index_or, OnOk, max, All, ◌||◌, ◌&&◌, not, is_some, if◌then◌else◌};
 ghost use Rattle.std.specs.List.{IsDistinct};
 ghost use Rattle.model.specs.Reached.{has};
 ghost use Rattle.block_table.specs.Table.{cleared};
@@ -85,33 +85,26 @@ pub fn grow<A: Allocator>(table: &mut Table<A>, len: usize) -> Result<(), AllocE
     Ok(())
 }
 
-/// Puts the blocks that hold some object into the table and the area, and drops the others.
+/// Puts the blocks that hold some object into the table, and drops the others.
 fn install<A: Allocator>(
     table: &mut [Option<Block<A>>],
     pool: &mut Pool<A>,
-    area: &mut Vec<u32, A>,
     blocks: Vec<Block<A>, A>,
 )
     requires in_table { All (λ block. block.number < length table.old) blocks.items }
     requires free { All (λ block. has pool.old.free block.number ≡ true) blocks.items }
     requires once { IsDistinct nat_eq (map (λ block. block.number) blocks.items) }
-    requires empty { vec_len area.old ≡ 0 }
-    requires room { vec_len blocks ≤ vec_capacity area.old }
     ensures table { (n : ℕ) → slice_index_or table.new n None
         ≡ (if is_some (installed blocks.items n) then installed blocks.items n else slice_index_or table.old n None) }
     ensures free { (n : ℕ) → has pool.new.free n ≡ (has pool.old.free n && not (is_some (installed blocks.items n))) }
     ensures limit { pool.new.limit ≡ pool.old.limit }
-    ensures area { (n : ℕ) → has area.new.items n ≡ is_some (installed blocks.items n) }
-    ensures area_once { IsDistinct nat_eq area.new.items }
 {
     let mut blocks = blocks;
     while let Some(block) = blocks.pop() {
         if block.is_empty() {
             continue;
         }
-        let number = block.number();
-        pool.take(number);
-        area.push_reserved(number);
+        pool.take(block.number());
         put_block(table, block);
     }
 }
@@ -122,7 +115,6 @@ pub fn exchange<A: Allocator>(
     pool: &mut Pool<A>,
     count: usize,
     old_area: &[u32],
-    area: &mut Vec<u32, A>,
     blocks: Vec<Block<A>, A>,
 )
     requires count { count ≤ length table.old }
@@ -133,8 +125,6 @@ pub fn exchange<A: Allocator>(
     requires blocks_in_table { All (λ block. block.number < length table.old) blocks.items }
     requires free { All (λ block. has pool.old.free block.number ≡ true) blocks.items }
     requires once { IsDistinct nat_eq (map (λ block. block.number) blocks.items) }
-    requires empty { vec_len area.old ≡ 0 }
-    requires room { vec_len blocks ≤ vec_capacity area.old }
     ensures table { (n : ℕ) → slice_index_or table.new n None
         ≡ (if is_some (installed blocks.items n) then installed blocks.items n
         else (if has old_area.now n then None
@@ -142,10 +132,8 @@ pub fn exchange<A: Allocator>(
     ensures free { (n : ℕ) → has pool.new.free n
         ≡ ((has old_area.now n || has pool.old.free n) && not (is_some (installed blocks.items n))) }
     ensures limit { pool.new.limit ≡ pool.old.limit }
-    ensures area { (n : ℕ) → has area.new.items n ≡ is_some (installed blocks.items n) }
-    ensures area_once { IsDistinct nat_eq area.new.items }
 {
     clear_blocks(table, count);
     drop_area(table, pool, old_area);
-    install(table, pool, area, blocks);
+    install(table, pool, blocks);
 }

@@ -1,10 +1,15 @@
 //! The table of a heap's blocks by number, and how a collection changes it.
 #![tactic(auto)]
 
+mod counts;
 mod exchanging;
+mod old_slots;
+mod remembered;
 mod table;
+mod targets;
 
+pub use counts::{bases, count_step, young_blocks};
 pub use exchanging::{end_of, exchange, grow};
-pub use table::{
-    Table, bases, block_object, count_blocks, object_from, ordinal_at, set_plain, set_pointer,
-};
+pub use old_slots::push_old_slots;
+pub use remembered::count_remembered;
+pub use table::{Table, block_object, object_from, ordinal_at, set_plain, set_pointer, step_at};

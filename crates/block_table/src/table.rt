@@ -1,15 +1,15 @@
 //! The table of a heap's blocks, by number.
-ghost use Rattle.std.specs.Prelude.{◌≡◌, ◌≢◌, ℕ, ◌+◌, ◌<◌, ◌≤◌, Some, None, length, IfOk, IfSome, IfNone, sum_by, slice_get, slice_index, slice_set, slice_index_or};
+ghost use Rattle.std.specs.Prelude.{◌≡◌, ◌≢◌, ℕ, ◌+◌, ◌<◌, ◌≤◌, Some, None, length, IfSome, IfNone, slice_get, slice_set, slice_index_or};
 ghost use Rattle.layout.specs.Object.{Raw};
 ghost use Rattle.layout.specs.ObjectRef.{raw_of};
 ghost use Rattle.block_pool.specs.BlockValue.{BlockValue, offset_of, with_pointer_word, with_plain_word};
 ghost use Rattle.block_table.specs.Begins.{HasObjectAt};
-ghost use Rattle.block_table.specs.Table.{slot_len, slot_words, objects_before};
+ghost use Rattle.steps.specs.StepPairs.{step_pair};
 
 use block_pool::Block;
-use heap_data::StepCount;
 use layout::ObjectRef;
-use std::alloc::{AllocError, Allocator};
+use std::alloc::Allocator;
+use steps::StepId;
 
 /// Blocks by number, where there is one.
 pub type Table<A> = Vec<Option<Block<A>>, A>;
@@ -134,43 +134,19 @@ pub fn ordinal_at<A: Allocator>(table: &[Option<Block<A>>], number: usize, offse
     }
 }
 
-/// How many objects the blocks hold, and how many words these take.
-pub fn count_blocks<A: Allocator>(table: &[Option<Block<A>>]) -> StepCount
-    requires short { length table.now ≤ 65535 }
-    ensures generation { result.generation ≡ 0 }
-    ensures step { result.step ≡ 0 }
-    ensures objects { result.objects ≡ sum_by slot_len table.now }
-    ensures words { result.words ≡ sum_by slot_words table.now }
+/// The generation and step of a block.
+pub fn step_at<A: Allocator>(table: &[Option<Block<A>>], number: usize) -> StepId
+    requires in_range { number < length table.now }
+    ensures { (block : BlockValue) → slice_index_or table.now number None ≡ Some block → step_pair result ≡ (block.generation, block.step) }
 {
-    let mut count = StepCount::default();
-    for slot in table {
-        if let Some(block) = slot {
-            let _words = block.words();
-            count.objects += block.len() as u64;
-            count.words += block.used() as u64;
-        }
+    match &table[number] {
+        Some(block) => StepId {
+            generation: block.generation(),
+            step: block.step(),
+        },
+        None => StepId {
+            generation: 0,
+            step: 0,
+        },
     }
-    count
-}
-
-/// How many objects the blocks before each one hold, and how many all hold.
-pub fn bases<A: Allocator, B: Allocator>(
-    alloc: B,
-    table: &[Option<Block<A>>],
-) -> Result<(Vec<u32, B>, u32), AllocError>
-    requires short { length table.now ≤ 65535 }
-    ensures len { IfOk result (λ r. length r.0.items ≡ length table.now) }
-    ensures bases { IfOk result (λ r. (b : ℕ) → b < length table.now → slice_index r.0.items b ≡ objects_before table.now b) }
-    ensures all { IfOk result (λ r. r.1 ≡ sum_by slot_len table.now) }
-{
-    let mut bases = Vec::with_capacity(alloc, table.len())?;
-    let mut objects = 0;
-    for slot in table {
-        bases.push(objects)?;
-        if let Some(block) = slot {
-            let _words = block.words();
-            objects += block.len() as u32;
-        }
-    }
-    Ok((bases, objects))
 }

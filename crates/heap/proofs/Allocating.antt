@@ -11,9 +11,9 @@ use Rattle.heap_space.specs.Space.{SpaceValue, SpaceAllocates}
 use Rattle.heap.specs.Commands.{Allocates}
 use Rattle.heap.proofs.RootMap.{get-roots}
 
-pub allocates_is : (old new : SpaceValue) (slots slots' : List (Option Place)) (mutator p q key name : ℕ) → mutator ≡ 0 → SpaceAllocates old p q name new → slice_index_or slots key None ≡ None → roots_map slots' ≡ insert (roots_map slots) key name → Allocates (heap_of old slots) mutator p q key (heap_of new slots')
-allocates_is old new slots slots' mutator p q key name first more vacant roots =
-    rw (first, more.change) record {
+pub allocates_is : (old new : SpaceValue) (slots slots' : List (Option Place)) (mutator p q key name : ℕ) → SpaceAllocates old mutator p q name new → slice_index_or slots key None ≡ None → roots_map slots' ≡ insert (roots_map slots) key name → Allocates (heap_of old slots) mutator p q key (heap_of new slots')
+allocates_is old new slots slots' mutator p q key name more vacant roots =
+    rw more.change record {
       name = name;
       room = more.room;
       new_name = more.new_name;

@@ -1,56 +1,47 @@
 -- A heap as its blocks and roots show it.
-use Rattle.std.proofs.Common.{◌≡◌, ℕ, ◌-◌, ◌*◌, cond, List, [], ◌∷◌, length, map, filter, replicate, Option, sum_by, refl, sym, ap, ◌∙◌, arith}
-use Rattle.std.specs.Prelude.{is_some}
-use Rattle.std.specs.Option.{option_map}
-use Rattle.std.specs.FinMap.{empty}
+use Rattle.std.proofs.Common.{◌≡◌, ℕ, ◌-◌, ◌/◌, ◌<◌, ◌≤◌, Bool, true, false, cond, List, [], ◌∷◌, length, map, replicate, Option, Some, sum_by, refl, sym, ap, ◌∙◌, arith}
+use Rattle.std.proofs.lemmas.Bool.Decides.{nat_tests}
+use Rattle.std.specs.Prelude.{filter, nat_lt}
+use Rattle.std.specs.Ordering.{nat_cmp}
+use Rattle.std.specs.FinMap.{FinMap, empty, get, entries, values, get-entries, entries_sorted}
 use Rattle.model.specs.Config.{Config}
-use Rattle.model.specs.Graph.{Object, size_of, is_large, IsClosed}
+use Rattle.model.specs.Graph.{Object, size_of, is_large}
 use Rattle.model.specs.Census.{Census, StepCount, census_of, points_younger, step_count}
 use Rattle.model.specs.Destination.{all_steps, numbers_from}
-use Rattle.model.specs.Room.{full_room}
 use Rattle.model.specs.Slots.{slots_from}
-use Rattle.layout.specs.declared.place.Place.{Place}
-use Rattle.layout.specs.Place.{place_word}
-use Rattle.steps.specs.ConfigRange.{IsInRange}
+use Rattle.model.specs.Store.{full_rooms}
+use Rattle.model.proofs.Among.{Among}
+use Rattle.model.proofs.OldSlotsExact.{entry_found}
 use Rattle.heap_data.specs.HeapValue.{HeapValue, empty_heap, nursery_count}
-use Rattle.heap.specs.HeapView.{heap_of, LeadsToObjects}
-use Rattle.heap_data.specs.Plain.{ArePlain}
+use Rattle.heap.specs.HeapView.{heap_of}
 use Rattle.heap.specs.Roots.{roots_map}
-use Rattle.heap_space.specs.Space.{SpaceValue, empty_space}
-use Rattle.heap_data.proofs.PlainObjects.{all_small, none_large, none_remembered}
-use Rattle.heap.proofs.RootMap.{get-roots}
+use Rattle.heap_space.specs.Space.{empty_space}
+use Rattle.std.proofs.Common.{inl, inr}
 
 empty_roots : roots_map [] ≡ empty
 unfolding slots_from
 empty_roots = refl
 
 -- an empty space with no root is an empty heap
-pub empty_view : (config : Config) → IsInRange config → heap_of (empty_space config) [] ≡ empty_heap config
-empty_view config in_range =
-    let count : nursery_count config ≡ config.nursery_blocks = ap (λ m. m * config.nursery_blocks) in_range.one_mutator ∙ omega arith in
-    let rooms : full_room config.nursery_blocks ∷ [] ≡ replicate config.mutators (full_room config.nursery_blocks) = ap (λ m. replicate m (full_room config.nursery_blocks)) (sym in_range.one_mutator) in
-    ap (λ r. let h : HeapValue = record { config = config; graph = record { objects = empty; roots = r }; rooms = full_room config.nursery_blocks ∷ []; free = numbers_from config.nursery_blocks (config.blocks - config.nursery_blocks); large_blocks = empty; remembered = replicate config.shape.generations [] } in h) empty_roots
-    ∙ ap (λ r. let h : HeapValue = record { config = config; graph = record { objects = empty; roots = empty }; rooms = r; free = numbers_from config.nursery_blocks (config.blocks - config.nursery_blocks); large_blocks = empty; remembered = replicate config.shape.generations [] } in h) rooms
-    ∙ ap (λ n. let h : HeapValue = record { config = config; graph = record { objects = empty; roots = empty }; rooms = replicate config.mutators (full_room config.nursery_blocks); free = numbers_from n (config.blocks - n); large_blocks = empty; remembered = replicate config.shape.generations [] } in h) (sym count)
+pub empty_view : (config : Config) → heap_of (empty_space config) [] ≡ empty_heap config
+empty_view config =
+    ap (λ r. let h : HeapValue = record { config = config; graph = record { objects = empty; roots = r }; rooms = full_rooms config; free = numbers_from (nursery_count config) (config.blocks - nursery_count config); large_blocks = empty; remembered = replicate config.shape.generations [] } in h) empty_roots
 
--- the census of plain objects has one step
-pub census_is : (config : Config) (object : ℕ → Option Object) (objects : List Object) (roots count words : ℕ) → config.shape.generations ≡ 1 → ArePlain config.block_words objects → count ≡ length objects → words ≡ sum_by size_of objects → census_of config object objects roots ≡ record { steps = record { generation = 0; step = 0; objects = count; words = words } ∷ []; large_objects = 0; large_words = 0; roots = roots; remembered = 0 }
-census_is config object objects roots count words one plain is_count is_words =
-    let steps : all_steps config.shape ≡ (0, 0) ∷ [] = rw one refl in
-    let small = all_small config.block_words objects plain in
-    let large = none_large config.block_words objects plain in
-    let young = none_remembered object config.block_words objects plain in
-    let step : step_count config.block_words objects (0, 0) ≡ record { generation = 0; step = 0; objects = count; words = words } =
-    ap (λ os. let s : StepCount = record { generation = 0; step = 0; objects = length os; words = sum_by size_of os } in s) small
-    ∙ ap (λ n. let s : StepCount = record { generation = 0; step = 0; objects = n; words = sum_by size_of objects } in s) (sym is_count)
-    ∙ ap (λ n. let s : StepCount = record { generation = 0; step = 0; objects = count; words = n } in s) (sym is_words) in
-    ap (λ ss. let c : Census = record { steps = map (step_count config.block_words objects) ss; large_objects = length (filter (is_large config.block_words) objects); large_words = sum_by size_of (filter (is_large config.block_words) objects); roots = roots; remembered = sum_by (λ x. cond (points_younger object x) 1 0) objects } in c) steps
-    ∙ ap (λ s. let c : Census = record { steps = s ∷ []; large_objects = length (filter (is_large config.block_words) objects); large_words = sum_by size_of (filter (is_large config.block_words) objects); roots = roots; remembered = sum_by (λ x. cond (points_younger object x) 1 0) objects } in c) step
-    ∙ ap (λ os. let c : Census = record { steps = record { generation = 0; step = 0; objects = count; words = words } ∷ []; large_objects = length os; large_words = sum_by size_of os; roots = roots; remembered = sum_by (λ x. cond (points_younger object x) 1 0) objects } in c) large
-    ∙ ap (λ n. let c : Census = record { steps = record { generation = 0; step = 0; objects = count; words = words } ∷ []; large_objects = 0; large_words = 0; roots = roots; remembered = n } in c) young
+none_large : (w : ℕ) (es : List (ℕ × Object)) → ((e : ℕ × Object) → Among e es → size_of e.1 ≤ w / 4) → filter (is_large w) (map (λ e. e.1) es) ≡ []
+none_large w [] small = refl
+none_large w (e ∷ es) small =
+    let here : is_large w e.1 ≡ false = not_large (small e (inl refl)) in
+    ap (λ b. cond b (e.1 ∷ filter (is_large w) (map (λ x. x.1) es)) (filter (is_large w) (map (λ x. x.1) es))) here ∙ none_large w es (λ x h. small x (inr h))
+  where
+    not_large : size_of e.1 ≤ w / 4 → is_large w e.1 ≡ false
+    not_large h = grind (arith, nat_tests, h)
 
--- each root leads to an object
-pub leads_is : (space : SpaceValue) (slots : List (Option Place)) → IsClosed (heap_of space slots).graph → LeadsToObjects space slots
-leads_is space slots closed root place is =
-    let there = closed.roots root (place_word place) (get-roots slots root ∙ ap (option_map place_word) is) in
-    ap is_some there.1
+-- where every object is small, the census has no large one
+pub census_is : (config : Config) (objects : FinMap nat_cmp Object) (roots remembered : ℕ) (steps : List StepCount) → ((name : ℕ) (o : Object) → get objects name ≡ Some o → size_of o ≤ config.block_words / 4) → steps ≡ map (step_count config.block_words (values objects)) (all_steps config.shape)
+    → remembered ≡ sum_by (λ x. cond (points_younger (get objects) x) 1 0) (values objects)
+    → census_of config (get objects) (values objects) roots ≡ record { steps = steps; large_objects = 0; large_words = 0; roots = roots; remembered = remembered }
+census_is config objects roots remembered steps small steps_are count =
+    let large : filter (is_large config.block_words) (values objects) ≡ [] = none_large config.block_words (entries objects) (λ e h. small e.0 e.1 (get-entries objects e.0 ∙ entry_found (entries objects) e (entries_sorted objects) h)) in
+    ap (λ ss. let c : Census = record { steps = ss; large_objects = length (filter (is_large config.block_words) (values objects)); large_words = sum_by size_of (filter (is_large config.block_words) (values objects)); roots = roots; remembered = sum_by (λ x. cond (points_younger (get objects) x) 1 0) (values objects) } in c) (sym steps_are)
+    ∙ ap (λ os. let c : Census = record { steps = steps; large_objects = length os; large_words = sum_by size_of os; roots = roots; remembered = sum_by (λ x. cond (points_younger (get objects) x) 1 0) (values objects) } in c) large
+    ∙ ap (λ n. let c : Census = record { steps = steps; large_objects = 0; large_words = 0; roots = roots; remembered = n } in c) (sym count)

@@ -7,8 +7,8 @@ use Rattle.std.proofs.lemmas.Map.Steps.{length-le_from_distinct_below}
 use Rattle.std.specs.Prelude.{All, nat_eq, slice_index}
 use Rattle.std.specs.List.{IsDistinct}
 use Rattle.std.specs.Ordering.{nat_cmp}
-use Rattle.std.specs.FinMap.{get, find}
-use Rattle.model.specs.Graph.{Object}
+use Rattle.std.specs.FinMap.{find}
+use Rattle.model.specs.Graph.{IsClosed}
 use Rattle.model.specs.LiveCount.{LiveCount}
 use Rattle.model.specs.Reached.{has}
 use Rattle.model.proofs.Has.{has_none, has_head, has_tail, has-cons}
@@ -16,10 +16,8 @@ use Rattle.model.proofs.NatMap.{find_same, find_other}
 use Rattle.model.proofs.Same.{IsDistinct-map}
 use Rattle.layout.specs.declared.place.Place.{Place}
 use Rattle.block_pool.specs.BlockValue.{BlockValue}
-use Rattle.steps.specs.ConfigRange.{IsInRange}
 use Rattle.heap.specs.HeapView.{heap_of}
-use Rattle.heap_data.specs.Plain.{IsPlain}
-use Rattle.heap_space.specs.Space.{SpaceValue}
+use Rattle.heap_space.specs.Space.{SpaceValue, IsSpace}
 use Rattle.heap_data.specs.ReportValue.{WorkerLists, all_won, renaming_of}
 use Rattle.heap_data.specs.CollectionValue.{CollectionValue, young_names}
 use Rattle.heap_data.specs.SettledValue.{IsSettled}
@@ -59,11 +57,11 @@ names-renaming names [] = refl
 names-renaming names (e ∷ won) = ap (λ ns. slice_index names e.0 ∷ ns) (names-renaming names won)
 
 module _ (space : SpaceValue) (slots : List (Option Place)) (collection : CollectionValue) (places : List (Option Place)) (blocks : List BlockValue) (workers : List WorkerLists)
-    (in_range : IsInRange space.config)
-    (plain : (name : ℕ) (o : Object) → get space.objects name ≡ Some o → IsPlain space.config.block_words o)
+    (sound : IsSpace space)
+    (closed : IsClosed (heap_of space slots).graph)
     (settled : IsSettled (heap_of space slots) collection places blocks (all_won workers)) where
   low : (q : ℕ) → has (first_of (all_won workers)) q ≡ true → q < length (young_names (heap_of space slots).graph collection.generation)
-  low q h = has_all (λ n. n < length (young_names (heap_of space slots).graph collection.generation)) (all_won workers) q (numbers_named space slots collection places blocks (all_won workers) in_range plain settled) h
+  low q h = has_all (λ n. n < length (young_names (heap_of space slots).graph collection.generation)) (all_won workers) q (numbers_named space slots collection places blocks (all_won workers) sound closed settled) h
 
   pub won_is : sum_by (λ (w : WorkerLists). length w.won) workers ≡ length (all_won workers)
   won_is = sym (length-flat_map (λ (w : WorkerLists). w.won) workers)
@@ -79,7 +77,7 @@ module _ (space : SpaceValue) (slots : List (Option Place)) (collection : Collec
     lists = record {
       distinct = subst (IsDistinct nat_eq) (sym (names-renaming (young_names (heap_of space slots).graph collection.generation) (all_won workers)))
           (IsDistinct-map (slice_index (young_names (heap_of space slots).graph collection.generation)) (first_of (all_won workers))
-          (λ a b ha hb same. named_once space slots collection places blocks (all_won workers) in_range plain settled a b (low a ha) (low b hb) same) settled.once);
+          (λ a b ha hb same. named_once space slots collection places blocks (all_won workers) sound closed settled a b (low a ha) (low b hb) same) settled.once);
       only = λ name h. let found = has_find (renaming_of (young_names (heap_of space slots).graph collection.generation) (all_won workers)) name h in settled.renaming.only_live name found.0 found.1;
       all = λ name live. let at = settled.renaming.all_live name live in find_has (renaming_of (young_names (heap_of space slots).graph collection.generation) (all_won workers)) name at.0 at.1;
     };

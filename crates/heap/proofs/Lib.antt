@@ -4,10 +4,14 @@ pub mod HeapLemmas
 pub mod Allocating
 pub mod Storing
 pub mod RootSlots
+pub mod SoundHeap
 pub mod OpenedHeap
+pub mod FoundHere
 pub mod Rewriting
 pub mod RenamedRoots
 pub mod SettledLemmas
+pub mod FieldsMoved
+pub mod MovedFields
 pub mod Committed
+pub mod Writable
 pub mod KeptCount
-pub mod SoundHeap

@@ -10,12 +10,8 @@ use Rattle.layout.specs.declared.place.Place.{Place}
 use Rattle.layout.specs.Place.{place_word}
 use Rattle.heap.specs.Roots.{roots_map}
 use Rattle.heap.specs.RootView.{root_pair}
-use Rattle.heap.specs.declared.commit.RenamedRoot.{RenamedRoot}
+use Rattle.heap.specs.declared.moves.RenamedRoot.{RenamedRoot}
 use Rattle.heap.proofs.RootMap.{entries-roots, pair_words}
-
--- f takes the name with a number to the word of the new place of that number
-abbrev pub IsNewWord : List ℕ → List (Option Place) → (ℕ → ℕ) → Type 0
-IsNewWord names places f = (number : ℕ) (place : Place) → slice_index_or places number None ≡ Some place → f (slice_index names number) ≡ place_word place
 
 -- the pairs with new words
 abbrev pub pairs_by : (ℕ → ℕ) → List (ℕ × Place) → List (ℕ × ℕ)
@@ -31,16 +27,6 @@ pairs_are_all f slots = sym (ap (map (λ e. (e.0, f e.1))) (entries-roots slots)
 pub pairs_more : (f : ℕ → ℕ) (items : List RenamedRoot) (number : ℕ) (place : Place) (root : RenamedRoot) (rest : List (ℕ × Place)) → root_pair root ≡ (number, f (place_word place)) → map root_pair (items ++ root ∷ []) ++ pairs_by f rest ≡ map root_pair items ++ pairs_by f ((number, place) ∷ rest)
 pairs_more f items number place root rest same =
     rw (map-append root_pair items (root ∷ []), append_assoc (map root_pair items) (root_pair root ∷ []) (pairs_by f rest), same) refl
-
--- an entry in range is the same for each default
-pub same_entry : {X : Type 0} (xs : List X) (i : ℕ) (d e : X) → i < length xs → get_or xs i d ≡ get_or xs i e
-same_entry [] i d e lt = absurd (omega arith)
-same_entry (x ∷ xs) zero d e lt = refl
-same_entry (x ∷ xs) (suc i) d e lt = same_entry xs i d e (omega arith)
-
-pub none_there : {X : Type 0} (o : Option X) → ((x : X) → o ≡ Some x → ⊥) → IsSome o → ⊥
-none_there None not some = cc
-none_there (Some x) not some = not x refl
 
 numbers-pairs : (items : List RenamedRoot) → map (λ r. r.number) items ≡ map (λ e. e.0) (map root_pair items)
 numbers-pairs [] = refl

@@ -3,7 +3,9 @@ use Rattle.std.proofs.Common.{◌≡◌, ℕ, zero, suc, ◌+◌, cond, List, []
 use Rattle.std.proofs.lemmas.Bool.{cases_eq}
 use Rattle.std.specs.Prelude.{is_some, count_by}
 use Rattle.std.specs.Option.{option_map}
-use Rattle.std.specs.FinMap.{get, insert, remove, entries, from_entries, len, len-entries}
+use Rattle.std.specs.FinMap.{get, insert, remove, entries, from_entries, len, len-entries, get-entries, entries_sorted}
+use Rattle.model.proofs.Among.{Among}
+use Rattle.model.proofs.OldSlotsExact.{entry_found}
 use Rattle.std.proofs.lemmas.List.Sums.{sum_by-cons}
 use Rattle.model.specs.Slots.{slots_from}
 use Rattle.model.proofs.NatMap.{same_nat_map, get-insert_same, get-insert_other, get-remove_same, get-remove_other}
@@ -75,3 +77,7 @@ length-pairs i (Some place ∷ slots) = omega (arith, length-pairs (i + 1) slots
 
 pub len-roots : (slots : List (Option Place)) → len (roots_map slots) ≡ count_by is_some slots
 len-roots slots = len-entries (roots_map slots) ∙ ap length (entries-roots slots) ∙ length-pairs 0 slots
+
+-- an entry of the map is what its key finds
+pub entry-root : (slots : List (Option Place)) (e : ℕ × ℕ) → Among e (entries (roots_map slots)) → get (roots_map slots) e.0 ≡ Some e.1
+entry-root slots e h = get-entries (roots_map slots) e.0 ∙ entry_found (entries (roots_map slots)) e (entries_sorted (roots_map slots)) h

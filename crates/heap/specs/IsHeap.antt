@@ -1,21 +1,29 @@
 -- What holds of every heap.
-use Rattle.std.specs.Prelude.{◌≡◌, ℕ, ◌/◌, ◌≤◌, Some}
+use Rattle.std.specs.Prelude.{◌≡◌, ℕ, ◌/◌, ◌≤◌, ◌↔◌, Some, IsTrue, length, All}
+use Rattle.std.specs.List.Sorted.{IsStrictlyIncreasing}
 use Rattle.model.specs.Config.{Config}
 use Rattle.model.specs.Destination.{IsStep}
 use Rattle.model.specs.Graph.{Object, IsClosed, object_at, size_of}
+use Rattle.model.specs.Reached.{has}
+use Rattle.steps.specs.ConfigRange.{IsInRange}
 use Rattle.heap_data.specs.HeapValue.{HeapValue}
-use Rattle.heap_data.specs.Plain.{NamesArePlaces}
-use Rattle.heap_data.specs.CollectionValue.{AreFreeBlocks, FreeBlocksAreEmpty}
+use Rattle.heap_data.specs.CollectedHeap.{IsFreeBlock}
+use Rattle.heap_space.specs.Space.{IsRoom, IsPlace}
 
 -- an object that a heap may hold: at a step of the shape, and small
 pub record IsHeapObject (config : Config) (o : Object) : Type 0 where
   pub step : IsStep config.shape (o.generation, o.step)
   pub small : size_of o ≤ config.block_words / 4
 
--- pointers and roots lead to objects, names are places, and the free blocks are blocks with no object
+-- pointers and roots lead to objects; each object may be one of a heap's, and stands at a small place of a block that
+-- exists; there are as many rooms as mutators, each within its nursery; a block is free exactly when it is one of the
+-- pool's and no object stands in it
 pub record IsHeap (heap : HeapValue) : Type 0 where
+  pub range : IsInRange heap.config
   pub closed : IsClosed heap.graph
   pub objects : (name : ℕ) (o : Object) → object_at heap.graph name ≡ Some o → IsHeapObject heap.config o
-  pub places : NamesArePlaces heap.graph
-  pub free : AreFreeBlocks heap.config.blocks heap.free
-  pub empty : FreeBlocksAreEmpty heap
+  pub places : (name : ℕ) (o : Object) → object_at heap.graph name ≡ Some o → IsPlace heap.config.blocks name
+  pub mutators : length heap.rooms ≡ heap.config.mutators
+  pub rooms : All (IsRoom heap.config) heap.rooms
+  pub free : (block : ℕ) → IsTrue (has heap.free block) ↔ IsFreeBlock heap block
+  pub rising : IsStrictlyIncreasing heap.free

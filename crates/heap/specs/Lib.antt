@@ -5,6 +5,7 @@ pub mod RootView
 pub mod HeapView
 pub mod Found
 pub mod IsHeap
+pub mod Moves
 pub use Rattle.steps.specs.ConfigRange
 pub use Rattle.steps.specs.ConfigView
 pub use Rattle.steps.specs.StepPairs

@@ -1,21 +1,17 @@
 //! What a commit does to the roots, and what it counts.
-ghost use Rattle.std.specs.Prelude.{◌≡◌, ◌≢◌, ℕ, ◌<◌, ◌≤◌, IfOk, IsSome, Option, Some, None, map, length, sum_by, slice_index, slice_index_or, nat_eq, All};
+ghost use Rattle.std.specs.Prelude.{◌≡◌, ◌≢◌, ℕ, ◌<◌, ◌≤◌, None, map, length, sum_by, slice_index_or, nat_eq, All};
 ghost use Rattle.std.specs.Option.{option_map};
 ghost use Rattle.std.specs.List.{IsDistinct};
-ghost use Rattle.std.specs.FinMap.{get, keys, entries};
-ghost use Rattle.layout.specs.Place.{place_word, small_word};
 ghost use Rattle.block_pool.specs.BlockValue.{used_of};
-ghost use Rattle.heap_data.specs.CollectionValue.{rank_below};
-ghost use Rattle.heap.specs.HeapView.{LeadsToObjects};
 ghost use Rattle.heap.specs.RootView.{root_pair};
-ghost use Rattle.heap.specs.Roots.{roots_map, root_word, renamed_word};
+ghost use Rattle.heap.specs.Roots.{root_word, renamed_word};
 
+use crate::moves::RenamedRoot;
 use block_pool::Block;
 use heap_data::WorkerReport;
-use heap_space::Space;
 use layout::Place;
 use slab::Slab;
-use std::alloc::{AllocError, Allocator};
+use std::alloc::Allocator;
 
 /// How many objects the workers won together.
 pub(crate) fn count_won<A: Allocator>(workers: &[WorkerReport<A>]) -> u64
@@ -38,47 +34,6 @@ pub(crate) fn all_fit<A: Allocator>(blocks: &[Block<A>]) -> bool
         fit = block.used() <= block.words() && fit;
     }
     fit
-}
-
-/// A root with its new place.
-#[derive(Clone, Copy, Debug)]
-pub(crate) struct RenamedRoot {
-    pub(crate) number: usize,
-    pub(crate) place: Place,
-}
-
-/// The new place of each root's object, where `places` has one for each number.
-pub(crate) fn renamed_roots<A: Allocator + Clone>(
-    alloc: A,
-    space: &Space<A>,
-    roots: &Slab<Place, A>,
-    bases: &[u32],
-    places: &[Option<Place>],
-) -> Result<Vec<RenamedRoot, A>, AllocError>
-    requires bases { (block : ℕ) → block < length bases.now
-        → slice_index bases.now block ≡ rank_below (small_word block 0) (keys space.now.objects) }
-    requires covers { (block offset : ℕ) → offset < 65536
-        → IsSome (get space.now.objects (small_word block offset)) → block < length bases.now }
-    requires leads { LeadsToObjects space.now roots.now.slots }
-    requires count { length places.now ≡ length (keys space.now.objects) }
-    requires named { (root number : ℕ) (place : Place) → slice_index_or roots.now.slots root None ≡ Some place
-        → number < length places.now → slice_index (keys space.now.objects) number ≡ place_word place
-        → IsSome (slice_index_or places.now number None) }
-    ensures { IfOk result (λ renamed. (f : ℕ → ℕ)
-        → ((number : ℕ) (place : Place) → slice_index_or places.now number None ≡ Some place → f (slice_index (keys space.now.objects) number) ≡ place_word place)
-        → map root_pair renamed.items ≡ map {B = ℕ × ℕ} (λ e. (e.0, f e.1)) (entries (roots_map roots.now.slots))) }
-{
-    let mut renamed = Vec::with_capacity(alloc, roots.len())?;
-    for (root, place) in roots.iter() {
-        let number = space.number_of(bases, *place) as usize;
-        if let Some(new_place) = places[number] {
-            renamed.push(RenamedRoot {
-                number: root,
-                place: new_place,
-            })?;
-        }
-    }
-    Ok(renamed)
 }
 
 fn write_root<A: Allocator>(roots: &mut Slab<Place, A>, number: usize, place: Place)

@@ -13,16 +13,17 @@ ghost use Rattle.model.specs.Live.{IsYoung};
 ghost use Rattle.model.specs.LiveCount.{LiveCount};
 ghost use Rattle.layout.specs.ObjectRef.{raw_of};
 ghost use Rattle.heap_data.specs.Words.{IsShownAs};
-ghost use Rattle.heap_data.specs.Plain.{NamesArePlaces};
 ghost use Rattle.steps.specs.ConfigRange.{IsInRange};
 ghost use Rattle.steps.specs.StepPairs.{step_pair, stands_at};
-ghost use Rattle.heap_data.specs.CollectionValue.{IsOpened, AreFreeBlocks, FreeBlocksAreEmpty, young_names};
+ghost use Rattle.heap_data.specs.CollectionValue.{IsOpened, young_names};
 ghost use Rattle.heap_data.specs.ReportValue.{all_won, renaming_of};
 ghost use Rattle.heap_data.specs.SettledValue.{IsSettled};
 ghost use Rattle.heap_data.specs.CollectedHeap.{CollectedHeap};
 
-use crate::commit::{all_fit, count_won, renamed_roots, write_roots};
+use crate::commit::{all_fit, count_won, write_roots};
+use crate::counts::step_counts;
 use crate::found::Found;
+use crate::moves::{renamed_fields, renamed_roots, write_fields};
 use crate::opening::opened;
 use heap_data::{Census, Collection, Report, RootId, Settled};
 use heap_space::Space;
@@ -110,18 +111,22 @@ impl<A: Allocator + Clone> Heap<A> {
     pub fn new(alloc: A, config: Config) -> Result<Heap<A>, MakeError>
         ensures ok { IfOk result (λ heap. heap ≡ empty_heap config) }
         ensures full { (result ≡ Err MakeError.HeapFull) ↔ (config.blocks < nursery_count config) }
+        ensures sound { IfOk result (λ heap. IsHeap heap) }
     {
-        if config.blocks() < config.nursery_blocks() {
+        if config.blocks() < config.mutators() * config.nursery_blocks() {
             return Err(MakeError::HeapFull);
         }
         let Ok(own) = alloc.clone() else {
             return Err(MakeError::NoMemory);
         };
         match Space::new(own, config) {
-            Ok(space) => Ok(Heap {
-                space,
-                roots: Slab::new(alloc),
-            }),
+            Ok(space) => {
+                let _free = space.free_count();
+                Ok(Heap {
+                    space,
+                    roots: Slab::new(alloc),
+                })
+            }
             Err(_) => Err(MakeError::NoMemory),
         }
     }
@@ -145,13 +150,16 @@ impl<A: Allocator + Clone> Heap<A> {
         if p > MOST_FIELDS || q > MOST_FIELDS || 1 + p + q > config.block_words() as u64 / 4 {
             return Err(AllocateError::TooBig);
         }
-        if !self.space.has_room(1 + p as usize + q as usize) {
+        if !self
+            .space
+            .has_room(mutator as usize, 1 + p as usize + q as usize)
+        {
             return Err(AllocateError::NurseryFull);
         }
         if self.roots.reserve(1).is_err() {
             return Err(AllocateError::NoMemory);
         }
-        match self.space.allocate(p as u32, q as u32) {
+        match self.space.allocate(mutator as usize, p as u32, q as u32) {
             Some(place) => Ok(RootId {
                 number: self.roots.insert_reserved(place),
             }),
@@ -254,8 +262,13 @@ impl<A: Allocator + Clone> Heap<A> {
     pub fn census(&self) -> Census
         ensures { result ≡ heap_census self.now }
     {
-        let _config = self.space.config();
-        Census::of_one_step(self.space.count(), self.roots.len() as u64)
+        let _free = self.space.free_count();
+        let steps = step_counts(&self.space);
+        Census::new(
+            steps,
+            self.roots.len() as u64,
+            self.space.count_remembered(),
+        )
     }
 
     /// The sizes that the heap was made with.
@@ -277,13 +290,7 @@ impl<A: Allocator + Clone> Heap<A> {
     pub fn step_of(&self, place: Place) -> Option<StepId>
         ensures { option_map step_pair result ≡ option_map stands_at (object_at self.now.graph (place_word place)) }
     {
-        match self.space.object(place) {
-            Some(_) => Some(StepId {
-                generation: 0,
-                step: 0,
-            }),
-            None => None,
-        }
+        self.space.step_of(place)
     }
 
     /// Opens a collection of the generations 0 to `g`. The heap stays as it is.
@@ -292,17 +299,13 @@ impl<A: Allocator + Clone> Heap<A> {
         ensures no_generation { (result ≡ Err OpenError.NoGeneration) ↔ (self.now.config.shape.generations ≤ g) }
         // What holds of every heap.
         ensures range { IsInRange self.now.config }
-        ensures closed { IsClosed self.now.graph }
         ensures sound { IsHeap self.now }
-        ensures places { NamesArePlaces self.now.graph }
-        ensures free { AreFreeBlocks self.now.config.blocks self.now.free }
-        ensures empty { FreeBlocksAreEmpty self.now }
     {
         let _free = self.space.free_count();
         if g >= self.space.config().generations() as u64 {
             return Err(OpenError::NoGeneration);
         }
-        match opened(alloc, &self.space, &self.roots) {
+        match opened(alloc, &self.space, &self.roots, g as u8) {
             Ok(collection) => Ok(collection),
             Err(_) => Err(OpenError::NoMemory),
         }
@@ -315,8 +318,8 @@ impl<A: Allocator + Clone> Heap<A> {
         ensures in_range { result < collection.now.cells }
         ensures number { slice_index (young_names self.now.graph collection.now.generation) result ≡ place_word place }
     {
-        let _config = self.space.config();
-        self.space.number_of(collection.bases(), place)
+        self.space
+            .number_of(collection.bases(), collection.generation(), place)
     }
 
     /// The object at a place where there is one, with its generation and step, and with its number in a collection that was
@@ -327,17 +330,10 @@ impl<A: Allocator + Clone> Heap<A> {
         requires there { IsSome (object_at self.now.graph (place_word place)) }
         ensures { IsFound self.now collection.now (place_word place) result }
     {
-        let _config = self.space.config();
-        let (object, number) = self.space.find(collection.bases(), place);
-        let at = StepId {
-            generation: 0,
-            step: 0,
-        };
-        Found {
-            object,
-            at,
-            number: Some(number),
-        }
+        let (object, at, number) = self
+            .space
+            .find(collection.bases(), collection.generation(), place);
+        Found { object, at, number }
     }
 
     /// The same of any place. `None` says that there is no object.
@@ -363,18 +359,18 @@ impl<A: Allocator + Clone> Heap<A> {
             ≡ length (young_names self.old.graph settled.collection.generation)) }
         ensures workers { IfOk result (λ report. report.workers ≡ settled.workers) }
         ensures deliveries { IfOk result (λ report. report.deliveries ≡ settled.deliveries) }
+        ensures sound { IfOk result (λ _. IsHeap self.new) }
         ensures err { OnErr result (self.new ≡ self.old) }
     {
-        let _before = self.space.config();
-        let cells = settled.collection.cells() as u64;
-        let bases = settled.collection.bases();
-        let renamed = renamed_roots(
-            alloc.clone()?,
-            &self.space,
-            &self.roots,
-            bases,
-            &settled.places,
-        )?;
+        let _before = self.space.free_count();
+        let collection = &settled.collection;
+        let g = collection.generation();
+        let cells = collection.cells() as u64;
+        let bases = collection.bases();
+        let places = &settled.places;
+        let roots = renamed_roots(alloc.clone()?, &self.space, &self.roots, bases, g, places)?;
+        let slots = collection.slots();
+        let fields = renamed_fields(alloc.clone()?, &self.space, slots, bases, g, places)?;
         let kept = count_won(&settled.workers);
         let _fit = all_fit(&settled.blocks);
         let Settled {
@@ -384,9 +380,10 @@ impl<A: Allocator + Clone> Heap<A> {
             workers,
             deliveries,
         } = settled;
-        self.space.replace(alloc, blocks)?;
-        let _config = self.space.config();
-        write_roots(&mut self.roots, &renamed);
+        self.space.replace(alloc, g, blocks)?;
+        write_fields(&mut self.space, &fields);
+        write_roots(&mut self.roots, &roots);
+        let _after = self.space.free_count();
         Ok(Report {
             kept,
             freed: cells - kept,

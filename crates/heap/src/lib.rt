@@ -2,8 +2,10 @@
 #![tactic(auto)]
 
 mod commit;
+mod counts;
 mod found;
 mod heap;
+mod moves;
 mod opening;
 
 pub use found::Found;

@@ -1,8 +1,10 @@
 //! What a collection takes from a heap.
-ghost use Rattle.std.specs.Prelude.{◌≡◌, map, IfOk};
+ghost use Rattle.std.specs.Prelude.{◌≡◌, ◌<◌, map, IfOk};
 ghost use Rattle.std.specs.FinMap.{entries};
+ghost use Rattle.model.specs.Graph.{IsClosed};
 ghost use Rattle.heap_data.specs.CollectionValue.{root_slot, IsOpened};
 ghost use Rattle.heap_data.specs.SlotView.{slot_value};
+ghost use Rattle.heap_space.specs.Space.{graph_in};
 ghost use Rattle.heap.specs.Roots.{roots_map};
 ghost use Rattle.heap.specs.HeapView.{heap_of};
 
@@ -26,17 +28,20 @@ fn root_slots<A: Allocator>(alloc: A, roots: &Slab<Place, A>) -> Result<Vec<Slot
     Ok(slots)
 }
 
-/// A collection of the one generation that there is today.
+/// A collection of the generations 0 to `g`.
 pub(crate) fn opened<A: Allocator + Clone>(
     alloc: A,
     space: &Space<A>,
     roots: &Slab<Place, A>,
+    g: u8,
 ) -> Result<Collection<A>, AllocError>
-    ensures { IfOk result (λ collection. IsOpened (heap_of space.now roots.now.slots) 0 collection) }
+    requires in_range { g < space.now.config.shape.generations }
+    requires closed { IsClosed (graph_in space.now) }
+    ensures { IfOk result (λ collection. IsOpened (heap_of space.now roots.now.slots) g collection) }
 {
-    let slots = root_slots(alloc.clone()?, roots)?;
+    let mut slots = root_slots(alloc.clone()?, roots)?;
+    space.push_old_slots(&mut slots, g)?;
     let free = space.free_numbers(alloc.clone()?)?;
-    let (bases, cells) = space.bases(alloc)?;
-    let _config = space.config();
-    Ok(Collection::new(0, slots, free, bases, cells))
+    let (bases, cells) = space.bases(alloc, g)?;
+    Ok(Collection::new(g, slots, free, bases, cells))
 }

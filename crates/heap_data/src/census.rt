@@ -1,12 +1,12 @@
 //! The counts of a heap.
-ghost use Rattle.std.specs.Prelude.{◌≡◌, ◌<◌, ◌∷◌, [], map};
+ghost use Rattle.std.specs.Prelude.{◌≡◌, ◌<◌, map};
 ghost use Rattle.heap_data.specs.CensusView.{step_value};
 
 use arrayvec::ArrayVec;
 use std::marker::Model;
 
 /// The most steps that a heap has: four in each of three generations, and one in the oldest.
-const MOST_STEPS: usize = 13;
+pub const MOST_STEPS: usize = 13;
 
 /// The small objects of a step, reachable or not, and how many words they take.
 #[derive(Clone, Copy, Debug, Default, PartialEq, Eq)]
@@ -41,18 +41,16 @@ impl Model for Census {
 }
 
 impl Census {
-    /// The census of a heap with one step and no large object.
-    pub fn of_one_step(count: StepCount, roots: u64) -> Census
-        ensures { result ≡ record { steps = step_value count ∷ []; large_objects = 0; large_words = 0; roots = roots; remembered = 0 } }
+    /// The census of a heap with no large object: the counts of every step, generations rising, steps rising.
+    pub fn new(steps: ArrayVec<StepCount, MOST_STEPS>, roots: u64, remembered: u64) -> Census
+        ensures { result ≡ record { steps = map step_value steps.items; large_objects = 0; large_words = 0; roots = roots; remembered = remembered } }
     {
-        let mut steps = ArrayVec::new();
-        steps.push(count);
         Census {
             steps,
             large_objects: 0,
             large_words: 0,
             roots,
-            remembered: 0,
+            remembered,
         }
     }
 

@@ -6,7 +6,7 @@ mod collection;
 mod report;
 mod root_id;
 
-pub use census::{Census, StepCount};
+pub use census::{Census, MOST_STEPS, StepCount};
 pub use collection::{Collection, Settled, Slot};
 pub use report::{Delivery, Report, Won, WorkerReport};
 pub use root_id::RootId;

@@ -1,5 +1,5 @@
 -- The objects of the blocks after one of them was changed to another of its size.
-use Rattle.std.proofs.Common.{◌≡◌, ◌≢◌, ℕ, zero, suc, ◌+◌, ◌-◌, ◌<◌, List, [], ◌∷◌, length, set, take, Option, Some, None, refl, sym, ap, subst, ◌∙◌, arith, ⊎_elim, get_or-set_same, get_or-set_other}
+use Rattle.std.proofs.Common.{◌≡◌, ◌≢◌, ℕ, zero, suc, ◌+◌, ◌-◌, ◌<◌, ◌≤◌, List, [], ◌∷◌, length, set, take, Option, Some, None, refl, sym, ap, subst, ◌∙◌, arith, ⊎_elim, get_or-set_same, get_or-set_other}
 use Rattle.std.proofs.lemmas.Bool.{cases_eq}
 use Rattle.std.proofs.lemmas.List.{length-set, take-set}
 use Rattle.std.proofs.lemmas.List.Sums.{sum_by-cons}
@@ -15,14 +15,16 @@ use Rattle.layout.specs.Place.{small_word}
 use Rattle.block_pool.specs.BlockValue.{BlockValue, used_of, words_of, offset_of}
 use Rattle.block_pool.specs.PoolValue.{PoolValue}
 use Rattle.heap_data.specs.BlockObjects.{object_of, objects_from}
-use Rattle.block_table.specs.Table.{slot_at, slot_objects, slot_words, AreSmall, IsHeapBlock}
-use Rattle.heap_space.specs.Space.{IsSoundSpace, SpaceValue, room_of, space_of}
+use Rattle.heap_data.specs.HeapValue.{nursery_count}
+use Rattle.block_table.specs.Table.{slot_at, slot_objects, slot_words, objects_map, AreSmall, IsHeapBlock}
+use Rattle.nursery.specs.NurseryValue.{NurseryValue, nursery_room, IsNursery}
+use Rattle.heap_space.specs.Space.{IsSoundSpace, SpaceValue, rooms_of, space_of}
 use Rattle.block_table.proofs.BlockFinds.{find-object}
 use Rattle.heap_space.proofs.Located.{Begins}
 use Rattle.heap_space.proofs.Sound.{sound_fits}
 use Rattle.block_table.proofs.TableSteps.{in_list}
 use Rattle.block_table.proofs.TableLemmas.{TableFits, IsWordOf, find-at, find-first, object_in, word_cases}
-use Rattle.block_table.proofs.TableMap.{objects_map, get-objects_map, object_in-set_other, object_in-set_same}
+use Rattle.block_table.proofs.TableMap.{get-objects_map, object_in-set_other, object_in-set_same}
 use Rattle.model.proofs.Options.{some_is, some_not_none}
 
 -- the sizes stay
@@ -101,11 +103,11 @@ pub record FoundIn (table : List (Option BlockValue)) (number offset : ℕ) (o :
   pub ordinal : ℕ
   pub raw : Raw
   pub begins : Begins table number offset ordinal raw
-  pub shows : o ≡ object_of 0 0 raw
+  pub shows : o ≡ object_of begins.block.generation begins.block.step raw
 
-module _ (config : Config) (table : List (Option BlockValue)) (area : List ℕ) (current : ℕ) (pool : PoolValue) (sound : IsSoundSpace config table area current pool) where
+module _ (config : Config) (table : List (Option BlockValue)) (nurseries : List NurseryValue) (pool : PoolValue) (sound : IsSoundSpace config table nurseries pool) where
   fits : TableFits table
-  fits = sound_fits config table area current pool sound
+  fits = sound_fits config table nurseries pool sound
 
   pub found_in : (number offset : ℕ) (o : Object) → offset < 512 → get (objects_map table) (small_word number offset) ≡ Some o → FoundIn table number offset o
   found_in number offset o lt is =
@@ -116,12 +118,11 @@ module _ (config : Config) (table : List (Option BlockValue)) (area : List ℕ) 
       go None there found = absurd (some_not_none (sym found ∙ ap (λ s. find nat_cmp (small_word number offset) (slot_objects number s)) there))
       go (Some block) there found =
           let at = found_at (small_word number 0) block.generation block.step block.objects (small_word number offset) o (sym (ap (λ s. find nat_cmp (small_word number offset) (slot_objects number s)) there) ∙ found) in
-          let heap_block : IsHeapBlock config number block = sound.blocks number block there in
           record {
             ordinal = at.ordinal;
             raw = at.raw;
             begins = record { block = block; there = there; in_block = at.in_block; at = omega (arith, at.at); is = at.is };
-            shows = at.shows ∙ ap (λ g. object_of g block.step at.raw) heap_block.generation ∙ ap (λ s. object_of 0 s at.raw) heap_block.step;
+            shows = at.shows;
           }
 
   module _ (number offset ordinal : ℕ) (raw raw' : Raw) (lt : offset < 512) (begins : Begins table number offset ordinal raw) (same : raw_size raw' ≡ raw_size raw) where
@@ -149,24 +150,10 @@ module _ (config : Config) (table : List (Option BlockValue)) (area : List ℕ) 
         record {
           number_is = old.number_is;
           words = old.words;
-          generation = old.generation;
           step = old.step;
           fits = omega (arith, used_stays, old.fits);
           objects = AreSmall-set config.block_words begins.block.objects ordinal raw raw' begins.is same old.objects;
         }
-
-    -- a number has a block after the change exactly where it had one before
-    block_before : (n : ℕ) (block : BlockValue) → slot_at new_table n ≡ Some block → (b : BlockValue) × (slot_at table n ≡ Some b)
-    block_before n block is = ⊎_elim
-        (λ e. (begins.block, ap (slot_at table) e ∙ begins.there))
-        (λ ne. (block, sym (other_slot n ne) ∙ is))
-        (cases_eq n number)
-
-    block_after : (n : ℕ) (block : BlockValue) → slot_at table n ≡ Some block → (b : BlockValue) × (slot_at new_table n ≡ Some b)
-    block_after n block is = ⊎_elim
-        (λ e. (block', ap (slot_at new_table) e ∙ same_slot))
-        (λ ne. (block, other_slot n ne ∙ is))
-        (cases_eq n number)
 
     none_before : (n : ℕ) → slot_at new_table n ≡ None → slot_at table n ≡ None
     none_before n none = sym (other_slot n (λ e. some_not_none (sym same_slot ∙ sym (ap (slot_at new_table) e) ∙ none))) ∙ none
@@ -174,7 +161,36 @@ module _ (config : Config) (table : List (Option BlockValue)) (area : List ℕ) 
     none_after : (n : ℕ) → slot_at table n ≡ None → slot_at new_table n ≡ None
     none_after n none = other_slot n (λ e. some_not_none (sym begins.there ∙ sym (ap (slot_at table) e) ∙ none)) ∙ none
 
-    pub changed_sound : IsSoundSpace config new_table area current pool
+    -- each slot has a block with as many words used, and with an object where it had one
+    same_used : (n : ℕ) → slot_words (slot_at new_table n) ≡ slot_words (slot_at table n)
+    same_used n = ⊎_elim
+        (λ e. ap (λ k. slot_words (slot_at new_table k)) e ∙ ap slot_words same_slot ∙ used_stays ∙ sym (ap (λ k. slot_words (slot_at table k)) e ∙ ap slot_words begins.there))
+        (λ ne. ap slot_words (other_slot n ne))
+        (cases_eq n number)
+
+    changed_nursery : (n : NurseryValue) → IsNursery config.block_words n table → IsNursery config.block_words n new_table
+    changed_nursery n was = record {
+      current = was.current;
+      there = λ k lt. ⊎_elim
+          (λ e. (block', ap (slot_at new_table) e ∙ same_slot))
+          (λ ne. let b = was.there k lt in (b.0, other_slot (n.first + k) ne ∙ b.1))
+          (cases_eq (n.first + k) number);
+      each = λ k block lt is. ⊎_elim
+          (λ e.
+          let this : block' ≡ block = some_is (sym same_slot ∙ sym (ap (slot_at new_table) e) ∙ is) in
+          let before = was.each k begins.block lt (ap (slot_at table) e ∙ begins.there) in
+          subst (λ b. (b.words ≡ config.block_words) × (used_of b ≤ config.block_words)) this (before.0, omega (arith, used_stays, before.1)))
+          (λ ne. was.each k block lt (sym (other_slot (n.first + k) ne) ∙ is))
+          (cases_eq (n.first + k) number);
+      later = λ k block above lt is. ⊎_elim
+          (λ e.
+          let empty : begins.block.objects ≡ [] = was.later k begins.block above lt (ap (slot_at table) e ∙ begins.there) in
+          absurd (omega (arith, begins.in_block, ap length empty)))
+          (λ ne. was.later k block above lt (sym (other_slot (n.first + k) ne) ∙ is))
+          (cases_eq (n.first + k) number);
+    }
+
+    pub changed_sound : IsSoundSpace config new_table nurseries pool
     changed_sound = record {
       in_range = sound.in_range;
       blocks = λ n block is. ⊎_elim
@@ -182,35 +198,41 @@ module _ (config : Config) (table : List (Option BlockValue)) (area : List ℕ) 
           (λ ne. sound.blocks n block (sym (other_slot n ne) ∙ is))
           (cases_eq n number);
       short = omega (arith, sound.short, length-set table number (Some block'));
-      nursery = λ n in_nursery. let old = sound.nursery n in_nursery in block_after n old.0 old.1;
-      current_in_nursery = sound.current_in_nursery;
-      later = λ n block above in_nursery is. ⊎_elim
+      count = sound.count;
+      nurseries = λ i n is. let was = sound.nurseries i n is in record { first = was.first; blocks = was.blocks; sound = changed_nursery n was.sound };
+      set_aside = omega (arith, sound.set_aside, length-set table number (Some block'));
+      young = λ n block lt is. ⊎_elim
           (λ e.
-          let empty : begins.block.objects ≡ [] = sound.later n begins.block above in_nursery (ap (slot_at table) e ∙ begins.there) in
-          absurd (omega (arith, begins.in_block, ap length empty)))
-          (λ ne. sound.later n block above in_nursery (sym (other_slot n ne) ∙ is))
+          let this : block' ≡ block = some_is (sym same_slot ∙ sym (ap (slot_at new_table) e) ∙ is) in
+          let was = sound.young number begins.block (subst (λ m. m < nursery_count config) e lt) begins.there in
+          (sym (ap (λ b. b.generation) this) ∙ was.0, sym (ap (λ b. b.step) this) ∙ was.1))
+          (λ ne. sound.young n block lt (sym (other_slot n ne) ∙ is))
+          (cases_eq n number);
+      filled = λ n block le is. ⊎_elim
+          (λ e.
+          let this : block' ≡ block = some_is (sym same_slot ∙ sym (ap (slot_at new_table) e) ∙ is) in
+          let same_length : length block.objects ≡ length begins.block.objects = sym (ap (λ b. length b.objects) this) ∙ length-set begins.block.objects ordinal raw' in
+          omega (arith, same_length, begins.in_block))
+          (λ ne. sound.filled n block le (sym (other_slot n ne) ∙ is))
           (cases_eq n number);
       limit = sound.limit;
-      are_free = λ n free. let old = sound.are_free n free in (old.0, old.1, none_after n old.2);
+      are_free = λ n free. let was = sound.are_free n free in (was.0, was.1, none_after n was.2);
       all_free = λ n le in_pool none. sound.all_free n le in_pool (none_before n none);
-      area_blocks = λ n there. let old = sound.area_blocks n there in (old.0, block_after n old.1.0 old.1.1);
-      all_area = λ n block le is. let old = block_before n block is in sound.all_area n old.0 le old.1;
-      area_once = sound.area_once;
     }
 
-    room_stays : room_of config new_table current ≡ room_of config table current
-    room_stays = ap (λ u. let r : Room = record { left = config.nursery_blocks - 1 - current; used = u } in r) used
+    rooms_stay : rooms_of nurseries new_table ≡ rooms_of nurseries table
+    rooms_stay = each nurseries
       where
-        used : slot_words (slot_at new_table current) ≡ slot_words (slot_at table current)
-        used = ⊎_elim
-            (λ e. ap (λ n. slot_words (slot_at new_table n)) e ∙ ap slot_words same_slot ∙ used_stays ∙ sym (ap (λ n. slot_words (slot_at table n)) e ∙ ap slot_words begins.there))
-            (λ ne. ap slot_words (other_slot current ne))
-            (cases_eq current number)
+        each : (ns : List NurseryValue) → rooms_of ns new_table ≡ rooms_of ns table
+        each [] = refl
+        each (n ∷ ns) =
+            let here : nursery_room n new_table ≡ nursery_room n table = ap (λ u. let r : Room = record { left = n.blocks - 1 - n.current; used = u } in r) (same_used (n.first + n.current)) in
+            rw here (ap (λ rooms. nursery_room n table ∷ rooms) (each ns))
 
     fits' : TableFits new_table
-    fits' = sound_fits config new_table area current pool changed_sound
+    fits' = sound_fits config new_table nurseries pool changed_sound
 
-    changed_at : (q : ℕ) → object_in new_table q ≡ get (insert (objects_map table) (small_word number offset) (object_of 0 0 raw')) q
+    changed_at : (q : ℕ) → object_in new_table q ≡ get (insert (objects_map table) (small_word number offset) (object_of begins.block.generation begins.block.step raw')) q
     changed_at q = ⊎_elim
         (λ below.
         let ne : q ≢ small_word number offset = λ e. absurd (omega arith) in
@@ -224,23 +246,19 @@ module _ (config : Config) (table : List (Option BlockValue)) (area : List ℕ) 
         (cases_eq at.0 number))
         (word_cases q)
       where
-        heap_block : IsHeapBlock config number begins.block
-        heap_block = sound.blocks number begins.block begins.there
-
-        in_block : (q : ℕ) → IsWordOf number q → object_in new_table q ≡ get (insert (objects_map table) (small_word number offset) (object_of 0 0 raw')) q
+        in_block : (q : ℕ) → IsWordOf number q → object_in new_table q ≡ get (insert (objects_map table) (small_word number offset) (object_of begins.block.generation begins.block.step raw')) q
         in_block q own =
             object_in-set_same table number q (Some block') fits' own in_table
             ∙ ⊎_elim
             (λ e.
             find-set_same (small_word number 0) begins.block.generation begins.block.step begins.block.objects ordinal q raw' begins.in_block (omega (arith, begins.at, e))
-            ∙ ap (λ g. Some (object_of g begins.block.step raw')) heap_block.generation ∙ ap (λ s. Some (object_of 0 s raw')) heap_block.step
-            ∙ sym (ap (get (insert (objects_map table) (small_word number offset) (object_of 0 0 raw'))) e ∙ get-insert_same (objects_map table) (small_word number offset) (object_of 0 0 raw')))
+            ∙ sym (ap (get (insert (objects_map table) (small_word number offset) (object_of begins.block.generation begins.block.step raw'))) e ∙ get-insert_same (objects_map table) (small_word number offset) (object_of begins.block.generation begins.block.step raw')))
             (λ ne.
             find-set_other (small_word number 0) begins.block.generation begins.block.step begins.block.objects ordinal q raw raw' begins.is same (λ e. ne (omega (arith, begins.at, e)))
             ∙ sym (get-insert_other (objects_map table) (small_word number offset) _ q ne ∙ get-objects_map table q ∙ find-at table number q fits own ∙ ap (λ s. find nat_cmp q (slot_objects number s)) begins.there))
             (cases_eq q (small_word number offset))
 
-    pub changed_space : space_of config new_table current pool ≡ record (space_of config table current pool) { objects = insert (objects_map table) (small_word number offset) (object_of 0 0 raw') }
+    pub changed_space : space_of config new_table nurseries pool ≡ record (space_of config table nurseries pool) { objects = insert (objects_map table) (small_word number offset) (object_of begins.block.generation begins.block.step raw') }
     changed_space =
-        ap (λ m. let s : SpaceValue = record { config = config; objects = m; room = room_of config new_table current; free = pool.free } in s) (same_nat_map _ _ (λ q. get-objects_map new_table q ∙ changed_at q))
-        ∙ ap (λ r. let s : SpaceValue = record { config = config; objects = insert (objects_map table) (small_word number offset) (object_of 0 0 raw'); room = r; free = pool.free } in s) room_stays
+        ap (λ m. let s : SpaceValue = record { config = config; objects = m; rooms = rooms_of nurseries new_table; free = pool.free } in s) (same_nat_map _ _ (λ q. get-objects_map new_table q ∙ changed_at q))
+        ∙ ap (λ r. let s : SpaceValue = record { config = config; objects = insert (objects_map table) (small_word number offset) (object_of begins.block.generation begins.block.step raw'); rooms = r; free = pool.free } in s) rooms_stay

@@ -14,12 +14,12 @@ use Rattle.layout.specs.Place.{small_word, place_word, pointer_word}
 use Rattle.block_pool.specs.BlockValue.{BlockValue, offset_of, with_pointer_word, with_plain_word}
 use Rattle.block_pool.specs.PoolValue.{PoolValue}
 use Rattle.heap_data.specs.BlockObjects.{object_of}
-use Rattle.block_table.specs.Table.{slot_at}
+use Rattle.block_table.specs.Table.{slot_at, objects_map}
+use Rattle.nursery.specs.NurseryValue.{NurseryValue}
 use Rattle.heap_space.specs.Space.{IsSoundSpace, space_of}
 use Rattle.heap_data.specs.Words.{target_of_word}
 use Rattle.std.proofs.lemmas.List.{length-map}
 use Rattle.heap_space.proofs.Changed.{FoundIn, found_in, changed_sound, changed_space}
-use Rattle.block_table.proofs.TableMap.{objects_map}
 
 -- the value of which something is said
 pub some_and : {X : Type 0} (P : X → Type 0) (o : Option X) → IsSomeAnd o P → (x : X) × (o ≡ Some x) × P x
@@ -39,9 +39,9 @@ target_of_pointer None = refl
 target_of_pointer (Some place) = target_of_positive (place_word place) (place_word-positive place)
 
 -- the space after the object of a name was changed
-pub record IsChanged (config : Config) (table table' : List (Option BlockValue)) (area : List ℕ) (current : ℕ) (pool : PoolValue) (name : ℕ) (new : Object) : Type 0 where
-  pub sound : IsSoundSpace config table' area current pool
-  pub space_is : space_of config table' current pool ≡ record (space_of config table current pool) { objects = insert (objects_map table) name new }
+pub record IsChanged (config : Config) (table table' : List (Option BlockValue)) (nurseries : List NurseryValue) (pool : PoolValue) (name : ℕ) (new : Object) : Type 0 where
+  pub sound : IsSoundSpace config table' nurseries pool
+  pub space_is : space_of config table' nurseries pool ≡ record (space_of config table nurseries pool) { objects = insert (objects_map table) name new }
 
 -- the table after a raw object was changed
 abbrev pub WritesRaw : List (Option BlockValue) → List (Option BlockValue) → (number offset : ℕ) → (Raw → Type 0) → (Raw → Raw) → Type 0
@@ -49,37 +49,37 @@ WritesRaw table table' number offset P change =
     (block : BlockValue) (k : ℕ) (raw : Raw) → slot_at table number ≡ Some block → k < length block.objects → offset_of block.objects k ≡ offset → slice_get block.objects k ≡ Some raw → P raw
     → table' ≡ set table number (Some (record block { objects = set block.objects k (change raw) }))
 
-module _ (config : Config) (table table' : List (Option BlockValue)) (area : List ℕ) (current : ℕ) (pool : PoolValue) (sound : IsSoundSpace config table area current pool) (number offset : ℕ) (lt : offset < 512) (o : Object) (is : get (objects_map table) (small_word number offset) ≡ Some o) where
-  changed : (P : Raw → Type 0) (change : Raw → Raw) (new : Object) → WritesRaw table table' number offset P change → ((raw : Raw) → o ≡ object_of 0 0 raw → P raw × (raw_size (change raw) ≡ raw_size raw) × (object_of 0 0 (change raw) ≡ new)) → IsChanged config table table' area current pool (small_word number offset) new
+module _ (config : Config) (table table' : List (Option BlockValue)) (nurseries : List NurseryValue) (pool : PoolValue) (sound : IsSoundSpace config table nurseries pool) (number offset : ℕ) (lt : offset < 512) (o : Object) (is : get (objects_map table) (small_word number offset) ≡ Some o) where
+  changed : (P : Raw → Type 0) (change : Raw → Raw) (new : Object) → WritesRaw table table' number offset P change → ((g s : ℕ) (raw : Raw) → o ≡ object_of g s raw → P raw × (raw_size (change raw) ≡ raw_size raw) × (object_of g s (change raw) ≡ new)) → IsChanged config table table' nurseries pool (small_word number offset) new
   changed P change new writes each =
-      let found : FoundIn table number offset o = found_in config table area current pool sound number offset o lt is in
+      let found : FoundIn table number offset o = found_in config table nurseries pool sound number offset o lt is in
       let raw = found.raw in
-      let about = each raw found.shows in
       let begins = found.begins in
+      let about = each begins.block.generation begins.block.step raw found.shows in
       let table_is : table' ≡ set table number (Some (record begins.block { objects = set begins.block.objects found.ordinal (change raw) })) = writes begins.block found.ordinal raw begins.there begins.in_block begins.at begins.is about.0 in
       rw table_is (record {
-        sound = changed_sound config table area current pool sound number offset found.ordinal raw (change raw) lt begins about.1;
+        sound = changed_sound config table nurseries pool sound number offset found.ordinal raw (change raw) lt begins about.1;
         space_is =
-            changed_space config table area current pool sound number offset found.ordinal raw (change raw) lt begins about.1
-            ∙ ap (λ (x : Object). record (space_of config table current pool) { objects = insert (objects_map table) (small_word number offset) x }) about.2;
+            changed_space config table nurseries pool sound number offset found.ordinal raw (change raw) lt begins about.1
+            ∙ ap (λ (x : Object). record (space_of config table nurseries pool) { objects = insert (objects_map table) (small_word number offset) x }) about.2;
       })
 
-  pub pointer_written : (i word : ℕ) (target : Option Place) → word ≡ pointer_word target → i < length o.pointers → WritesRaw table table' number offset (λ raw. i < length raw.pointers) (λ raw. with_pointer_word raw i word) → IsChanged config table table' area current pool (small_word number offset) (with_pointer o i (option_map place_word target))
+  pub pointer_written : (i word : ℕ) (target : Option Place) → word ≡ pointer_word target → i < length o.pointers → WritesRaw table table' number offset (λ raw. i < length raw.pointers) (λ raw. with_pointer_word raw i word) → IsChanged config table table' nurseries pool (small_word number offset) (with_pointer o i (option_map place_word target))
   pointer_written i word target word_is few writes =
       changed (λ raw. i < length raw.pointers) (λ raw. with_pointer_word raw i word) (with_pointer o i (option_map place_word target)) writes
-      (λ raw shows.
+      (λ g s raw shows.
       let many : length o.pointers ≡ length raw.pointers = ap (λ (x : Object). length x.pointers) shows ∙ length-map raw.pointers target_of_word in
       let read : target_of_word word ≡ option_map place_word target = ap target_of_word word_is ∙ target_of_pointer target in (
         omega (arith, few, many),
         omega (arith, length-set raw.pointers i word),
-        ap (λ (ps : List (Option ℕ)). let x : Object = record { pointers = ps; plain = raw.plain; generation = 0; step = 0 } in x) (map-set target_of_word raw.pointers i word ∙ ap (set (map target_of_word raw.pointers) i) read)
+        ap (λ (ps : List (Option ℕ)). let x : Object = record { pointers = ps; plain = raw.plain; generation = g; step = s } in x) (map-set target_of_word raw.pointers i word ∙ ap (set (map target_of_word raw.pointers) i) read)
             ∙ sym (ap (λ (x : Object). with_pointer x i (option_map place_word target)) shows),
       ))
 
-  pub plain_written : (i word : ℕ) → i < length o.plain → WritesRaw table table' number offset (λ raw. i < length raw.plain) (λ raw. with_plain_word raw i word) → IsChanged config table table' area current pool (small_word number offset) (record o { plain = set o.plain i word })
+  pub plain_written : (i word : ℕ) → i < length o.plain → WritesRaw table table' number offset (λ raw. i < length raw.plain) (λ raw. with_plain_word raw i word) → IsChanged config table table' nurseries pool (small_word number offset) (record o { plain = set o.plain i word })
   plain_written i word few writes =
       changed (λ raw. i < length raw.plain) (λ raw. with_plain_word raw i word) (record o { plain = set o.plain i word }) writes
-      (λ raw shows.
+      (λ g s raw shows.
       let many : length o.plain ≡ length raw.plain = ap (λ (x : Object). length x.plain) shows in (
         omega (arith, few, many),
         omega (arith, length-set raw.plain i word),

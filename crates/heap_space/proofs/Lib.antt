@@ -1,8 +1,15 @@
 -- The blocks of a heap against the objects that they hold.
+pub mod Pushing
 pub mod Sound
-pub mod Replacing
+pub mod Shapes
+pub mod Filling
 pub mod Located
+pub mod YoungNumbers
+pub mod Finding
+pub mod ClosedBlocks
+pub mod Places
+pub mod Facts
+pub mod Replacing
 pub mod Changed
 pub mod FieldWrites
-pub mod Places
 pub mod Empty

@@ -1,5 +1,5 @@
 -- Objects by place and by number.
-use Rattle.std.proofs.Common.{◌≡◌, ◌≢◌, ℕ, zero, suc, ◌+◌, ◌*◌, ◌<◌, ◌≤◌, List, [], ◌∷◌, length, get_or, take, Option, Some, None, sum_by, refl, ap, ◌∙◌, arith, ⊎_elim}
+use Rattle.std.proofs.Common.{◌≡◌, ◌≢◌, ℕ, zero, suc, ◌+◌, ◌*◌, ◌<◌, ◌≤◌, List, [], ◌∷◌, length, get_or, take, Option, Some, None, sum_by, refl, ap, subst, ◌∙◌, arith, ⊎_elim}
 use Rattle.std.proofs.lemmas.Bool.{cases_lt, cases_eq}
 use Rattle.std.proofs.lemmas.Option.{slice_get-get_or}
 use Rattle.model.proofs.NatMap.{find_other}
@@ -7,21 +7,17 @@ use Rattle.std.proofs.lemmas.List.Sums.{sum_by-cons, sum_by_more_le, sum_by-le}
 use Rattle.std.specs.Prelude.{slice_get, IsSome, All}
 use Rattle.std.specs.Ordering.{nat_cmp}
 use Rattle.std.specs.FinMap.{find, get, keys}
-use Rattle.model.specs.Config.{Config}
 use Rattle.model.specs.Graph.{Object}
 use Rattle.layout.specs.Object.{Raw, raw_size}
 use Rattle.layout.specs.Place.{small_word, large_word}
 use Rattle.block_pool.specs.BlockValue.{BlockValue, used_of, words_of, offset_of}
-use Rattle.block_pool.specs.PoolValue.{PoolValue}
 use Rattle.heap_data.specs.BlockObjects.{object_of, objects_from}
 use Rattle.heap_data.specs.CollectionValue.{rank_below}
-use Rattle.block_table.specs.Table.{slot_at, slot_objects, table_objects, slot_len, objects_before, IsHeapBlock}
-use Rattle.heap_space.specs.Space.{IsSoundSpace}
-use Rattle.block_table.proofs.TableLemmas.{TableFits, IsWordOf, find-at, word_cases}
-use Rattle.block_table.proofs.TableMap.{objects_map, get-objects_map, entries-objects_map}
+use Rattle.block_table.specs.Table.{slot_at, slot_objects, table_objects, slot_len, objects_before, objects_map}
+use Rattle.block_table.proofs.TableLemmas.{SlotFits, TableFits, IsWordOf, find-at, word_cases}
+use Rattle.block_table.proofs.TableMap.{get-objects_map, entries-objects_map}
 use Rattle.block_table.proofs.BlockFinds.{find-object, find-no_object}
 use Rattle.block_table.proofs.Numbering.{names_of, rank-table, nth-table, length-table}
-use Rattle.heap_space.proofs.Sound.{sound_fits}
 use Rattle.block_table.proofs.TableSteps.{get_or_end, in_list}
 
 -- an object that begins at an offset of a block
@@ -55,23 +51,18 @@ len_fits : (o : Option BlockValue) → ((b : BlockValue) → o ≡ Some b → us
 len_fits None h = omega arith
 len_fits (Some b) h = omega (arith, h b refl, len_used b.objects)
 
-module _ (config : Config) (table : List (Option BlockValue)) (area : List ℕ) (current : ℕ) (pool : PoolValue) (sound : IsSoundSpace config table area current pool) where
-  fits : TableFits table
-  fits = sound_fits config table area current pool sound
-
+module _ (table : List (Option BlockValue)) (fits : TableFits table) (short : length table ≤ 65535) where
   word_of : (number offset : ℕ) → offset < 65536 → IsWordOf number (small_word number offset)
   word_of number offset lt = record { low = omega arith; high = omega arith }
 
-  at_word : (number offset : ℕ) → offset < 65536 → get (objects_map table) (small_word number offset) ≡ find nat_cmp (small_word number offset) (slot_objects number (slot_at table number))
+  pub at_word : (number offset : ℕ) → offset < 65536 → get (objects_map table) (small_word number offset) ≡ find nat_cmp (small_word number offset) (slot_objects number (slot_at table number))
   at_word number offset lt = get-objects_map table (small_word number offset) ∙ find-at table number (small_word number offset) fits (word_of number offset lt)
 
-  pub object_found : (number offset ordinal : ℕ) (raw : Raw) → offset < 512 → Begins table number offset ordinal raw → get (objects_map table) (small_word number offset) ≡ Some (object_of 0 0 raw)
+  pub object_found : (number offset ordinal : ℕ) (raw : Raw) → offset < 512 → (begins : Begins table number offset ordinal raw) → get (objects_map table) (small_word number offset) ≡ Some (object_of begins.block.generation begins.block.step raw)
   object_found number offset ordinal raw lt begins =
       let block = begins.block in
-      let heap_block : IsHeapBlock config number block = sound.blocks number block begins.there in
       let found = find-object (small_word number 0) block.generation block.step block.objects ordinal (small_word number offset) raw begins.is (omega (arith, begins.at)) in
       at_word number offset (omega arith) ∙ ap (λ s. find nat_cmp (small_word number offset) (slot_objects number s)) begins.there ∙ found
-      ∙ ap (λ g. Some (object_of g block.step raw)) heap_block.generation ∙ ap (λ s. Some (object_of 0 s raw)) heap_block.step
 
   pub object_none : (number offset : ℕ) → offset < 512 → ((block : BlockValue) → slot_at table number ≡ Some block → (k : ℕ) → k < length block.objects → offset_of block.objects k ≢ offset) → get (objects_map table) (small_word number offset) ≡ None
   object_none number offset lt none = at_word number offset (omega arith) ∙ go (slot_at table number) refl
@@ -101,7 +92,7 @@ module _ (config : Config) (table : List (Option BlockValue)) (area : List ℕ) 
   pub large_none : (number : ℕ) → get (objects_map table) (large_word number) ≡ None
   large_none number = ⊎_elim
       (λ lt. absurd (omega arith))
-      (λ at. past_none at.0 (large_word number) at.1 (omega (arith, at.1.low, at.1.high, sound.short, sound.in_range.most_blocks)))
+      (λ at. past_none at.0 (large_word number) at.1 (omega (arith, at.1.low, at.1.high, short)))
       (word_cases (large_word number))
 
   -- a number without a block names no object
@@ -129,9 +120,12 @@ module _ (config : Config) (table : List (Option BlockValue)) (area : List ℕ) 
 
   pub few_objects : sum_by slot_len table ≤ 65535 * 512
   few_objects =
-      let each : All (λ o. slot_len o ≤ 512) table = λ k d lt. len_fits (get_or table k d) (λ b is. omega (arith, (sound.blocks k b (same table k d b lt is)).fits, sound.in_range.most_words)) in
-      omega (arith, sum_by-le slot_len 512 table each, sound.short, sound.in_range.most_blocks)
+      let each : All (λ o. slot_len o ≤ 512) table = λ k d lt. len_fits (get_or table k d) (λ b is. fits_at k b (same table k d b lt is)) in
+      omega (arith, sum_by-le slot_len 512 table each, short)
     where
+      fits_at : (k : ℕ) (b : BlockValue) → slot_at table k ≡ Some b → used_of b ≤ 512
+      fits_at k b is = subst (λ o. SlotFits o) is (fits k)
+
       same : (xs : List (Option BlockValue)) (k : ℕ) (d : Option BlockValue) (b : BlockValue) → k < length xs → get_or xs k d ≡ Some b → slot_at xs k ≡ Some b
       same [] k d b lt is = absurd (omega arith)
       same (x ∷ xs) zero d b lt is = is

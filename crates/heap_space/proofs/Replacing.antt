@@ -1,28 +1,35 @@
--- What there is after blocks took the place of all that was there.
-use Rattle.std.proofs.Common.{◌≡◌, ℕ, ◌-◌, ◌<◌, ◌≤◌, Bool, true, false, cond, ◌||◌, ◌&&◌, not, List, [], length, max, Option, Some, None, sum_by, refl, sym, ap, subst, ◌∙◌, arith, ⊎_elim, ◌⊎◌, inl, inr}
-use Rattle.std.proofs.lemmas.Bool.{cases_lt, true≢false, cases_Bool}
+-- What there is after blocks took the place of what is collected.
+use Rattle.std.proofs.Common.{◌≡◌, ℕ, zero, suc, ◌+◌, ◌-◌, ◌<◌, ◌≤◌, Bool, true, false, cond, ◌||◌, ◌&&◌, not, List, [], ◌∷◌, length, map, replicate, max, Option, Some, None, sum_by, refl, sym, ap, subst, ◌∙◌, arith, ⊎_elim, ◌⊎◌, inl, inr}
+use Rattle.std.proofs.lemmas.Bool.{cases_lt, cases_Bool}
 use Rattle.std.proofs.lemmas.Bool.Decides.{nat_tests}
-use Rattle.std.specs.Prelude.{is_some, nat_eq, nat_lt, All}
-use Rattle.std.specs.List.{IsDistinct}
-use Rattle.std.specs.List.Sorted.{IsStrictlyIncreasing}
-use Rattle.std.specs.Ordering.{nat_cmp}
+use Rattle.std.proofs.lemmas.List.{length-map}
+use Rattle.std.specs.Prelude.{is_some, nat_le, nat_lt, slice_get, All}
+use Rattle.std.specs.Ordering.{nat_cmp, eq_by_cmp}
 use Rattle.std.specs.FinMap.{find, get}
 use Rattle.model.specs.Config.{Config}
+use Rattle.model.specs.Graph.{Object}
 use Rattle.model.specs.Reached.{has}
-use Rattle.model.specs.Room.{Room}
+use Rattle.model.specs.Room.{Room, full_room}
 use Rattle.model.proofs.NatMap.{same_nat_map}
-use Rattle.block_pool.specs.BlockValue.{BlockValue}
+use Rattle.model.proofs.Options.{some_is, some_not_none}
+use Rattle.block_pool.specs.BlockValue.{BlockValue, used_of}
 use Rattle.block_pool.specs.PoolValue.{PoolValue}
-use Rattle.layout.specs.Object.{raw_size}
-use Rattle.heap_data.specs.BlockObjects.{copies_of}
+use Rattle.layout.specs.Object.{Raw, raw_size}
+use Rattle.layout.specs.Place.{small_word}
+use Rattle.heap_data.specs.HeapValue.{nursery_count}
+use Rattle.heap_data.specs.BlockObjects.{object_of, objects_from, copies_of}
 use Rattle.block_table.specs.Installed.{installed}
-use Rattle.block_table.specs.Table.{slot_at, slot_objects, cleared, slot_words, IsHeapBlock}
-use Rattle.heap_space.specs.Space.{IsSoundSpace, space_of, room_of, CanReplace, IsReplaced}
-use Rattle.block_table.proofs.TableLemmas.{TableFits, word_cases, find-at, find-first}
-use Rattle.block_table.proofs.TableMap.{objects_map, get-objects_map}
-use Rattle.block_table.proofs.Installed.{installed-all, installed-some, all_numbers, each_fits, numbers_of, find-copies, find-copies_first, EachFits}
-use Rattle.heap_space.proofs.Sound.{sound_fits}
+use Rattle.block_table.specs.Table.{slot_at, slot_objects, cleared, slot_words, objects_map, young_slot, IsHeapBlock}
+use Rattle.nursery.specs.NurseryValue.{NurseryValue, nursery_room}
+use Rattle.nursery.proofs.Nurseries.{same_nursery}
+use Rattle.heap_space.specs.Nursery.{from_first}
+use Rattle.heap_space.specs.Space.{IsSoundSpace, IsNurseryOf, space_of, rooms_of}
+use Rattle.heap_space.specs.Collecting.{CanReplace, IsReplaced}
+use Rattle.block_table.proofs.TableLemmas.{TableFits, IsWordOf, word_cases, find-at, find-first}
+use Rattle.block_table.proofs.TableMap.{get-objects_map}
+use Rattle.block_table.proofs.Installed.{installed-all, installed-some, each_fits, find-copies, find-copies_first, EachFits}
 use Rattle.block_table.proofs.TableSteps.{in_list}
+use Rattle.heap_space.proofs.Sound.{sound_fits, below_all, get_below}
 
 -- two tables with the same blocks hold the same objects
 pub same_objects : (a b : List (Option BlockValue)) → TableFits a → TableFits b → ((n : ℕ) → slot_at a n ≡ slot_at b n) → objects_map a ≡ objects_map b
@@ -33,210 +40,371 @@ same_objects a b fa fb same =
     (word_cases q) ∙ sym (get-objects_map b q))
 
 -- the state that a table with the same blocks has
-pub grown_sound : (config : Config) (old new : List (Option BlockValue)) (area : List ℕ) (current : ℕ) (pool : PoolValue) → IsSoundSpace config old area current pool → ((n : ℕ) → slot_at new n ≡ slot_at old n) → length new ≤ config.blocks → IsSoundSpace config new area current pool
-grown_sound config old new area current pool sound same short = record {
+pub grown_sound : (config : Config) (old new : List (Option BlockValue)) (nurseries : List NurseryValue) (pool : PoolValue) → IsSoundSpace config old nurseries pool → ((n : ℕ) → slot_at new n ≡ slot_at old n) → length new ≤ config.blocks → length old ≤ length new → IsSoundSpace config new nurseries pool
+grown_sound config old new nurseries pool sound same short longer = record {
   in_range = sound.in_range;
   blocks = λ n block is. sound.blocks n block (sym (same n) ∙ is);
   short = short;
-  nursery = λ n lt. ((sound.nursery n lt).0, same n ∙ (sound.nursery n lt).1);
-  current_in_nursery = sound.current_in_nursery;
-  later = λ n block above lt is. sound.later n block above lt (sym (same n) ∙ is);
+  count = sound.count;
+  nurseries = λ m n is. let was = sound.nurseries m n is in record { first = was.first; blocks = was.blocks; sound = same_nursery n old new (λ k lt. same (n.first + k)) config.block_words was.sound };
+  set_aside = omega (arith, sound.set_aside);
+  young = λ n block lt is. sound.young n block lt (sym (same n) ∙ is);
+  filled = λ n block le is. sound.filled n block le (sym (same n) ∙ is);
   limit = sound.limit;
   are_free = λ n h. let old_free = sound.are_free n h in (old_free.0, old_free.1, same n ∙ old_free.2);
   all_free = λ n le lt none. sound.all_free n le lt (sym (same n) ∙ none);
-  area_blocks = λ n h. let there = sound.area_blocks n h in (there.0, (there.1.0, same n ∙ there.1.1));
-  all_area = λ n block le is. sound.all_area n block le (sym (same n) ∙ is);
-  area_once = sound.area_once;
 }
+
+-- rooms follow the slots
+pub same_rooms : (config : Config) (old new : List (Option BlockValue)) (nurseries : List NurseryValue) → ((n : ℕ) → slot_at new n ≡ slot_at old n) → rooms_of nurseries new ≡ rooms_of nurseries old
+same_rooms config old new [] same = refl
+same_rooms config old new (n ∷ nurseries) same =
+    let here : nursery_room n new ≡ nursery_room n old = ap (λ slot. let r : Room = record { left = n.blocks - 1 - n.current; used = slot_words slot } in r) (same (n.first + n.current)) in
+    rw here (ap (λ rooms. nursery_room n old ∷ rooms) (same_rooms config old new nurseries same))
 
 some_or_none : (o : Option BlockValue) → ((block : BlockValue) × (o ≡ Some block)) ⊎ (o ≡ None)
 some_or_none None = inr refl
 some_or_none (Some block) = inl (block, refl)
 
-module _ (config : Config) (old new : List (Option BlockValue)) (area area' : List ℕ) (current : ℕ) (pool pool' : PoolValue) (blocks : List BlockValue)
-    (sound : IsSoundSpace config old area current pool)
-    (can : CanReplace (space_of config old current pool) blocks)
+-- the block where its generation is above g
+abbrev pub older_slot : ℕ → Option BlockValue → Option BlockValue
+older_slot g slot = cond (is_some (young_slot g slot)) None slot
+
+-- the numbers of the blocks that go: those past the nurseries, of a generation that is collected
+abbrev pub Goes : ℕ → ℕ → List (Option BlockValue) → List ℕ → Type 0
+Goes from g table gone = (n : ℕ) → has gone n ≡ (nat_le from n && is_some (young_slot g (slot_at table n)))
+
+both_of : (a b : Bool) → (a && b) ≡ true → (a ≡ true) × (b ≡ true)
+both_of true true h = (refl, refl)
+both_of true false h = absurd (cc)
+both_of false b h = absurd (cc)
+
+pub young_some : (g : ℕ) (o : Option BlockValue) → is_some (young_slot g o) ≡ true → (block : BlockValue) × (o ≡ Some block) × (block.generation ≤ g)
+young_some g None h = absurd (cc)
+young_some g (Some block) h = go (nat_le block.generation g) refl h
+  where
+    go : (b : Bool) → nat_le block.generation g ≡ b → is_some (cond {A = Option BlockValue} b (Some block) None) ≡ true → (x : BlockValue) × (Some block ≡ Some x) × (x.generation ≤ g)
+    go true le e = (block, refl, grind (arith, nat_tests, le))
+    go false le e = absurd (cc)
+
+pub gone_there : (config : Config) (table : List (Option BlockValue)) (g : ℕ) (gone : List ℕ) → Goes (nursery_count config) g table gone → (n : ℕ) → has gone n ≡ true → (nursery_count config ≤ n) × ((block : BlockValue) × (slot_at table n ≡ Some block))
+gone_there config table g gone goes n h =
+    let parts = both_of (nat_le (nursery_count config) n) (is_some (young_slot g (slot_at table n))) (sym (goes n) ∙ h) in
+    let there = young_some g (slot_at table n) parts.1 in
+    (grind (arith, nat_tests, parts.0), (there.0, there.1))
+
+-- what is found of an older object
+find-generation : (word generation step : ℕ) (raws : List Raw) (q : ℕ) (o : Object) → find nat_cmp q (objects_from word generation step raws) ≡ Some o → o.generation ≡ generation
+find-generation word generation step [] q o is = absurd (cc)
+find-generation word generation step (r ∷ raws) q o is = go (eq_by_cmp nat_cmp q word) (find-generation (word + raw_size r) generation step raws q o) is
+  where
+    go : (b : Bool) → (find nat_cmp q (objects_from (word + raw_size r) generation step raws) ≡ Some o → o.generation ≡ generation) → cond b (Some (object_of generation step r)) (find nat_cmp q (objects_from (word + raw_size r) generation step raws)) ≡ Some o → o.generation ≡ generation
+    go true rest e = let same : object_of generation step r ≡ o = some_is e in sym (ap (λ x. x.generation) same)
+    go false rest e = rest e
+
+module _ (config : Config) (old new : List (Option BlockValue)) (nurseries : List NurseryValue) (pool pool' : PoolValue) (g : ℕ) (gone : List ℕ) (blocks : List BlockValue)
+    (sound : IsSoundSpace config old nurseries pool)
+    (can : CanReplace (space_of config old nurseries pool) blocks)
+    (goes : Goes (nursery_count config) g old gone)
     (short : length new ≤ config.blocks)
-    (slots : (n : ℕ) → slot_at new n ≡ cond (is_some (installed blocks n)) (installed blocks n) (cond (has area n) None (cond (nat_lt n config.nursery_blocks) (cleared (slot_at old n)) (slot_at old n))))
-    (frees : (n : ℕ) → has pool'.free n ≡ ((has area n || has pool.free n) && not (is_some (installed blocks n))))
-    (limit : pool'.limit ≡ pool.limit)
-    (areas : (n : ℕ) → has area' n ≡ is_some (installed blocks n))
-    (once : IsDistinct nat_eq area') where
+    (longer : length old ≤ length new)
+    (slots : (n : ℕ) → slot_at new n ≡ cond (is_some (installed blocks n)) (installed blocks n) (cond (has gone n) None (cond (nat_lt n (nursery_count config)) (cleared (slot_at old n)) (slot_at old n))))
+    (frees : (n : ℕ) → has pool'.free n ≡ ((has gone n || has pool.free n) && not (is_some (installed blocks n))))
+    (limit : pool'.limit ≡ pool.limit) where
   -- an installed block was free
   was_free : (n : ℕ) (block : BlockValue) → installed blocks n ≡ Some block → has pool.free n ≡ true
   was_free n block is =
       let found = installed-all (λ b. has pool.free b.number ≡ true) blocks n block can.were_free is in
       subst (λ m. has pool.free m ≡ true) found.1 found.0
 
-  is_free_block : (n : ℕ) → has (numbers_of blocks) n ≡ true → has pool.free n ≡ true
-  is_free_block n h = all_numbers blocks pool.free n can.were_free h
-
-  none_below : (n : ℕ) → n < config.nursery_blocks → installed blocks n ≡ None
+  none_below : (n : ℕ) → n < nursery_count config → installed blocks n ≡ None
   none_below n lt = go (some_or_none (installed blocks n))
     where
       go : ((block : BlockValue) × (installed blocks n ≡ Some block)) ⊎ (installed blocks n ≡ None) → installed blocks n ≡ None
       go (inl found) = let free = sound.are_free n (was_free n found.0 found.1) in absurd (omega (arith, free.0))
       go (inr none) = none
 
-  no_area_below : (n : ℕ) → n < config.nursery_blocks → has area n ≡ false
-  no_area_below n lt = ⊎_elim (λ h. let there = sound.area_blocks n h in absurd (omega (arith, there.0))) (λ h. h) (cases_Bool (has area n))
+  none_gone_below : (n : ℕ) → n < nursery_count config → has gone n ≡ false
+  none_gone_below n lt = ⊎_elim (λ h. let there = gone_there config old g gone goes n h in absurd (omega (arith, there.0))) (λ h. h) (cases_Bool (has gone n))
 
-  pub slot_below : (n : ℕ) → n < config.nursery_blocks → slot_at new n ≡ cleared (slot_at old n)
+  pub slot_below : (n : ℕ) → n < nursery_count config → slot_at new n ≡ cleared (slot_at old n)
   slot_below n lt =
-      let test : nat_lt n config.nursery_blocks ≡ true = grind (arith, nat_tests) in
+      let test : nat_lt n (nursery_count config) ≡ true = grind (arith, nat_tests, lt) in
       slots n
-      ∙ ap (λ o. cond (is_some o) o (cond (has area n) None (cond (nat_lt n config.nursery_blocks) (cleared (slot_at old n)) (slot_at old n)))) (none_below n lt)
-      ∙ ap (λ t. cond t None (cond (nat_lt n config.nursery_blocks) (cleared (slot_at old n)) (slot_at old n))) (no_area_below n lt)
+      ∙ ap (λ o. cond (is_some o) o (cond (has gone n) None (cond (nat_lt n (nursery_count config)) (cleared (slot_at old n)) (slot_at old n)))) (none_below n lt)
+      ∙ ap (λ t. cond t None (cond (nat_lt n (nursery_count config)) (cleared (slot_at old n)) (slot_at old n))) (none_gone_below n lt)
       ∙ ap (λ t. cond t (cleared (slot_at old n)) (slot_at old n)) test
 
-  -- a slot past the nursery that is not of the area is empty
-  others_empty : (n : ℕ) → config.nursery_blocks ≤ n → cond (has area n) None (slot_at old n) ≡ None
-  others_empty n le = go (has area n) refl (some_or_none (slot_at old n))
-    where
-      go : (t : Bool) → has area n ≡ t → ((block : BlockValue) × (slot_at old n ≡ Some block)) ⊎ (slot_at old n ≡ None) → cond t None (slot_at old n) ≡ None
-      go true h o = refl
-      go false h (inl found) = absurd (true≢false (sym (sound.all_area n found.0 le found.1) ∙ h))
-      go false h (inr none) = none
-
-  or_none : (o : Option BlockValue) → cond (is_some o) o None ≡ o
-  or_none None = refl
-  or_none (Some b) = refl
-
-  pub slot_above : (n : ℕ) → config.nursery_blocks ≤ n → slot_at new n ≡ installed blocks n
+  pub slot_above : (n : ℕ) → nursery_count config ≤ n → slot_at new n ≡ cond (is_some (installed blocks n)) (installed blocks n) (older_slot g (slot_at old n))
   slot_above n le =
-      let test : nat_lt n config.nursery_blocks ≡ false = grind (arith, nat_tests) in
+      let test : nat_lt n (nursery_count config) ≡ false = grind (arith, nat_tests, le) in
+      let from : nat_le (nursery_count config) n ≡ true = grind (arith, nat_tests, le) in
+      let here : has gone n ≡ is_some (young_slot g (slot_at old n)) = goes n ∙ ap (λ t. t && is_some (young_slot g (slot_at old n))) from in
       slots n
-      ∙ ap (λ t. cond (is_some (installed blocks n)) (installed blocks n) (cond (has area n) None (cond t (cleared (slot_at old n)) (slot_at old n)))) test
-      ∙ ap (λ o. cond (is_some (installed blocks n)) (installed blocks n) o) (others_empty n le)
-      ∙ or_none (installed blocks n)
+      ∙ ap (λ t. cond (is_some (installed blocks n)) (installed blocks n) (cond (has gone n) None (cond t (cleared (slot_at old n)) (slot_at old n)))) test
+      ∙ ap (λ t. cond (is_some (installed blocks n)) (installed blocks n) (cond t None (slot_at old n))) here
 
-  above_it : (n : ℕ) → (n < config.nursery_blocks) ⊎ (config.nursery_blocks ≤ n)
-  above_it n = cases_lt n config.nursery_blocks
+  pub slot_installed : (n : ℕ) (block : BlockValue) → installed blocks n ≡ Some block → slot_at new n ≡ Some block
+  slot_installed n block is =
+      let free = sound.are_free n (was_free n block is) in
+      slot_above n free.0 ∙ ap (λ o. cond (is_some o) o (older_slot g (slot_at old n))) is
 
-  cleared_block : (o : Option BlockValue) (block : BlockValue) (n : ℕ) → cleared o ≡ Some block → ((b : BlockValue) → o ≡ Some b → IsHeapBlock config n b) → IsHeapBlock config n block × (block.objects ≡ [])
-  cleared_block None block n is h = absurd (cc)
-  cleared_block (Some b) block n is h =
-      let same : record b { objects = []; front = 0; sent = None; origins = [] } ≡ block = cc in
-      let was : IsHeapBlock config n b = h b refl in
-      subst (λ x. IsHeapBlock config n x × (x.objects ≡ [])) same (
-        record {
-          number_is = was.number_is;
-          words = was.words;
-          generation = was.generation;
-          step = was.step;
-          fits = omega arith;
-          objects = tt;
-        },
-        refl,
-      )
+  pub slot_stays : (n : ℕ) → nursery_count config ≤ n → installed blocks n ≡ None → slot_at new n ≡ older_slot g (slot_at old n)
+  slot_stays n le none = slot_above n le ∙ ap (λ o. cond (is_some o) o (older_slot g (slot_at old n))) none
 
-  cleared_there : (o : Option BlockValue) (b : BlockValue) → o ≡ Some b → (block : BlockValue) × (cleared o ≡ Some block)
-  cleared_there o b is = (record b { objects = []; front = 0; sent = None; origins = [] }, ap cleared is)
+  above_it : (n : ℕ) → (n < nursery_count config) ⊎ (nursery_count config ≤ n)
+  above_it n = cases_lt n (nursery_count config)
+
+  older_is : (o : Option BlockValue) (block : BlockValue) → older_slot g o ≡ Some block → (o ≡ Some block) × (g < block.generation)
+  older_is None block is = absurd (cc)
+  older_is (Some b) block is = go (nat_le b.generation g) refl is
+    where
+      go : (t : Bool) → nat_le b.generation g ≡ t → cond (is_some (cond {A = Option BlockValue} t (Some b) None)) None (Some b) ≡ Some block → (Some b ≡ Some block) × (g < block.generation)
+      go true le e = absurd (cc)
+      go false le e = let same : b ≡ block = some_is e in let lt : g < b.generation = grind (arith, nat_tests, le) in (e, subst (λ x. g < x.generation) same lt)
+
+  -- a block that is there now: one of the nurseries', a new one, or an older one
+  pub data Now (n : ℕ) (block : BlockValue) : Type 0 where
+    emptied : n < nursery_count config → cleared (slot_at old n) ≡ Some block → Now n block
+    put_in : nursery_count config ≤ n → installed blocks n ≡ Some block → Now n block
+    kept : nursery_count config ≤ n → slot_at old n ≡ Some block → g < block.generation → Now n block
+
+  pub now : (n : ℕ) (block : BlockValue) → slot_at new n ≡ Some block → Now n block
+  now n block is = ⊎_elim
+      (λ lt. emptied lt (sym (slot_below n lt) ∙ is))
+      (λ le. ⊎_elim
+      (λ found. put_in le (found.1 ∙ sym (slot_installed n found.0 found.1) ∙ is))
+      (λ none. let older = older_is (slot_at old n) block (sym (slot_stays n le none) ∙ is) in kept le older.0 older.1)
+      (some_or_none (installed blocks n)))
+      (above_it n)
+
+  cleared_is : (o : Option BlockValue) (block : BlockValue) → cleared o ≡ Some block → (b : BlockValue) × (o ≡ Some b) × (record b { objects = []; front = 0; sent = None; origins = [] } ≡ block)
+  cleared_is None block is = absurd (cc)
+  cleared_is (Some b) block is = (b, refl, some_is is)
+
+  cleared_block : (n : ℕ) (b block : BlockValue) → record b { objects = []; front = 0; sent = None; origins = [] } ≡ block → IsHeapBlock config n b → IsHeapBlock config n block
+  cleared_block n b block same was = subst (IsHeapBlock config n) same (record { number_is = was.number_is; words = was.words; step = was.step; fits = omega arith; objects = tt })
+
+  cleared_there : (o : Option BlockValue) (b : BlockValue) → o ≡ Some b → cleared o ≡ Some (record b { objects = []; front = 0; sent = None; origins = [] })
+  cleared_there o b is = ap cleared is
 
   installed_sound : (n : ℕ) (block : BlockValue) → installed blocks n ≡ Some block → IsHeapBlock config n block
   installed_sound n block is =
       let found = installed-all (λ b. (b.objects ≡ []) ⊎ IsHeapBlock config b.number b) blocks n block can.sound is in
       subst (λ m. IsHeapBlock config m block) found.1 (⊎_elim (λ e. absurd (installed-some blocks n block is e)) (λ h. h) found.0)
 
-  is_some_of : (o : Option BlockValue) (b : BlockValue) → o ≡ Some b → is_some o ≡ true
-  is_some_of o b is = ap is_some is
+  objects_some : (raws : List Raw) → (raws ≡ [] → ⊥) → 0 < length raws
+  objects_some [] h = absurd (h refl)
+  objects_some (r ∷ raws) h = omega arith
 
-  block_of : (o : Option BlockValue) → is_some o ≡ true → (b : BlockValue) × (o ≡ Some b)
-  block_of None h = absurd (cc)
-  block_of (Some b) h = (b, refl)
+  emptied_nursery : (m : ℕ) (n : NurseryValue) → slice_get nurseries m ≡ Some n → (k : ℕ) → k < n.blocks → (n.first + k < nursery_count config) × ((b : BlockValue) × (slot_at old (n.first + k) ≡ Some b) × (slot_at new (n.first + k) ≡ Some (record b { objects = []; front = 0; sent = None; origins = [] })))
+  emptied_nursery m n is k lt =
+      let was = sound.nurseries m n is in
+      let below = below_all config.mutators config.nursery_blocks m k (omega (arith, get_below nurseries m n is, sound.count)) (omega (arith, was.blocks)) in
+      let inside : n.first + k < nursery_count config = omega (arith, below, was.first) in
+      let there = was.sound.there k lt in
+      (inside, (there.0, there.1, slot_below (n.first + k) inside ∙ cleared_there _ there.0 there.1))
 
-  none_of : (o : Option BlockValue) → is_some o ≡ false → o ≡ None
-  none_of None h = refl
-  none_of (Some b) h = absurd (cc)
+  reset_nursery : (m : ℕ) (n : NurseryValue) → slice_get nurseries m ≡ Some n → IsNurseryOf config new m (record n { current = 0 })
+  reset_nursery m n is =
+      let was = sound.nurseries m n is in
+      record {
+        first = was.first;
+        blocks = was.blocks;
+        sound = record {
+          current = omega (arith, was.sound.current);
+          there = λ k lt. let e = emptied_nursery m n is k lt in (_, e.1.2);
+          each = λ k block lt at.
+              let e = emptied_nursery m n is k lt in
+              let same : record e.1.0 { objects = []; front = 0; sent = None; origins = [] } ≡ block = some_is (sym e.1.2 ∙ at) in
+              let before = was.sound.each k e.1.0 lt e.1.1 in
+              (sym (ap (λ b. b.words) same) ∙ before.0, let none : used_of block ≡ 0 = sym (ap used_of same) in omega (arith, none));
+          later = λ k block above lt at. let e = emptied_nursery m n is k lt in sym (ap (λ b. b.objects) (some_is (sym e.1.2 ∙ at)));
+        };
+      }
 
-  both_of : (a b : Bool) → (a && not b) ≡ true → (a ≡ true) × (b ≡ false)
-  both_of true false h = (refl, refl)
-  both_of true true h = absurd (cc)
-  both_of false b h = absurd (cc)
+  get-map : (ns : List NurseryValue) (m : ℕ) (n : NurseryValue) → slice_get (map from_first ns) m ≡ Some n → (x : NurseryValue) × (slice_get ns m ≡ Some x) × (record x { current = 0 } ≡ n)
+  get-map [] m n is = absurd (cc)
+  get-map (x ∷ ns) zero n is = (x, refl, some_is is)
+  get-map (x ∷ ns) (suc m) n is = get-map ns m n is
+
+  abbrev pub reset : List NurseryValue
+  reset = map from_first nurseries
+
+  gone_short : (n : ℕ) → has gone n ≡ true → n < config.blocks
+  gone_short n h = let there = gone_there config old g gone goes n h in omega (arith, in_list old n there.1.0 there.1.1, sound.short)
+
+  and_not : (a b : Bool) → (a && not b) ≡ true → (a ≡ true) × (b ≡ false)
+  and_not true false h = (refl, refl)
+  and_not true true h = absurd (cc)
+  and_not false b h = absurd (cc)
 
   either_of : (a b : Bool) → (a || b) ≡ true → (a ≡ true) ⊎ (b ≡ true)
   either_of true b h = inl refl
   either_of false b h = inr h
 
-  in_blocks : (n : ℕ) → has area n ≡ true → n < config.blocks
-  in_blocks n h = let there = sound.area_blocks n h in omega (arith, in_list old n there.1.0 there.1.1, sound.short)
+  none_of : (o : Option BlockValue) → is_some o ≡ false → o ≡ None
+  none_of None h = refl
+  none_of (Some b) h = absurd (cc)
 
-  now_free : (n : ℕ) → has pool'.free n ≡ true → (config.nursery_blocks ≤ n) × (n < config.blocks) × (installed blocks n ≡ None)
+  gone_older : (n : ℕ) → has gone n ≡ true → older_slot g (slot_at old n) ≡ None
+  gone_older n h = ap (λ t. cond t None (slot_at old n)) (both_of (nat_le (nursery_count config) n) (is_some (young_slot g (slot_at old n))) (sym (goes n) ∙ h)).1
+
+  free_older : (n : ℕ) → slot_at old n ≡ None → older_slot g (slot_at old n) ≡ None
+  free_older n none = ap (older_slot g) none
+
+  now_free : (n : ℕ) → has pool'.free n ≡ true → (nursery_count config ≤ n) × (n < config.blocks) × (slot_at new n ≡ None)
   now_free n h =
-      let parts = both_of (has area n || has pool.free n) (is_some (installed blocks n)) (sym (frees n) ∙ h) in
+      let parts = and_not (has gone n || has pool.free n) (is_some (installed blocks n)) (sym (frees n) ∙ h) in
       let none = none_of (installed blocks n) parts.1 in
       ⊎_elim
-      (λ a. ((sound.area_blocks n a).0, in_blocks n a, none))
-      (λ f. let free = sound.are_free n f in (free.0, free.1, none))
-      (either_of (has area n) (has pool.free n) parts.0)
+      (λ a. let there = gone_there config old g gone goes n a in (there.0, gone_short n a, slot_stays n there.0 none ∙ gone_older n a))
+      (λ f. let free = sound.are_free n f in (free.0, free.1, slot_stays n free.0 none ∙ free_older n free.2))
+      (either_of (has gone n) (has pool.free n) parts.0)
 
-  all_now_free : (n : ℕ) → config.nursery_blocks ≤ n → n < config.blocks → installed blocks n ≡ None → has pool'.free n ≡ true
-  all_now_free n le lt none =
-      frees n ∙ ap (λ o. (has area n || has pool.free n) && not (is_some o)) none ∙ go (has area n) refl (some_or_none (slot_at old n))
+  all_now_free : (n : ℕ) → nursery_count config ≤ n → n < config.blocks → slot_at new n ≡ None → has pool'.free n ≡ true
+  all_now_free n le lt none = ⊎_elim
+      (λ found. absurd (none_some (sym none ∙ slot_installed n found.0 found.1)))
+      (λ empty. frees n ∙ ap (λ o. (has gone n || has pool.free n) && not (is_some o)) empty ∙ either (some_or_none (slot_at old n)) (sym (slot_stays n le empty) ∙ none))
+      (some_or_none (installed blocks n))
     where
-      go : (t : Bool) → has area n ≡ t → ((block : BlockValue) × (slot_at old n ≡ Some block)) ⊎ (slot_at old n ≡ None) → ((t || has pool.free n) && not false) ≡ true
-      go true h o = refl
-      go false h (inl found) = absurd (true≢false (sym (sound.all_area n found.0 le found.1) ∙ h))
-      go false h (inr empty) = ap (λ t. t && not false) (sound.all_free n le lt empty)
+      none_some : {b : BlockValue} → None ≡ Some b → ⊥
+      none_some e = cc
 
-  pub replaced_sound : IsSoundSpace config new area' 0 pool'
+      from : nat_le (nursery_count config) n ≡ true
+      from = grind (arith, nat_tests, le)
+
+      or_true : (t : Bool) → (t || true) ≡ true
+      or_true true = refl
+      or_true false = refl
+
+      gone_here : (b : BlockValue) → slot_at old n ≡ Some b → older_slot g (slot_at old n) ≡ None → is_some (young_slot g (slot_at old n)) ≡ true
+      gone_here b is older = ⊎_elim (λ h. h) (λ h. absurd (none_some (sym older ∙ ap (λ t. cond t None (slot_at old n)) h ∙ is))) (cases_Bool (is_some (young_slot g (slot_at old n))))
+
+      either : ((block : BlockValue) × (slot_at old n ≡ Some block)) ⊎ (slot_at old n ≡ None) → older_slot g (slot_at old n) ≡ None → ((has gone n || has pool.free n) && not false) ≡ true
+      either (inl found) older =
+          let goes_too : has gone n ≡ true = goes n ∙ ap (λ t. t && is_some (young_slot g (slot_at old n))) from ∙ gone_here found.0 found.1 older in
+          ap (λ t. (t || has pool.free n) && not false) goes_too
+      either (inr was) older = ap (λ t. (has gone n || t) && not false) (sound.all_free n le lt was) ∙ ap (λ t. t && not false) (or_true (has gone n))
+
+  pub replaced_sound : IsSoundSpace config new reset pool'
   replaced_sound = record {
     in_range = sound.in_range;
-    blocks = λ n block is. ⊎_elim
-        (λ lt. (cleared_block (slot_at old n) block n (sym (slot_below n lt) ∙ is) (λ b e. sound.blocks n b e)).0)
-        (λ le. installed_sound n block (sym (slot_above n le) ∙ is))
-        (above_it n);
+    blocks = λ n block is. heap_block n block (now n block is);
     short = short;
-    nursery = λ n lt. let was = sound.nursery n lt in let there = cleared_there (slot_at old n) was.0 was.1 in (there.0, slot_below n lt ∙ there.1);
-    current_in_nursery = omega (arith, sound.in_range.some_nursery);
-    later = λ n block above lt is. (cleared_block (slot_at old n) block n (sym (slot_below n lt) ∙ is) (λ b e. sound.blocks n b e)).1;
+    count = length-map nurseries from_first ∙ sound.count;
+    nurseries = λ m n is. let was = get-map nurseries m n is in subst (IsNurseryOf config new m) was.2 (reset_nursery m was.0 was.1);
+    set_aside = omega (arith, sound.set_aside, longer);
+    young = λ n block lt is.
+        let was = cleared_is (slot_at old n) block (sym (slot_below n lt) ∙ is) in
+        let first = sound.young n was.0 lt was.1 in
+        (sym (ap (λ b. b.generation) was.2) ∙ first.0, sym (ap (λ b. b.step) was.2) ∙ first.1);
+    filled = λ n block le is. filled n block le (now n block is);
     limit = limit ∙ sound.limit;
-    are_free = λ n h. let free = now_free n h in (free.0, free.1, slot_above n free.0 ∙ free.2);
-    all_free = λ n le lt none. all_now_free n le lt (sym (slot_above n le) ∙ none);
-    area_blocks = λ n h.
-        let found = block_of (installed blocks n) (sym (areas n) ∙ h) in
-        let free = sound.are_free n (was_free n found.0 found.1) in
-        (free.0, (found.0, slot_above n free.0 ∙ found.1));
-    all_area = λ n block le is. areas n ∙ is_some_of (installed blocks n) block (sym (slot_above n le) ∙ is);
-    area_once = once;
+    are_free = now_free;
+    all_free = all_now_free;
   }
+    where
+      heap_block : (n : ℕ) (block : BlockValue) → Now n block → IsHeapBlock config n block
+      heap_block n block (emptied lt is) = let was = cleared_is (slot_at old n) block is in cleared_block n was.0 block was.2 (sound.blocks n was.0 was.1)
+      heap_block n block (put_in le is) = installed_sound n block is
+      heap_block n block (kept le is older) = sound.blocks n block is
+
+      filled : (n : ℕ) (block : BlockValue) → nursery_count config ≤ n → Now n block → 0 < length block.objects
+      filled n block le (emptied lt is) = absurd (omega (arith, le))
+      filled n block le (put_in _ is) = objects_some block.objects (installed-some blocks n block is)
+      filled n block le (kept _ is older) = sound.filled n block le is
 
   fits_each : EachFits blocks
   fits_each = each_fits config.block_words blocks sound.in_range.most_words (λ k d lt. ⊎_elim (λ e. omega (arith, ap (sum_by raw_size) e)) (λ h. h.fits) (can.sound k d lt))
 
-  slot_found : (n q : ℕ) → find nat_cmp q (slot_objects n (slot_at new n)) ≡ find nat_cmp q (slot_objects n (installed blocks n))
-  slot_found n q = ⊎_elim
-      (λ lt. let was = sound.nursery n lt in
-      ap (λ s. find nat_cmp q (slot_objects n s)) (slot_below n lt ∙ ap cleared was.1) ∙ sym (ap (λ s. find nat_cmp q (slot_objects n s)) (none_below n lt)))
-      (λ le. ap (λ s. find nat_cmp q (slot_objects n s)) (slot_above n le))
-      (above_it n)
+  fits : TableFits old
+  fits = sound_fits config old nurseries pool sound
 
-  pub replaced_objects : (q : ℕ) → get (objects_map new) q ≡ find nat_cmp q (copies_of blocks)
-  replaced_objects q = get-objects_map new q ∙ ⊎_elim
-      (λ lt. find-first new q (sound_fits config new area' 0 pool' replaced_sound) lt ∙ sym (find-copies_first blocks q fits_each lt))
-      (λ at. find-at new at.0 q (sound_fits config new area' 0 pool' replaced_sound) at.1 ∙ slot_found at.0 q ∙ sym (find-copies blocks at.0 q fits_each can.once at.1))
+  fits' : TableFits new
+  fits' = sound_fits config new reset pool' replaced_sound
+
+  found_now : (n q : ℕ) → IsWordOf n q → get (objects_map new) q ≡ find nat_cmp q (slot_objects n (slot_at new n))
+  found_now n q word = get-objects_map new q ∙ find-at new n q fits' word
+
+  found_before : (n q : ℕ) → IsWordOf n q → get (objects_map old) q ≡ find nat_cmp q (slot_objects n (slot_at old n))
+  found_before n q word = get-objects_map old q ∙ find-at old n q fits word
+
+  no_find : (n q : ℕ) (slot : Option BlockValue) (o : Object) → slot ≡ None → find nat_cmp q (slot_objects n slot) ≡ Some o → ⊥
+  no_find n q slot o none is = some_not_none (sym is ∙ ap (λ s. find nat_cmp q (slot_objects n s)) none)
+
+  pub copies_there : (q : ℕ) (o : Object) → find nat_cmp q (copies_of blocks) ≡ Some o → get (objects_map new) q ≡ Some o
+  copies_there q o is = ⊎_elim
+      (λ lt. absurd (some_not_none (sym is ∙ find-copies_first blocks q fits_each lt)))
+      (λ at.
+      let found = sym (find-copies blocks at.0 q fits_each can.once at.1) ∙ is in
+      ⊎_elim
+      (λ block. found_now at.0 q at.1 ∙ ap (λ s. find nat_cmp q (slot_objects at.0 s)) (slot_installed at.0 block.0 block.1 ∙ sym block.1) ∙ found)
+      (λ none. absurd (no_find at.0 q (installed blocks at.0) o none found))
+      (some_or_none (installed blocks at.0)))
       (word_cases q)
 
-  pub replaced_room : room_of config new 0 ≡ record { left = config.nursery_blocks - 1; used = 0 }
-  replaced_room =
-      let lt : 0 < config.nursery_blocks = omega (arith, sound.in_range.some_nursery) in
-      let was = sound.nursery 0 lt in
-      let used : slot_words (slot_at new 0) ≡ 0 = ap slot_words (slot_below 0 lt ∙ ap cleared was.1) in
-      let left : config.nursery_blocks - 1 - 0 ≡ config.nursery_blocks - 1 = omega arith in
-      ap (λ l. let r : Room = record { left = l; used = slot_words (slot_at new 0) } in r) left ∙ ap (λ u. let r : Room = record { left = config.nursery_blocks - 1; used = u } in r) used
+  pub older_there : (q : ℕ) (o : Object) → get (objects_map old) q ≡ Some o → g < o.generation → get (objects_map new) q ≡ Some o
+  older_there q o is older = ⊎_elim
+      (λ lt. absurd (some_not_none (sym is ∙ get-objects_map old q ∙ find-first old q fits lt)))
+      (λ at. stays at.0 at.1 (some_or_none (slot_at old at.0)))
+      (word_cases q)
+    where
+      stays : (n : ℕ) → IsWordOf n q → ((block : BlockValue) × (slot_at old n ≡ Some block)) ⊎ (slot_at old n ≡ None) → get (objects_map new) q ≡ Some o
+      stays n word (inr none) = absurd (no_find n q (slot_at old n) o none (sym (found_before n q word) ∙ is))
+      stays n word (inl found) =
+          let here : find nat_cmp q (slot_objects n (Some found.0)) ≡ Some o = sym (ap (λ s. find nat_cmp q (slot_objects n s)) found.1) ∙ sym (found_before n q word) ∙ is in
+          let generation : o.generation ≡ found.0.generation = find-generation (small_word n 0) found.0.generation found.0.step found.0.objects q o here in
+          let not_young : nat_le found.0.generation g ≡ false = grind (arith, nat_tests, generation, older) in
+          ⊎_elim
+          (λ lt. let first = sound.young n found.0 lt found.1 in absurd (omega (arith, first.0, generation, older)))
+          (λ le.
+          let none : installed blocks n ≡ None = ⊎_elim (λ block. absurd (some_not_none (sym found.1 ∙ (sound.are_free n (was_free n block.0 block.1)).2))) (λ h. h) (some_or_none (installed blocks n)) in
+          let slot : slot_at new n ≡ Some found.0 = slot_stays n le none ∙ ap (older_slot g) found.1 ∙ ap (λ t. cond {A = Option BlockValue} (is_some (cond {A = Option BlockValue} t (Some found.0) None)) None (Some found.0)) not_young in
+          found_now n q word ∙ ap (λ s. find nat_cmp q (slot_objects n s)) slot ∙ here)
+          (above_it n)
 
-  pub is_replaced : IsStrictlyIncreasing pool'.free → IsReplaced (space_of config old current pool) blocks (space_of config new 0 pool')
-  is_replaced rising = record {
+  pub no_others : (q : ℕ) (o : Object) → get (objects_map new) q ≡ Some o → (find nat_cmp q (copies_of blocks) ≡ Some o) ⊎ ((get (objects_map old) q ≡ Some o) × (g < o.generation))
+  no_others q o is = ⊎_elim
+      (λ lt. absurd (some_not_none (sym is ∙ get-objects_map new q ∙ find-first new q fits' lt)))
+      (λ at. from at.0 at.1 (some_or_none (slot_at new at.0)))
+      (word_cases q)
+    where
+      from_block : (n : ℕ) (block : BlockValue) → IsWordOf n q → find nat_cmp q (slot_objects n (Some block)) ≡ Some o → Now n block → (find nat_cmp q (copies_of blocks) ≡ Some o) ⊎ ((get (objects_map old) q ≡ Some o) × (g < o.generation))
+      from_block n block word found (emptied lt is) = let was = cleared_is (slot_at old n) block is in absurd (some_not_none (sym found ∙ ap (λ b. find nat_cmp q (slot_objects n (Some b))) (sym was.2)))
+      from_block n block word found (put_in le is) = inl (find-copies blocks n q fits_each can.once word ∙ ap (λ s. find nat_cmp q (slot_objects n s)) is ∙ found)
+      from_block n block word found (kept le is older) =
+          let generation : o.generation ≡ block.generation = find-generation (small_word n 0) block.generation block.step block.objects q o found in
+          inr (found_before n q word ∙ ap (λ s. find nat_cmp q (slot_objects n s)) is ∙ found, omega (arith, generation, older))
+
+      from : (n : ℕ) → IsWordOf n q → ((block : BlockValue) × (slot_at new n ≡ Some block)) ⊎ (slot_at new n ≡ None) → (find nat_cmp q (copies_of blocks) ≡ Some o) ⊎ ((get (objects_map old) q ≡ Some o) × (g < o.generation))
+      from n word (inr none) = absurd (no_find n q (slot_at new n) o none (sym (found_now n q word) ∙ is))
+      from n word (inl found) = from_block n found.0 word (sym (ap (λ s. find nat_cmp q (slot_objects n s)) found.1) ∙ sym (found_now n q word) ∙ is) (now n found.0 found.1)
+
+  reset_room : (m : ℕ) (n : NurseryValue) → slice_get nurseries m ≡ Some n → nursery_room (record n { current = 0 }) new ≡ full_room config.nursery_blocks
+  reset_room m n is =
+      let was = sound.nurseries m n is in
+      let e = emptied_nursery m n is 0 (omega (arith, was.sound.current)) in
+      let left : n.blocks - 1 - 0 ≡ config.nursery_blocks - 1 = omega (arith, was.blocks) in
+      ap (λ slot. let r : Room = record { left = n.blocks - 1 - 0; used = slot_words slot } in r) e.1.2
+      ∙ ap (λ l. let r : Room = record { left = l; used = 0 } in r) left
+
+  reset_rooms : (ns : List NurseryValue) → ((n : NurseryValue) (m : ℕ) → slice_get ns m ≡ Some n → nursery_room (record n { current = 0 }) new ≡ full_room config.nursery_blocks) → rooms_of (map from_first ns) new ≡ replicate (length ns) (full_room config.nursery_blocks)
+  reset_rooms [] each = refl
+  reset_rooms (n ∷ ns) each = rw (each n 0 refl) (ap (λ rooms. full_room config.nursery_blocks ∷ rooms) (reset_rooms ns (λ x m is. each x (suc m) is)))
+
+  pub is_replaced : IsReplaced (space_of config old nurseries pool) g blocks (space_of config new reset pool')
+  is_replaced = record {
     config = refl;
-    objects = replaced_objects;
-    room = replaced_room;
-    free = λ n. (λ h. now_free n h, λ f. all_now_free n f.0 f.1 f.2);
-    rising = rising;
+    rooms = reset_rooms nurseries (λ n m is. reset_room m n is) ∙ ap (λ m. replicate m (full_room config.nursery_blocks)) sound.count;
+    copies = copies_there;
+    older = older_there;
+    no_others = no_others;
   }
 
 -- the numbers of blocks that were free are below the number of blocks
-pub free_below : (config : Config) (table : List (Option BlockValue)) (area : List ℕ) (current : ℕ) (pool : PoolValue) (blocks : List BlockValue) → IsSoundSpace config table area current pool → CanReplace (space_of config table current pool) blocks → All (λ b. b.number < config.blocks) blocks
-free_below config table area current pool blocks sound can = λ k d lt. (sound.are_free _ (can.were_free k d lt)).1
+pub free_below : (config : Config) (table : List (Option BlockValue)) (nurseries : List NurseryValue) (pool : PoolValue) (blocks : List BlockValue) → IsSoundSpace config table nurseries pool → CanReplace (space_of config table nurseries pool) blocks → All (λ b. b.number < config.blocks) blocks
+free_below config table nurseries pool blocks sound can = λ k d lt. (sound.are_free _ (can.were_free k d lt)).1
 
-pub grown_short : (config : Config) (table : List (Option BlockValue)) (area : List ℕ) (current : ℕ) (pool : PoolValue) (end len : ℕ) → IsSoundSpace config table area current pool → end ≤ config.blocks → len ≤ max end (length table) → len ≤ config.blocks
-grown_short config table area current pool end len sound le short = omega (arith, sound.short)
+pub grown_short : (config : Config) (table : List (Option BlockValue)) (nurseries : List NurseryValue) (pool : PoolValue) (end len : ℕ) → IsSoundSpace config table nurseries pool → end ≤ config.blocks → len ≤ max end (length table) → len ≤ config.blocks
+grown_short config table nurseries pool end len sound le short = omega (arith, sound.short)

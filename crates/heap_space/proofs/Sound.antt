@@ -1,214 +1,175 @@
 -- What follows from the state of a heap's blocks.
-use Rattle.std.proofs.Common.{◌≡◌, ◌≢◌, ℕ, ◌+◌, ◌-◌, ◌/◌, ◌<◌, ◌≤◌, Bool, true, false, cond, List, [], ◌∷◌, ◌++◌, length, set, replicate, Option, Some, None, sum_by, refl, sym, ap, subst, ◌∙◌, arith, ⊎_elim, get_or-set_other, get_or-set_same}
-use Rattle.std.proofs.lemmas.Bool.{cases_eq}
-use Rattle.std.proofs.lemmas.Bool.Decides.{nat_tests}
-use Rattle.std.proofs.lemmas.List.{length-set, length-replicate}
+use Rattle.std.proofs.Common.{◌≡◌, ◌≢◌, ℕ, zero, suc, ◌+◌, ◌*◌, ◌-◌, ◌/◌, ◌<◌, ◌≤◌, List, [], ◌∷◌, ◌++◌, length, map, set, Option, Some, None, refl, sym, ap, subst, ◌∙◌, arith, ⊎_elim, get_or-set_other, get_or-set_same}
+use Rattle.std.proofs.lemmas.Bool.{cases_eq, cases_lt}
+use Rattle.std.proofs.lemmas.List.{length-set, length-replicate, map-set}
 use Rattle.std.proofs.lemmas.List.Sums.{sum_by_push}
-use Rattle.std.specs.Prelude.{nat_le, nat_lt, is_some, IsTrue, IsSome, ◌↔◌}
-use Rattle.std.specs.Ordering.{nat_cmp, eq_by_cmp}
-use Rattle.std.specs.FinMap.{find, get}
-use Rattle.model.specs.Graph.{Object, fresh_object}
+use Rattle.std.proofs.lemmas.Nat.{mul-le}
+use Rattle.std.specs.Prelude.{slice_get}
 use Rattle.model.specs.Config.{Config}
-use Rattle.model.specs.Room.{Room, room_after}
+use Rattle.model.specs.Room.{Room}
+use Rattle.model.proofs.Options.{some_is}
 use Rattle.layout.specs.Object.{Raw, raw_size}
 use Rattle.block_pool.specs.BlockValue.{BlockValue, used_of, new_object}
 use Rattle.block_pool.specs.PoolValue.{PoolValue}
-use Rattle.heap_data.specs.Plain.{IsPlain, ArePlain}
-use Rattle.heap_data.specs.BlockObjects.{object_of}
-use Rattle.block_table.specs.Table.{slot_at, table_objects, AreSmall, IsHeapBlock, with_more, slot_words}
-use Rattle.heap_space.specs.Nursery.{block_after}
-use Rattle.heap_space.specs.Space.{IsSoundSpace, room_of}
+use Rattle.heap_data.specs.HeapValue.{nursery_count}
+use Rattle.block_table.specs.Table.{slot_at, AreSmall, IsHeapBlock, AreHeapBlocks, with_more}
+use Rattle.nursery.specs.NurseryValue.{NurseryValue, nursery_room, IsNursery, Pushes}
+use Rattle.heap_space.specs.Space.{IsSoundSpace, IsNurseryOf, rooms_of}
 use Rattle.block_table.proofs.TableLemmas.{SlotFits, TableFits}
-use Rattle.block_table.proofs.TableMap.{objects_map, get-objects_map}
-use Rattle.block_table.proofs.TableCensus.{AreHeapBlocks, table-plain, map-nil}
-use Rattle.heap_data.proofs.PlainObjects.{values_of}
 use Rattle.block_table.proofs.TableSteps.{in_list}
+use Rattle.nursery.proofs.Nurseries.{same_nursery, same_room}
 
 pub slot_fits : (o : Option BlockValue) → ((b : BlockValue) → o ≡ Some b → used_of b ≤ 512) → SlotFits o
 slot_fits None h = tt
 slot_fits (Some b) h = h b refl
 
-find_plain : (w q : ℕ) (es : List (ℕ × Object)) (o : Object) → ArePlain w (values_of es) → find nat_cmp q es ≡ Some o → IsPlain w o
-find_plain w q [] o plain is = absurd (cc)
-find_plain w q (x ∷ es) o plain is = go (eq_by_cmp nat_cmp q x.0) is (find_plain w q es o plain.1)
-  where
-    go : (b : Bool) → cond b (Some x.1) (find nat_cmp q es) ≡ Some o → (find nat_cmp q es ≡ Some o → IsPlain w o) → IsPlain w o
-    go true e rest = let same : x.1 ≡ o = cc in subst (IsPlain w) same plain.0
-    go false e rest = rest e
-
 pub AreSmall-push : (w : ℕ) (raws : List Raw) (raw : Raw) → AreSmall w raws → raw_size raw ≤ w / 4 → AreSmall w (raws ++ raw ∷ [])
 AreSmall-push w [] raw each small = (small, tt)
 AreSmall-push w (r ∷ raws) raw each small = (each.0, AreSmall-push w raws raw each.1 small)
 
-pub new_object-size : (p q : ℕ) → raw_size (new_object p q) ≡ 1 + p + q
+new_object-size : (p q : ℕ) → raw_size (new_object p q) ≡ 1 + p + q
 new_object-size p q = omega (arith, length-replicate {A = ℕ} p 0, length-replicate {A = ℕ} q 0)
 
-pub object_of-new : (p q : ℕ) → object_of 0 0 (new_object p q) ≡ fresh_object p q
-object_of-new p q = ap (λ ps. let o : Object = record { pointers = ps; plain = replicate q 0; generation = 0; step = 0 } in o) (map-nil p)
+-- a mutator's blocks end before those of the next begin
+pub below_all : (mutators blocks mutator k : ℕ) → mutator < mutators → k < blocks → mutator * blocks + k < mutators * blocks
+below_all mutators blocks mutator k lt in_range =
+    let next : (mutator + 1) * blocks ≤ mutators * blocks = mul-le (mutator + 1) blocks mutators blocks (omega arith) (omega arith) in
+    let split : (mutator + 1) * blocks ≡ mutator * blocks + blocks = grind arith in
+    omega (arith, next, split)
 
-module _ (config : Config) (table : List (Option BlockValue)) (area : List ℕ) (current : ℕ) (pool : PoolValue) (sound : IsSoundSpace config table area current pool) where
+pub apart : (blocks a b i j : ℕ) → a ≢ b → i < blocks → j < blocks → a * blocks + i ≢ b * blocks + j
+apart blocks a b i j ne below below' same =
+    ⊎_elim
+    (λ lt. let h = below_all b blocks a i lt below in absurd (omega (arith, h, same)))
+    (λ le. let h = below_all a blocks b j (omega arith) below' in absurd (omega (arith, h, same)))
+    (cases_lt a b)
+
+-- two lists of rooms that agree but at one place
+rooms-set : (f f' : NurseryValue → Room) (nurseries : List NurseryValue) (m : ℕ) (r : Room) → ((i : ℕ) (n : NurseryValue) → i ≢ m → slice_get nurseries i ≡ Some n → f' n ≡ f n) → set (map f' nurseries) m r ≡ set (map f nurseries) m r
+rooms-set f f' [] m r same = refl
+rooms-set f f' (n ∷ nurseries) zero r same = ap (λ rooms. r ∷ rooms) (all nurseries (λ i x is. same (suc i) x (λ e. absurd (omega (arith, e))) is))
+  where
+    all : (xs : List NurseryValue) → ((i : ℕ) (x : NurseryValue) → slice_get xs i ≡ Some x → f' x ≡ f x) → map f' xs ≡ map f xs
+    all [] h = refl
+    all (x ∷ xs) h = let here : f' x ≡ f x = h 0 x refl in rw here (ap (λ rooms. f x ∷ rooms) (all xs (λ i y is. h (suc i) y is)))
+rooms-set f f' (n ∷ nurseries) (suc m) r same =
+    let here : f' n ≡ f n = same 0 n (λ e. absurd (omega (arith, e))) refl in
+    rw here (ap (λ rooms. f n ∷ rooms) (rooms-set f f' nurseries m r (λ i x ne is. same (suc i) x (λ e. ne (omega (arith, e))) is)))
+
+pub get-set_same : {X : Type 0} (xs : List X) (m : ℕ) (old new : X) → slice_get xs m ≡ Some old → slice_get (set xs m new) m ≡ Some new
+get-set_same [] m old new is = absurd (cc)
+get-set_same (x ∷ xs) zero old new is = refl
+get-set_same (x ∷ xs) (suc m) old new is = get-set_same xs m old new is
+
+pub get-set_other : {X : Type 0} (xs : List X) (m i : ℕ) (new : X) → i ≢ m → slice_get (set xs m new) i ≡ slice_get xs i
+get-set_other [] m i new ne = refl
+get-set_other (x ∷ xs) zero zero new ne = absurd (ne refl)
+get-set_other (x ∷ xs) zero (suc i) new ne = refl
+get-set_other (x ∷ xs) (suc m) zero new ne = refl
+get-set_other (x ∷ xs) (suc m) (suc i) new ne = get-set_other xs m i new (λ e. ne (ap suc e))
+
+pub get_below : {X : Type 0} (xs : List X) (m : ℕ) (x : X) → slice_get xs m ≡ Some x → m < length xs
+get_below [] m x is = absurd (cc)
+get_below (y ∷ xs) zero x is = omega arith
+get_below (y ∷ xs) (suc m) x is = omega (arith, get_below xs m x is)
+
+module _ (config : Config) (table : List (Option BlockValue)) (nurseries : List NurseryValue) (pool : PoolValue) (sound : IsSoundSpace config table nurseries pool) where
   pub sound_fits : TableFits table
   sound_fits = λ n. slot_fits (slot_at table n) (λ b is. omega (arith, (sound.blocks n b is).fits, sound.in_range.most_words))
 
   pub sound_blocks : AreHeapBlocks config 0 table
   sound_blocks = λ n block is. let none : 0 + n ≡ n = omega arith in rw none (sound.blocks n block is)
 
-  pub sound_plain : ArePlain config.block_words (values_of (table_objects 0 table))
-  sound_plain = table-plain config 0 table sound_blocks
+  pub few_blocks : length table ≤ 65535
+  few_blocks = omega (arith, sound.short, sound.in_range.most_blocks)
 
-  pub each_plain : (name : ℕ) (o : Object) → get (objects_map table) name ≡ Some o → IsPlain config.block_words o
-  each_plain name o is = find_plain config.block_words name (table_objects 0 table) o sound_plain (sym (get-objects_map table name) ∙ is)
+  module _ (mutator : ℕ) (old new : NurseryValue) (at : slice_get nurseries mutator ≡ Some old) (p q place : ℕ) (table' : List (Option BlockValue)) (small : 1 + p + q ≤ config.block_words / 4) (push : Pushes config.block_words old table p q place new table') where
+    own : IsNurseryOf config table mutator old
+    own = sound.nurseries mutator old at
 
-  -- the block that a small object goes to
-  pub record Chosen (size number : ℕ) : Type 0 where
-    pub block : BlockValue
-    pub there : slot_at table number ≡ Some block
-    pub in_nursery : number < config.nursery_blocks
-    pub has_room : used_of block + size ≤ config.block_words
-    pub after : room_after config.block_words (room_of config table current) size ≡ Some (record { left = config.nursery_blocks - 1 - number; used = used_of block + size })
-    pub later : current ≤ number
+    pub in_range : mutator < config.mutators
+    in_range = omega (arith, get_below nurseries mutator old at, sound.count)
 
-  pub current_block : (block : BlockValue) × (slot_at table current ≡ Some block)
-  current_block = sound.nursery current sound.current_in_nursery
+    number_is : push.number ≡ mutator * config.nursery_blocks + (push.number - old.first)
+    number_is = omega (arith, own.first, push.from)
 
-  abbrev now : BlockValue
-  now = current_block.0
+    within : push.number - old.first < config.nursery_blocks
+    within = omega (arith, own.blocks, push.from, push.below)
 
-  abbrev stays : ℕ → Room
-  stays size = record { left = config.nursery_blocks - 1 - current; used = used_of now + size }
+    pub is_set_aside : push.number < nursery_count config
+    is_set_aside = let h = below_all config.mutators config.nursery_blocks mutator (push.number - old.first) in_range within in omega (arith, h, number_is)
 
-  abbrev moves : ℕ → Room
-  moves size = record { left = config.nursery_blocks - 1 - current - 1; used = size }
+    pub number_in_table : push.number < length table
+    number_in_table = in_list table push.number push.block push.there
 
-  used_now : slot_words (slot_at table current) ≡ used_of now
-  used_now = ap slot_words current_block.1
+    pub same_slot : slot_at table' push.number ≡ Some (with_more push.block (new_object p q))
+    same_slot = ap (λ t. slot_at t push.number) push.table_is ∙ get_or-set_same table push.number (Some (with_more push.block (new_object p q))) None number_in_table
 
-  pub chosen : (size number : ℕ) → size ≤ config.block_words / 4 → block_after now.words config.nursery_blocks current (used_of now) size ≡ Some number → Chosen size number
-  chosen size number small is =
-      let words : now.words ≡ config.block_words = (sound.blocks current now current_block.1).words in
-      let is' : block_after config.block_words config.nursery_blocks current (used_of now) size ≡ Some number = rw words at is in
-      go (nat_le (used_of now + size) config.block_words) refl (nat_lt (current + 1) config.nursery_blocks) refl is'
-    where
-      left_one : nat_lt (current + 1) config.nursery_blocks ≡ true → nat_lt 0 (config.nursery_blocks - 1 - current) ≡ true
-      left_one more = grind (arith, nat_tests, more)
+    pub other_slot : (n : ℕ) → n ≢ push.number → slot_at table' n ≡ slot_at table n
+    other_slot n ne = ap (λ t. slot_at t n) push.table_is ∙ get_or-set_other table push.number n (Some (with_more push.block (new_object p q))) None ne
 
-      empty_used : (block : BlockValue) → block.objects ≡ [] → used_of block ≡ 0
-      empty_used block none = ap (sum_by raw_size) none
+    above : (n : ℕ) → nursery_count config ≤ n → slot_at table' n ≡ slot_at table n
+    above n le = other_slot n (λ e. absurd (omega (arith, is_set_aside)))
 
-      go : (a : Bool) → nat_le (used_of now + size) config.block_words ≡ a → (b : Bool) → nat_lt (current + 1) config.nursery_blocks ≡ b → cond a (Some current) (cond b (Some (current + 1)) None) ≡ Some number → Chosen size number
-      go true fits b more e =
-          let same : current ≡ number = cc in
-          let room : used_of now + size ≤ config.block_words = grind (arith, nat_tests, fits) in
-          rw (sym same) (record {
-            block = now;
-            there = current_block.1;
-            in_nursery = sound.current_in_nursery;
-            has_room = room;
-            after = ap (λ u. room_after config.block_words (record { left = config.nursery_blocks - 1 - current; used = u }) size) used_now ∙ ap (λ t. cond t (Some (stays size)) (cond (nat_lt 0 (config.nursery_blocks - 1 - current)) (Some (moves size)) None)) fits;
-            later = omega arith;
-          })
-      go false fits true more e =
-          let same : current + 1 ≡ number = cc in
-          let in_range : current + 1 < config.nursery_blocks = grind (arith, nat_tests, more) in
-          let next = sound.nursery (current + 1) in_range in
-          let none : used_of next.0 ≡ 0 = empty_used next.0 (sound.later (current + 1) next.0 (omega arith) in_range next.1) in
-          let left : config.nursery_blocks - 1 - current - 1 ≡ config.nursery_blocks - 1 - (current + 1) = omega arith in
-          let used : size ≡ used_of next.0 + size = omega arith in
-          rw (sym same) (record {
-            block = next.0;
-            there = next.1;
-            in_nursery = in_range;
-            has_room = omega arith;
-            after =
-                ap (λ u. room_after config.block_words (record { left = config.nursery_blocks - 1 - current; used = u }) size) used_now
-                ∙ ap (λ t. cond t (Some (stays size)) (cond (nat_lt 0 (config.nursery_blocks - 1 - current)) (Some (moves size)) None)) fits
-                ∙ ap (λ t. cond t (Some (moves size)) None) (left_one more)
-                ∙ ap (λ n. Some (record { left = n; used = size })) left
-                ∙ ap (λ u. Some (record { left = config.nursery_blocks - 1 - (current + 1); used = u })) used;
-            later = omega arith;
-          })
-      go false fits false more e = absurd (cc)
+    used_more : used_of (with_more push.block (new_object p q)) ≡ used_of push.block + (1 + p + q)
+    used_more = sum_by_push raw_size push.block.objects (new_object p q) ∙ ap (λ n. used_of push.block + n) (new_object-size p q)
 
-  -- no block takes it exactly where the nursery has no room
-  pub no_room : (size : ℕ) → block_after now.words config.nursery_blocks current (used_of now) size ≡ None → room_after config.block_words (room_of config table current) size ≡ None
-  no_room size is =
-      let words : now.words ≡ config.block_words = (sound.blocks current now current_block.1).words in
-      let is' : block_after config.block_words config.nursery_blocks current (used_of now) size ≡ None = rw words at is in
-      ap (λ u. room_after config.block_words (record { left = config.nursery_blocks - 1 - current; used = u }) size) used_now
-      ∙ go (nat_le (used_of now + size) config.block_words) (nat_lt (current + 1) config.nursery_blocks) refl is'
-    where
-      go : (a b : Bool) → nat_lt (current + 1) config.nursery_blocks ≡ b → cond a (Some current) (cond b (Some (current + 1)) None) ≡ None → cond a (Some (stays size)) (cond (nat_lt 0 (config.nursery_blocks - 1 - current)) (Some (moves size)) None) ≡ None
-      go true b more e = absurd (cc)
-      go false true more e = absurd (cc)
-      go false false more e = ap (λ t. cond {A = Option Room} t (Some (moves size)) None) none_left
-        where
-          none_left : nat_lt 0 (config.nursery_blocks - 1 - current) ≡ false
-          none_left = grind (arith, nat_tests, more)
-
-  pub room_iff : (size : ℕ) → size ≤ config.block_words / 4 → (o : Option ℕ) → o ≡ block_after now.words config.nursery_blocks current (used_of now) size → IsTrue (is_some o) ↔ IsSome (room_after config.block_words (room_of config table current) size)
-  room_iff size small None is =
-      (λ e. absurd (cc), λ h. let none = no_room size (sym is) in let h' : IsSome {T = Room} None = subst (λ r. IsSome r) none h in absurd (cc))
-  room_iff size small (Some number) is =
-      (λ e. subst (λ r. IsSome r) (sym (chosen size number small (sym is)).after) refl, λ h. refl)
-
-  module _ (p q number : ℕ) (small : 1 + p + q ≤ config.block_words / 4) (at : Chosen (1 + p + q) number) where
-    abbrev raw : Raw
-    raw = new_object p q
-
-    abbrev new_table : List (Option BlockValue)
-    new_table = set table number (Some (with_more at.block raw))
-
-    pub number_in_table : number < length table
-    number_in_table = in_list table number at.block at.there
-
-    used_more : used_of (with_more at.block raw) ≡ used_of at.block + (1 + p + q)
-    used_more = sum_by_push raw_size at.block.objects raw ∙ ap (λ n. used_of at.block + n) (new_object-size p q)
-
-    same_slot : slot_at new_table number ≡ Some (with_more at.block raw)
-    same_slot = get_or-set_same table number (Some (with_more at.block raw)) None number_in_table
-
-    other_slot : (n : ℕ) → n ≢ number → slot_at new_table n ≡ slot_at table n
-    other_slot n ne = get_or-set_other table number n (Some (with_more at.block raw)) None ne
-
-    above : (n : ℕ) → config.nursery_blocks ≤ n → slot_at new_table n ≡ slot_at table n
-    above n le = other_slot n (λ e. absurd (omega (arith, at.in_nursery)))
-
-    new_block : IsHeapBlock config number (with_more at.block raw)
+    new_block : IsHeapBlock config push.number (with_more push.block (new_object p q))
     new_block =
-        let old = sound.blocks number at.block at.there in
+        let was = sound.blocks push.number push.block push.there in
         record {
-          number_is = old.number_is;
-          words = old.words;
-          generation = old.generation;
-          step = old.step;
-          fits = omega (arith, used_more, at.has_room);
-          objects = AreSmall-push config.block_words at.block.objects raw old.objects (omega (arith, new_object-size p q));
+          number_is = was.number_is;
+          words = was.words;
+          step = was.step;
+          fits = omega (arith, used_more, push.fits);
+          objects = AreSmall-push config.block_words push.block.objects (new_object p q) was.objects (omega (arith, new_object-size p q));
         }
 
-    pub pushed_sound : IsSoundSpace config new_table area number pool
+    -- the other nurseries keep their blocks
+    other_nursery : (i : ℕ) (n : NurseryValue) → i ≢ mutator → slice_get nurseries i ≡ Some n → (k : ℕ) → k < n.blocks → slot_at table' (n.first + k) ≡ slot_at table (n.first + k)
+    other_nursery i n ne is k lt =
+        let theirs = sound.nurseries i n is in
+        let here : n.first + k ≡ i * config.nursery_blocks + k = omega (arith, theirs.first) in
+        other_slot (n.first + k) (λ e. apart config.nursery_blocks i mutator k (push.number - old.first) ne (omega (arith, theirs.blocks)) within (sym here ∙ e ∙ number_is))
+
+    pub pushed_sound : IsSoundSpace config table' (set nurseries mutator new) pool
     pushed_sound = record {
       in_range = sound.in_range;
       blocks = λ n block is. ⊎_elim
-          (λ e. let same : with_more at.block raw ≡ block = some_same (sym same_slot ∙ sym (ap (slot_at new_table) e) ∙ is) in subst (λ m. IsHeapBlock config m block) (sym e) (subst (IsHeapBlock config number) same new_block))
+          (λ e. let same : with_more push.block (new_object p q) ≡ block = some_is (sym same_slot ∙ sym (ap (slot_at table') e) ∙ is) in subst (λ m. IsHeapBlock config m block) (sym e) (subst (IsHeapBlock config push.number) same new_block))
           (λ ne. sound.blocks n block (sym (other_slot n ne) ∙ is))
-          (cases_eq n number);
-      short = omega (arith, sound.short, length-set table number (Some (with_more at.block raw)));
-      nursery = λ n lt. ⊎_elim
-          (λ e. (with_more at.block raw, ap (slot_at new_table) e ∙ same_slot))
-          (λ ne. ((sound.nursery n lt).0, other_slot n ne ∙ (sound.nursery n lt).1))
-          (cases_eq n number);
-      current_in_nursery = at.in_nursery;
-      later = λ n block above_it lt is. sound.later n block (omega (arith, at.later)) lt (sym (other_slot n (λ e. absurd (omega (arith, e)))) ∙ is);
+          (cases_eq n push.number);
+      short = omega (arith, sound.short, ap length push.table_is, length-set table push.number (Some (with_more push.block (new_object p q))));
+      count = length-set nurseries mutator new ∙ sound.count;
+      nurseries = λ i n is. ⊎_elim
+          (λ e.
+          let same : new ≡ n = some_is (sym (get-set_same nurseries mutator old new at) ∙ subst (λ k. slice_get (set nurseries mutator new) k ≡ Some n) e is) in
+          rw (sym same, e) (record {
+            first = ap (λ x. x.first) push.nursery_is ∙ own.first;
+            blocks = ap (λ x. x.blocks) push.nursery_is ∙ own.blocks;
+            sound = push.sound;
+          }))
+          (λ ne.
+          let was = sym (get-set_other nurseries mutator i new ne) ∙ is in
+          let theirs = sound.nurseries i n was in
+          record { first = theirs.first; blocks = theirs.blocks; sound = same_nursery n table table' (other_nursery i n ne was) config.block_words theirs.sound })
+          (cases_eq i mutator);
+      set_aside = omega (arith, sound.set_aside, ap length push.table_is, length-set table push.number (Some (with_more push.block (new_object p q))));
+      young = λ n block lt is. ⊎_elim
+          (λ e.
+          let same : with_more push.block (new_object p q) ≡ block = some_is (sym same_slot ∙ sym (ap (slot_at table') e) ∙ is) in
+          let was = sound.young push.number push.block is_set_aside push.there in
+          (sym (ap (λ b. b.generation) same) ∙ was.0, sym (ap (λ b. b.step) same) ∙ was.1))
+          (λ ne. sound.young n block lt (sym (other_slot n ne) ∙ is))
+          (cases_eq n push.number);
+      filled = λ n block le is. sound.filled n block le (sym (above n le) ∙ is);
       limit = sound.limit;
-      are_free = λ n yes'. let old = sound.are_free n yes' in (old.0, old.1, above n old.0 ∙ old.2);
+      are_free = λ n free. let was = sound.are_free n free in (was.0, was.1, above n was.0 ∙ was.2);
       all_free = λ n le lt none. sound.all_free n le lt (sym (above n le) ∙ none);
-      area_blocks = λ n there. let old = sound.area_blocks n there in (old.0, (old.1.0, above n old.0 ∙ old.1.1));
-      all_area = λ n block le is. sound.all_area n block le (sym (above n le) ∙ is);
-      area_once = sound.area_once;
     }
-      where
-        some_same : {x y : BlockValue} → Some x ≡ Some y → x ≡ y
-        some_same e = cc
 
-    pub pushed_room : room_of config new_table number ≡ record { left = config.nursery_blocks - 1 - number; used = used_of at.block + (1 + p + q) }
-    pushed_room = ap (λ u. let r : Room = record { left = config.nursery_blocks - 1 - number; used = u } in r) (ap slot_words same_slot ∙ used_more)
+    pub pushed_rooms : rooms_of (set nurseries mutator new) table' ≡ set (rooms_of nurseries table) mutator (nursery_room new table')
+    pushed_rooms =
+        map-set (λ n. nursery_room n table') nurseries mutator new
+        ∙ rooms-set (λ n. nursery_room n table) (λ n. nursery_room n table') nurseries mutator (nursery_room new table')
+        (λ i n ne is. same_room n table table' (other_nursery i n ne is) (sound.nurseries i n is).sound.current)

@@ -1,90 +1,114 @@
--- What contracts inside the crate see of the blocks of a heap.
-use Rattle.std.specs.Prelude.{◌≡◌, ℕ, ◌+◌, ◌-◌, ◌<◌, ◌≤◌, ◌↔◌, ◌⊎◌, List, [], map, Option, Some, None, true, nat_eq, length, All, refl}
-use Rattle.std.specs.List.{IsDistinct}
+-- What contracts see of the blocks of a heap, and what holds of them inside.
+use Rattle.std.specs.Prelude.{◌≡◌, ℕ, ◌+◌, ◌*◌, ◌-◌, ◌/◌, ◌<◌, ◌≤◌, List, map, Option, Some, None, true, slice_get, slice_set, length, option_and_then, All, refl}
 use Rattle.std.specs.List.Sorted.{IsStrictlyIncreasing}
 use Rattle.std.specs.Ordering.{nat_cmp}
-use Rattle.std.specs.FinMap.{FinMap, from_entries, empty, get, insert, find, code}
+use Rattle.std.specs.FinMap.{FinMap, empty, get, insert, code}
 use Rattle.std.specs.Coded.{Coded, code_by, coded×, coded_ℕ, coded_list}
-use Rattle.model.specs.Graph.{Object, fresh_object}
+use Rattle.model.specs.Graph.{Graph, Object, fresh_object, size_of}
 use Rattle.model.specs.GraphCode.{object_code}
 use Rattle.model.specs.Config.{Config, config_code}
-use Rattle.model.specs.Destination.{numbers_from}
+use Rattle.model.specs.Destination.{numbers_from, IsStep}
 use Rattle.model.specs.Reached.{has}
-use Rattle.model.specs.Room.{Room, full_room, room_after}
+use Rattle.model.specs.Room.{Room, room_after}
+use Rattle.model.specs.Store.{full_rooms}
+use Rattle.layout.specs.Place.{small_word}
 use Rattle.block_pool.specs.BlockValue.{BlockValue}
 use Rattle.block_pool.specs.PoolValue.{PoolValue}
 use Rattle.steps.specs.ConfigRange.{IsInRange}
-use Rattle.heap_data.specs.HeapValue.{room_code}
-use Rattle.heap_data.specs.BlockObjects.{copies_of}
-use Rattle.block_table.specs.Installed.{installed}
-use Rattle.block_table.specs.Table.{slot_at, table_objects, slot_words, IsHeapBlock}
+use Rattle.heap_data.specs.HeapValue.{room_code, nursery_count}
+use Rattle.block_table.specs.Table.{slot_at, objects_map, IsHeapBlock}
+use Rattle.nursery.specs.NurseryValue.{NurseryValue, nursery_room, IsNursery}
 
 pub record SpaceValue : Type 0 where
   pub config : Config
   pub objects : FinMap nat_cmp Object
-  pub room : Room
+  pub rooms : List Room
   pub free : List ℕ
 
 abbrev pub space_code : Coded SpaceValue
 space_code =
     code_by
-    (Config × (FinMap nat_cmp Object × (Room × List ℕ)))
-    (coded× config_code (coded× (code coded_ℕ object_code) (coded× room_code (coded_list coded_ℕ))))
-    (λ s. (s.config, (s.objects, (s.room, s.free))))
-    (λ p. record { config = p.0; objects = p.1.0; room = p.1.1.0; free = p.1.1.1 })
+    (Config × (FinMap nat_cmp Object × (List Room × List ℕ)))
+    (coded× config_code (coded× (code coded_ℕ object_code) (coded× (coded_list room_code) (coded_list coded_ℕ))))
+    (λ s. (s.config, (s.objects, (s.rooms, s.free))))
+    (λ p. record { config = p.0; objects = p.1.0; rooms = p.1.1.0; free = p.1.1.1 })
     (λ _. refl)
 
--- the room of the nursery, of whose blocks the current one is filled
-abbrev pub room_of : Config → List (Option BlockValue) → ℕ → Room
-room_of config table current = record { left = config.nursery_blocks - 1 - current; used = slot_words (slot_at table current) }
+-- its objects, as a graph with no root
+abbrev pub graph_in : SpaceValue → Graph
+graph_in space = record { objects = space.objects; roots = empty }
 
-abbrev pub space_of : Config → List (Option BlockValue) → ℕ → PoolValue → SpaceValue
-space_of config table current pool = record { config = config; objects = from_entries (table_objects 0 table); room = room_of config table current; free = pool.free }
+-- the room of each mutator's nursery
+abbrev pub rooms_of : List NurseryValue → List (Option BlockValue) → List Room
+rooms_of nurseries table = map (λ n. nursery_room n table) nurseries
 
--- the first blocks are the nursery's, of which those after the current one are empty; every other block that is there
--- stands in the area and isn't free
-pub record IsSoundSpace (config : Config) (table : List (Option BlockValue)) (area : List ℕ) (current : ℕ) (pool : PoolValue) : Type 0 where
+abbrev pub space_of : Config → List (Option BlockValue) → List NurseryValue → PoolValue → SpaceValue
+space_of config table nurseries pool = record { config = config; objects = objects_map table; rooms = rooms_of nurseries table; free = pool.free }
+
+-- the nursery of a mutator: so many blocks after those of the mutators before it
+pub record IsNurseryOf (config : Config) (table : List (Option BlockValue)) (mutator : ℕ) (nursery : NurseryValue) : Type 0 where
+  pub first : nursery.first ≡ mutator * config.nursery_blocks
+  pub blocks : nursery.blocks ≡ config.nursery_blocks
+  pub sound : IsNursery config.block_words nursery table
+
+-- the first blocks are those of the nurseries, at generation 0 and step 0; every other block that is there holds an
+-- object, and isn't free
+pub record IsSoundSpace (config : Config) (table : List (Option BlockValue)) (filling : List NurseryValue) (pool : PoolValue) : Type 0 where
   pub in_range : IsInRange config
   pub blocks : (n : ℕ) (block : BlockValue) → slot_at table n ≡ Some block → IsHeapBlock config n block
   pub short : length table ≤ config.blocks
-  pub nursery : (n : ℕ) → n < config.nursery_blocks → (block : BlockValue) × (slot_at table n ≡ Some block)
-  pub current_in_nursery : current < config.nursery_blocks
-  pub later : (n : ℕ) (block : BlockValue) → current < n → n < config.nursery_blocks → slot_at table n ≡ Some block → block.objects ≡ []
+  pub count : length filling ≡ config.mutators
+  pub nurseries : (mutator : ℕ) (nursery : NurseryValue) → slice_get filling mutator ≡ Some nursery → IsNurseryOf config table mutator nursery
+  pub set_aside : nursery_count config ≤ length table
+  pub young : (n : ℕ) (block : BlockValue) → n < nursery_count config → slot_at table n ≡ Some block → (block.generation ≡ 0) × (block.step ≡ 0)
+  pub filled : (n : ℕ) (block : BlockValue) → nursery_count config ≤ n → slot_at table n ≡ Some block → 0 < length block.objects
   pub limit : pool.limit ≡ config.blocks
-  pub are_free : (n : ℕ) → has pool.free n ≡ true → (config.nursery_blocks ≤ n) × (n < config.blocks) × (slot_at table n ≡ None)
-  pub all_free : (n : ℕ) → config.nursery_blocks ≤ n → n < config.blocks → slot_at table n ≡ None → has pool.free n ≡ true
-  pub area_blocks : (n : ℕ) → has area n ≡ true → (config.nursery_blocks ≤ n) × ((block : BlockValue) × (slot_at table n ≡ Some block))
-  pub all_area : (n : ℕ) (block : BlockValue) → config.nursery_blocks ≤ n → slot_at table n ≡ Some block → has area n ≡ true
-  pub area_once : IsDistinct nat_eq area
+  pub are_free : (n : ℕ) → has pool.free n ≡ true → (nursery_count config ≤ n) × (n < config.blocks) × (slot_at table n ≡ None)
+  pub all_free : (n : ℕ) → nursery_count config ≤ n → n < config.blocks → slot_at table n ≡ None → has pool.free n ≡ true
 
--- no object yet: the blocks after the nursery's are free
+-- no object yet: the blocks after those of the nurseries are free
 abbrev pub empty_space : Config → SpaceValue
 empty_space config =
     record {
       config = config;
       objects = empty;
-      room = full_room config.nursery_blocks;
-      free = numbers_from config.nursery_blocks (config.blocks - config.nursery_blocks);
+      rooms = full_rooms config;
+      free = numbers_from (nursery_count config) (config.blocks - nursery_count config);
     }
 
+-- the room of a mutator's nursery after a small object of so many words, where it has room
+abbrev pub room_in : SpaceValue → ℕ → ℕ → Option Room
+room_in space mutator size = option_and_then (λ room. room_after space.config.block_words room size) (slice_get space.rooms mutator)
+
 -- a new small object at a new name
-pub record SpaceAllocates (old : SpaceValue) (p q name : ℕ) (new : SpaceValue) : Type 0 where
+pub record SpaceAllocates (old : SpaceValue) (mutator p q name : ℕ) (new : SpaceValue) : Type 0 where
   pub room : Room
   pub new_name : get old.objects name ≡ None
-  pub has_room : room_after old.config.block_words old.room (1 + p + q) ≡ Some room
-  pub change : new ≡ record old { objects = insert old.objects name (fresh_object p q); room = room }
+  pub has_room : room_in old mutator (1 + p + q) ≡ Some room
+  pub change : new ≡ record old { objects = insert old.objects name (fresh_object p q); rooms = slice_set old.rooms mutator room }
 
--- the blocks may take the place of all that is there
-pub record CanReplace (space : SpaceValue) (blocks : List BlockValue) : Type 0 where
-  pub once : IsDistinct nat_eq (map (λ b. b.number) blocks)
-  pub were_free : All (λ b. has space.free b.number ≡ true) blocks
-  pub sound : All (λ b. (b.objects ≡ []) ⊎ IsHeapBlock space.config b.number b) blocks
+-- a room within a nursery
+pub record IsRoom (config : Config) (room : Room) : Type 0 where
+  pub left : room.left < config.nursery_blocks
+  pub used : room.used ≤ config.block_words
 
--- the blocks took the place of all that was there
-pub record IsReplaced (old : SpaceValue) (blocks : List BlockValue) (new : SpaceValue) : Type 0 where
-  pub config : new.config ≡ old.config
-  pub objects : (name : ℕ) → get new.objects name ≡ find nat_cmp name (copies_of blocks)
-  pub room : new.room ≡ full_room old.config.nursery_blocks
-  -- a free block is one of the pool's that none of the blocks with an object is
-  pub free : (n : ℕ) → (has new.free n ≡ true) ↔ ((old.config.nursery_blocks ≤ n) × (n < old.config.blocks) × (installed blocks n ≡ None))
-  pub rising : IsStrictlyIncreasing new.free
+-- a small object stands at that place
+pub record IsPlace (blocks name : ℕ) : Type 0 where
+  pub block : ℕ
+  pub offset : ℕ
+  pub block_in_range : block < blocks
+  pub offset_in_range : offset < 512
+  pub is : name ≡ small_word block offset
+
+-- what holds of the blocks of every heap: each object is small, stands in a block and is of a step of the shape; a block
+-- is free exactly when it is one of the pool's and no object stands in it
+pub record IsSpace (space : SpaceValue) : Type 0 where
+  pub in_range : IsInRange space.config
+  pub steps : (name : ℕ) (o : Object) → get space.objects name ≡ Some o → IsStep space.config.shape (o.generation, o.step)
+  pub small : (name : ℕ) (o : Object) → get space.objects name ≡ Some o → size_of o ≤ space.config.block_words / 4
+  pub places : (name : ℕ) (o : Object) → get space.objects name ≡ Some o → IsPlace space.config.blocks name
+  pub mutators : length space.rooms ≡ space.config.mutators
+  pub rooms : All (IsRoom space.config) space.rooms
+  pub rising : IsStrictlyIncreasing space.free
+  pub free : (block : ℕ) → has space.free block ≡ true → (nursery_count space.config ≤ block) × (block < space.config.blocks) × ((offset : ℕ) → offset < 65536 → get space.objects (small_word block offset) ≡ None)
+  pub all_free : (block : ℕ) → nursery_count space.config ≤ block → block < space.config.blocks → ((offset : ℕ) → offset < 512 → get space.objects (small_word block offset) ≡ None) → has space.free block ≡ true

@@ -1,7 +1,7 @@
-//! The blocks of a heap: those of the nursery, and those that collections filled.
+//! The blocks of a heap: those of the nurseries, and those that collections filled.
 #![tactic(auto)]
 
-mod nursery;
+mod nurseries;
 mod space;
 
 pub use space::Space;

@@ -1,29 +1,35 @@
-//! The blocks of a heap: those of the nursery, and those that collections filled.
-ghost use Rattle.std.specs.Prelude.{◌≡◌, ℕ, ◌+◌, ◌/◌, ◌<◌, ◌≤◌, ◌↔◌, Some, None, Err, length, slice_index, sum_by, IsTrue, IsSome, IfOk, IfSome, IfNone, OnOk, OnErr, MatchOption, IsSomeAnd, slice_set};
-ghost use Rattle.std.specs.FinMap.{keys, values, get, insert};
+//! The blocks of a heap: those of the nurseries, and those that collections filled.
+ghost use Rattle.std.specs.Prelude.{◌≡◌, ℕ, ◌+◌, ◌/◌, ◌<◌, ◌≤◌, ◌↔◌, ◌++◌, Some, None, map, length, slice_index, count_by, IsTrue, IsSome, IfOk, IfSome, IfNone, OnOk, OnErr, MatchOption, IsSomeAnd, slice_set};
+ghost use Rattle.std.specs.FinMap.{values, get, insert};
 ghost use Rattle.std.specs.Option.{option_map};
-ghost use Rattle.model.specs.Graph.{size_of, Object, with_pointer};
-ghost use Rattle.model.specs.Reached.{has};
-ghost use Rattle.heap_data.specs.Plain.{IsPlain, ArePlain};
-ghost use Rattle.model.specs.Room.{room_after};
-ghost use Rattle.layout.specs.Place.{place_word, pointer_word, small_word};
+ghost use Rattle.model.specs.Graph.{Object, IsClosed, with_pointer};
+ghost use Rattle.model.specs.Census.{step_count, points_younger};
+ghost use Rattle.model.specs.Live.{IsYoung};
+ghost use Rattle.model.specs.OldSlots.{old_slots};
+ghost use Rattle.layout.specs.Place.{place_word, pointer_word};
 ghost use Rattle.layout.specs.ObjectRef.{raw_of};
 ghost use Rattle.steps.specs.ConfigRange.{IsInRange};
-ghost use Rattle.heap_data.specs.BlockObjects.{object_of};
-ghost use Rattle.heap_data.specs.CollectionValue.{rank_below, AreFreeBlocks};
-ghost use Rattle.heap_space.specs.Space.{SpaceAllocates, empty_space, CanReplace, IsReplaced};
+ghost use Rattle.steps.specs.StepPairs.{step_pair, stands_at};
+ghost use Rattle.heap_data.specs.HeapValue.{nursery_count};
+ghost use Rattle.heap_data.specs.Words.{IsShownAs};
+ghost use Rattle.heap_data.specs.CensusView.{step_value};
+ghost use Rattle.heap_data.specs.SlotView.{slot_value};
+ghost use Rattle.heap_data.specs.CollectionValue.{young_names, field_slot_of};
+ghost use Rattle.heap_space.specs.Space.{SpaceAllocates, empty_space, room_in, graph_in, IsSpace};
+ghost use Rattle.heap_space.specs.Collecting.{AreBases, IsNumbered, CanReplace, IsReplaced};
 
-use crate::nursery::{block_for, nursery_table, push_new};
+use crate::nurseries::{nurseries_of, nursery_table, reset_all};
 use block_pool::{Block, Pool};
 use block_table::{
-    Table, bases, block_object, count_blocks, end_of, exchange, grow, object_from, ordinal_at,
-    set_plain, set_pointer,
+    Table, bases, block_object, count_remembered, count_step, end_of, exchange, grow, object_from,
+    ordinal_at, push_old_slots, set_plain, set_pointer, step_at, young_blocks,
 };
-use heap_data::StepCount;
+use heap_data::{Slot, StepCount};
 use layout::{ObjectRef, Place};
+use nursery::Nursery;
 use std::alloc::{AllocError, Allocator, Global};
 use std::marker::Model;
-use steps::Config;
+use steps::{Config, StepId};
 
 /// The word of a pointer, which is 0 for nil.
 fn word_of(target: Option<Place>) -> u64
@@ -39,12 +45,10 @@ fn word_of(target: Option<Place>) -> u64
 #[derive(Drop)]
 pub struct Space<A: Allocator = Global> {
     config: Config,
-    // The first blocks are the nursery's.
+    // The first blocks are the nurseries', mutator by mutator.
     table: Table<A>,
-    // The blocks that collections filled.
-    area: Vec<u32, A>,
-    // The nursery block that is filled now.
-    current: usize,
+    // One for each mutator.
+    nurseries: Vec<Nursery, A>,
     pool: Pool<A>,
 }
 
@@ -55,64 +59,86 @@ impl<A: Allocator> Model for Space<A> {
 
     ghost coded = { space_code };
 
-    ghost view = { λ s. space_of s.config s.table.items s.current s.pool };
+    ghost view = { λ s. space_of s.config s.table.items s.nurseries.items s.pool };
 
-    ghost invariant = { λ s. IsSoundSpace s.config s.table.items s.area.items s.current s.pool };
+    ghost invariant = { λ s. IsSoundSpace s.config s.table.items s.nurseries.items s.pool };
+}
+
+/// How many blocks the nurseries take together.
+fn nursery_blocks(config: Config) -> usize
+    ensures value { result ≡ nursery_count config }
+    ensures few { result ≤ 1024 }
+{
+    config.mutators() * config.nursery_blocks()
 }
 
 impl<A: Allocator + Clone> Space<A> {
-    /// Blocks with no object. The first ones are set aside for the nursery.
+    /// Blocks with no object. The first ones are set aside for the nurseries.
     pub fn new(alloc: A, config: Config) -> Result<Space<A>, AllocError>
-        requires { config.nursery_blocks ≤ config.blocks }
+        requires { nursery_count config ≤ config.blocks }
         ensures { IfOk result (λ space. space ≡ empty_space config) }
     {
-        let count = config.nursery_blocks();
+        let count = nursery_blocks(config);
         let table = nursery_table(alloc.clone()?, count, config.block_words())?;
+        let nurseries = nurseries_of(alloc.clone()?, config.mutators(), config.nursery_blocks())?;
         let mut pool = Pool::new(alloc.clone()?, config.blocks() as u32)?;
-        let Ok(_granted) = pool.grant(alloc.clone()?, count) else {
+        let Ok(_granted) = pool.grant(alloc, count) else {
             return Err(AllocError);
         };
         Ok(Space {
             config,
             table,
-            area: Vec::new(alloc),
-            current: 0,
+            nurseries,
             pool,
         })
     }
 
-    /// Whether the nursery has room for an object of `size` words, at most a quarter of a block.
-    pub fn has_room(&self, size: usize) -> bool
-        requires { size ≤ self.now.config.block_words / 4 }
-        ensures { IsTrue result ↔ IsSome (room_after self.now.config.block_words self.now.room size) }
+    /// Whether a mutator's nursery has room for an object of `size` words, at most a quarter of a block.
+    pub fn has_room(&self, mutator: usize, size: usize) -> bool
+        requires mutator { mutator < self.now.config.mutators }
+        requires small { size ≤ self.now.config.block_words / 4 }
+        ensures { IsTrue result ↔ IsSome (room_in self.now mutator size) }
     {
-        let count = self.config.nursery_blocks();
-        block_for(&self.table, self.current, count, size).is_some()
+        self.nurseries[mutator].has_room(&self.table, size)
     }
 
-    /// Puts a new small object into the nursery. `None` says that there is no room.
-    pub fn allocate(&mut self, p: u32, q: u32) -> Option<Place>
-        requires { 1 + p + q ≤ self.old.config.block_words / 4 }
-        ensures room { IsSome result ↔ IsSome (room_after self.old.config.block_words self.old.room (1 + p + q)) }
-        ensures some { IfSome result (λ place. SpaceAllocates self.old p q (place_word place) self.new) }
+    /// Puts a new small object into a mutator's nursery. `None` says that there is no room.
+    pub fn allocate(&mut self, mutator: usize, p: u32, q: u32) -> Option<Place>
+        requires mutator { mutator < self.old.config.mutators }
+        requires small { 1 + p + q ≤ self.old.config.block_words / 4 }
+        ensures room { IsSome result ↔ IsSome (room_in self.old mutator (1 + p + q)) }
+        ensures some { IfSome result (λ place. SpaceAllocates self.old mutator p q (place_word place) self.new) }
         ensures none { IfNone result (self.new ≡ self.old) }
     {
-        let size = 1 + p as usize + q as usize;
-        let count = self.config.nursery_blocks();
-        let number = block_for(&self.table, self.current, count, size)?;
-        let offset = push_new(&mut self.table, number, p, q);
-        self.current = number;
-        Some(Place::small(number as u16, offset as u16))
+        let Ok(place) = self.nurseries[mutator].alloc(&mut self.table, p, q) else {
+            return None;
+        };
+        Some(place)
     }
 
     /// The object at a place, where there is one.
     pub fn object(&self, place: Place) -> Option<ObjectRef<'_>>
         ensures { MatchOption result (get self.now.objects (place_word place) ≡ None)
-            (λ object. get self.now.objects (place_word place) ≡ Some (object_of 0 0 (raw_of object))) }
+            (λ object. IsSomeAnd (get self.now.objects (place_word place)) (λ o. IsShownAs o (raw_of object))) }
     {
         match place {
             Place::Small(at) => block_object(&self.table, at.block as usize, at.offset as usize),
             Place::Large(_) => None,
+        }
+    }
+
+    /// The generation and step of the object at a place, where there is one.
+    pub fn step_of(&self, place: Place) -> Option<StepId>
+        ensures { option_map step_pair result ≡ option_map stands_at (get self.now.objects (place_word place)) }
+    {
+        let table = &self.table;
+        let Place::Small(at) = place else {
+            return None;
+        };
+        let number = at.block as usize;
+        match block_object(table, number, at.offset as usize) {
+            Some(_) => Some(step_at(table, number)),
+            None => None,
         }
     }
 
@@ -179,38 +205,49 @@ impl<A: Allocator + Clone> Space<A> {
         }
     }
 
-    /// How many objects there are, and how many words they take.
-    pub fn count(&self) -> StepCount
-        ensures generation { result.generation ≡ 0 }
-        ensures step { result.step ≡ 0 }
-        ensures objects { result.objects ≡ length (values self.now.objects) }
-        ensures words { result.words ≡ sum_by size_of (values self.now.objects) }
-        ensures plain { ArePlain self.now.config.block_words (values self.now.objects) }
+    /// How many objects stand at a generation and step, and how many words they take.
+    pub fn count(&self, at: StepId) -> StepCount
+        ensures { step_value result ≡ step_count self.now.config.block_words (values self.now.objects) (step_pair at) }
     {
-        count_blocks(&self.table)
+        count_step(&self.table, at)
     }
 
-    /// The number of the first object of each block, and how many objects there are.
-    pub fn bases(&self, alloc: A) -> Result<(Vec<u32, A>, u32), AllocError>
-        ensures bases { IfOk result (λ r. (block : ℕ) → block < length r.0.items
-            → slice_index r.0.items block ≡ rank_below (small_word block 0) (keys self.now.objects)) }
-        ensures covers { IfOk result (λ r. (block offset : ℕ) → offset < 65536
-            → IsSome (get self.now.objects (small_word block offset)) → block < length r.0.items) }
-        ensures all { IfOk result (λ r. r.1 ≡ length (keys self.now.objects)) }
+    /// How many objects have a pointer to an object of a younger generation.
+    pub fn count_remembered(&self) -> u64
+        requires { IsClosed (graph_in self.now) }
+        ensures { result ≡ count_by (points_younger (get self.now.objects)) (values self.now.objects) }
     {
-        let found = bases(alloc, &self.table)?;
+        count_remembered(&self.table)
+    }
+
+    /// Puts the pointers of objects older than `g` that lead to objects of generation at most `g` at the end of the
+    /// slots: by the generation of their object, then its place, then the field.
+    pub fn push_old_slots<B: Allocator>(
+        &self,
+        slots: &mut Vec<Slot, B>,
+        g: u8,
+    ) -> Result<(), AllocError>
+        requires { IsClosed (graph_in self.now) }
+        ensures { OnOk result (map slot_value slots.new.items ≡ map slot_value slots.old.items
+            ++ map field_slot_of (old_slots (graph_in self.now) self.now.config.shape.generations g)) }
+    {
+        push_old_slots(slots, &self.table, g, self.config.generations() as u8)
+    }
+
+    /// The number of the first object of generation at most `g` of each block, and how many such objects there are.
+    pub fn bases(&self, alloc: A, g: u8) -> Result<(Vec<u32, A>, u32), AllocError>
+        ensures bases { IfOk result (λ r. AreBases self.now g r.0.items) }
+        ensures all { IfOk result (λ r. r.1 ≡ length (young_names (graph_in self.now) g)) }
+    {
+        let found = bases(alloc, &self.table, g)?;
         Ok(found)
     }
 
-    /// The number of an object, where the blocks' first objects have these numbers.
-    pub fn number_of(&self, bases: &[u32], place: Place) -> u32
-        requires bases { (block : ℕ) → block < length bases.now
-            → slice_index bases.now block ≡ rank_below (small_word block 0) (keys self.now.objects) }
-        requires covers { (block offset : ℕ) → offset < 65536
-            → IsSome (get self.now.objects (small_word block offset)) → block < length bases.now }
-        requires there { IsSome (get self.now.objects (place_word place)) }
-        ensures in_range { result < length (keys self.now.objects) }
-        ensures number { slice_index (keys self.now.objects) result ≡ place_word place }
+    /// The number of an object of generation at most `g`.
+    pub fn number_of(&self, bases: &[u32], g: u8, place: Place) -> u32
+        requires bases { AreBases self.now g bases.now }
+        requires young { IsYoung (graph_in self.now) g (place_word place) }
+        ensures { IsNumbered self.now g (place_word place) result }
     {
         let table = &self.table;
         let Place::Small(at) = place else {
@@ -220,17 +257,16 @@ impl<A: Allocator + Clone> Space<A> {
         bases[number] + ordinal_at(table, number, at.offset as usize) as u32
     }
 
-    /// The object at a place where there is one, and its number, where the blocks' first objects have these numbers.
+    /// The object at a place where there is one, its generation and step, and its number where its generation is at
+    /// most `g`.
     #[inline]
-    pub fn find(&self, bases: &[u32], place: Place) -> (ObjectRef<'_>, u32)
-        requires bases { (block : ℕ) → block < length bases.now
-            → slice_index bases.now block ≡ rank_below (small_word block 0) (keys self.now.objects) }
-        requires covers { (block offset : ℕ) → offset < 65536
-            → IsSome (get self.now.objects (small_word block offset)) → block < length bases.now }
+    pub fn find(&self, bases: &[u32], g: u8, place: Place) -> (ObjectRef<'_>, StepId, Option<u32>)
+        requires bases { AreBases self.now g bases.now }
         requires there { IsSome (get self.now.objects (place_word place)) }
-        ensures object { get self.now.objects (place_word place) ≡ Some (object_of 0 0 (raw_of result.0)) }
-        ensures in_range { result.1 < length (keys self.now.objects) }
-        ensures number { slice_index (keys self.now.objects) result.1 ≡ place_word place }
+        ensures object { IsSomeAnd (get self.now.objects (place_word place)) (λ o. IsShownAs o (raw_of result.0)) }
+        ensures step { Some (step_pair result.1) ≡ option_map stands_at (get self.now.objects (place_word place)) }
+        ensures number { MatchOption result.2 (IsYoung (graph_in self.now) g (place_word place) → ⊥)
+            (λ n. IsYoung (graph_in self.now) g (place_word place) × IsNumbered self.now g (place_word place) n) }
     {
         let table = &self.table;
         let Place::Small(at) = place else {
@@ -238,16 +274,19 @@ impl<A: Allocator + Clone> Space<A> {
         };
         let number = at.block as usize;
         let object = object_from(table, number, at.offset as usize);
-        (object, bases[number] + object.header.ordinal as u32)
+        let step = step_at(table, number);
+        if step.generation > g {
+            return (object, step, None);
+        }
+        let named = bases[number] + object.header.ordinal as u32;
+        (object, step, Some(named))
     }
 
     /// How many blocks are free.
     pub fn free_count(&self) -> usize
         ensures value { result ≡ length self.now.free }
-        // What holds of the free blocks.
-        ensures blocks { AreFreeBlocks self.now.config.blocks self.now.free }
-        ensures empty { (block offset : ℕ) → IsTrue (has self.now.free block) → offset < 65536
-            → get self.now.objects (small_word block offset) ≡ None }
+        // What holds of the blocks of every heap.
+        ensures space { IsSpace self.now }
     {
         self.pool.free_count()
     }
@@ -263,34 +302,22 @@ impl<A: Allocator + Clone> Space<A> {
     pub fn config(&self) -> Config
         ensures value { result ≡ self.now.config }
         ensures in_range { IsInRange self.now.config }
-        // What holds of the objects today.
-        ensures plain { (name : ℕ) (o : Object) → get self.now.objects name ≡ Some o → IsPlain self.now.config.block_words o }
-        ensures places { (name : ℕ) (o : Object) → get self.now.objects name ≡ Some o → (place : Place) × (place_word place ≡ name) }
     {
         self.config
     }
 
-    /// Puts blocks in the place of all that is there. Where memory runs out nothing changes.
-    pub fn replace(&mut self, alloc: A, blocks: Vec<Block<A>, A>) -> Result<(), AllocError>
+    /// Puts blocks in the place of all objects of generation at most `g`. Where memory runs out nothing changes.
+    pub fn replace(&mut self, alloc: A, g: u8, blocks: Vec<Block<A>, A>) -> Result<(), AllocError>
         requires { CanReplace self.old blocks.items }
-        ensures ok { OnOk result (IsReplaced self.old blocks.items self.new) }
+        ensures ok { OnOk result (IsReplaced self.old g blocks.items self.new) }
         ensures err { OnErr result (self.new ≡ self.old) }
     {
+        let count = nursery_blocks(self.config);
+        let old = young_blocks(alloc, &self.table, count, g)?;
         let end = end_of(&blocks);
-        let mut area = Vec::with_capacity(alloc, blocks.len())?;
         grow(&mut self.table, end)?;
-        let count = self.config.nursery_blocks();
-        exchange(
-            &mut self.table,
-            &mut self.pool,
-            count,
-            &self.area,
-            &mut area,
-            blocks,
-        );
-        self.area = area;
-        self.current = 0;
-        let _free = self.pool.free_count();
+        exchange(&mut self.table, &mut self.pool, count, &old, blocks);
+        reset_all(&mut self.nurseries);
         Ok(())
     }
 }

@@ -47,7 +47,7 @@ module _ {X : Type 0} where
   above x (d ∷ es) e t (inr h) = above x es e (both (is_lt (nat_cmp x d.0)) (all_above x es) t).1 h
 
   -- an entry of a sorted list is what its key finds
-  entry_found : (es : List (ℕ × X)) (e : ℕ × X) → T (is_sorted nat_cmp es) → Among e es → find nat_cmp e.0 es ≡ Some e.1
+  pub entry_found : (es : List (ℕ × X)) (e : ℕ × X) → T (is_sorted nat_cmp es) → Among e es → find nat_cmp e.0 es ≡ Some e.1
   entry_found [] e t h = absurd h
   entry_found (d ∷ es) e t (inl at) = subst (λ y. find nat_cmp y.0 (d ∷ es) ≡ Some y.1) (sym at) (find_same d.0 d.1 es)
   entry_found (d ∷ es) e t (inr h) =
@@ -65,7 +65,7 @@ module _ {X : Type 0} where
       (λ ne. inr (found_entry es q v (sym (find_other q d.0 d.1 es ne) ∙ h)))
       (cases_eq q d.0)
 
-young_name : (graph : Graph) (g name : ℕ) → is_young_name graph g name ≡ true → IsYoung graph g name
+pub young_name : (graph : Graph) (g name : ℕ) → is_young_name graph g name ≡ true → IsYoung graph g name
 young_name graph g name h = go (object_at graph name) refl h
   where
     go : (o : Option Object) → object_at graph name ≡ o → option_map_or (λ x. nat_le x.generation g) o false ≡ true → IsYoung graph g name

@@ -180,7 +180,7 @@ fn numbers_out_of_range(rt: HostRuntime) {
         "--blocks=0",
         "--blocks=65536",
         "--mutators=0",
-        "--mutators=2",
+        "--mutators=17",
         "--nursery=0",
         "--nursery=65",
         "--steps=0",
@@ -191,7 +191,7 @@ fn numbers_out_of_range(rt: HostRuntime) {
         let words = ["gctrace", "run", "--generations=1", option];
         assert_run(&rt, rt.alloc(), &words, b"new\n", b"", errors, 3);
     }
-    for option in ["--generations=0", "--generations=2", "--steps=2"] {
+    for option in ["--generations=0", "--generations=5"] {
         assert_run(
             &rt,
             rt.alloc(),
@@ -212,6 +212,7 @@ fn numbers_in_range(rt: HostRuntime) {
         "--blocks=5",
         "--blocks=65535",
         "--mutators=1",
+        "--mutators=16",
         "--nursery=1",
         "--nursery=64",
         "--steps=1",

@@ -10,6 +10,8 @@ mod at_size;
 #[cfg(test)]
 mod faults;
 #[cfg(test)]
+mod generations;
+#[cfg(test)]
 mod memory;
 #[cfg(test)]
 mod pointers;

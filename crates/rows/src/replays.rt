@@ -2,17 +2,17 @@
 use crate::program::ran;
 use std::alloc::Global;
 
-/// A replay: its words, what it reads, and what it leaves.
+/// A run of the program: its words, what it reads, and what it leaves.
 #[derive(Clone, Copy)]
-struct Row {
-    words: &'static [&'static str],
-    input: &'static [u8],
-    output: &'static [u8],
-    errors: &'static [u8],
-    status: u8,
+pub(crate) struct Row {
+    pub(crate) words: &'static [&'static str],
+    pub(crate) input: &'static [u8],
+    pub(crate) output: &'static [u8],
+    pub(crate) errors: &'static [u8],
+    pub(crate) status: u8,
 }
 
-/// Whether a replay leaves what the row says.
+/// Whether a run leaves what the row says.
 fn is_as_told(alloc: Global, row: &Row) -> bool {
     let ended = ran(alloc, row.words, row.input);
     ended.errors.as_slice() == row.errors
@@ -21,7 +21,7 @@ fn is_as_told(alloc: Global, row: &Row) -> bool {
 }
 
 /// The first row that isn't as told.
-fn first_other(alloc: Global, rows: &[Row]) -> Option<usize> {
+pub(crate) fn first_other(alloc: Global, rows: &[Row]) -> Option<usize> {
     for (i, row) in rows.iter().enumerate() {
         if !is_as_told(alloc, row) {
             return Some(i);

@@ -1,3 +1,4 @@
 -- What follows from the ranges of a heap's sizes, and of destinations.
 pub mod Ranges
 pub mod Placing
+pub mod Numbers

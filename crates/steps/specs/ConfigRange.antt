@@ -3,17 +3,18 @@ use Rattle.std.specs.Prelude.{◌≡◌, ◌%◌, ◌≤◌}
 use Rattle.model.specs.Config.{Config}
 use Rattle.steps.specs.declared.config.Sizes.{Sizes}
 
--- today one mutator and one generation
 pub record IsInRange (config : Config) : Type 0 where
   pub least_words : 16 ≤ config.block_words
   pub most_words : config.block_words ≤ 512
   pub fours : config.block_words % 4 ≡ 0
   pub some_block : 1 ≤ config.blocks
   pub most_blocks : config.blocks ≤ 65535
-  pub one_mutator : config.mutators ≡ 1
+  pub some_mutator : 1 ≤ config.mutators
+  pub most_mutators : config.mutators ≤ 16
   pub some_nursery : 1 ≤ config.nursery_blocks
   pub most_nursery : config.nursery_blocks ≤ 64
-  pub one_generation : config.shape.generations ≡ 1
+  pub some_generation : 1 ≤ config.shape.generations
+  pub most_generations : config.shape.generations ≤ 4
   pub some_step : 1 ≤ config.shape.steps
   pub most_steps : config.shape.steps ≤ 4
 

@@ -14,11 +14,11 @@ pub struct Sizes {
     pub block_words: u64,
     /// Blocks in all: 1 to 65,535.
     pub blocks: u64,
-    /// Today 1.
+    /// 1 to 16.
     pub mutators: u64,
     /// Nursery blocks of a mutator: 1 to 64.
     pub nursery_blocks: u64,
-    /// Today 1.
+    /// 1 to 4.
     pub generations: u64,
     /// Steps of each generation but the oldest: 1 to 4.
     pub steps: u64,
@@ -57,8 +57,8 @@ impl Model for Config {
 }
 
 impl Config {
-    /// Sizes in range: blocks of 16 to 512 words, a multiple of 4; 1 to 65,535 blocks; 1 to 64 nursery blocks; 1 to 4
-    /// steps; today one mutator and one generation.
+    /// Sizes in range: blocks of 16 to 512 words, a multiple of 4; 1 to 65,535 blocks; 1 to 16 mutators; 1 to 64 nursery
+    /// blocks of each; 1 to 4 generations; 1 to 4 steps.
     pub fn new(sizes: Sizes) -> Result<Config, BadConfig>
         ensures ok { IfOk result (λ config. config ≡ sizes_of sizes) }
         ensures in_range { IsOk result ↔ IsInRange (sizes_of sizes) }
@@ -67,13 +67,16 @@ impl Config {
         if words < 16 || words > 512 || words % 4 != 0 {
             return Err(BadConfig);
         }
-        if sizes.blocks < 1 || sizes.blocks > 65535 || sizes.mutators != 1 {
+        if sizes.blocks < 1 || sizes.blocks > 65535 {
             return Err(BadConfig);
         }
-        if sizes.nursery_blocks < 1 || sizes.nursery_blocks > 64 || sizes.generations != 1 {
+        if sizes.mutators < 1 || sizes.mutators > 16 {
             return Err(BadConfig);
         }
-        if sizes.steps < 1 || sizes.steps > 4 {
+        if sizes.nursery_blocks < 1 || sizes.nursery_blocks > 64 {
+            return Err(BadConfig);
+        }
+        if sizes.generations < 1 || sizes.generations > 4 || sizes.steps < 1 || sizes.steps > 4 {
             return Err(BadConfig);
         }
         Ok(Config {
@@ -102,6 +105,7 @@ impl Config {
         self.blocks
     }
 
+    /// 1 to 16.
     pub fn mutators(&self) -> usize
         ensures value { result ≡ self.now.mutators }
         ensures in_range { IsInRange self.now }
@@ -117,6 +121,7 @@ impl Config {
         self.nursery_blocks
     }
 
+    /// 1 to 4.
     pub fn generations(&self) -> usize
         ensures value { result ≡ self.now.shape.generations }
         ensures in_range { IsInRange self.now }
@@ -124,13 +129,14 @@ impl Config {
         self.generations
     }
 
-    /// Steps of each generation but the oldest, which has one.
+    /// Steps of each generation but the oldest, which has one: 1 to 4.
     pub fn steps(&self) -> usize
         ensures value { result ≡ self.now.shape.steps }
         ensures in_range { IsInRange self.now }
     {
         self.steps
     }
+
     /// Where an object of that step goes when it survives a collection: to the next step, after the last one to the
     /// next generation. The oldest generation has one step.
     pub fn dest(&self, at: StepId) -> StepId

@@ -5,7 +5,7 @@ pub use Rattle.trace_lines.specs.Sound
 pub use Rattle.trace_lines.specs.Carried
 pub use Rattle.trace_lines.specs.Faults
 pub use Rattle.trace_lines.specs.FaultText
-pub use Rattle.trace_step.specs.Refusals
+pub use Rattle.trace_replay.specs.Refusals
 pub use Rattle.trace_replay.specs.Replays
 pub use Rattle.trace_replay.specs.ReplayStops
 pub mod RunValue

@@ -6,14 +6,14 @@ ghost use Rattle.trace_lines.specs.Pieces.{HasNoFeed, pieces};
 ghost use Rattle.trace_lines.specs.Sound.{IsSound};
 ghost use Rattle.trace_lines.specs.Carried.{StopsAt, LeavesBefore, LeavesOutput, Prints, PrintsFront};
 ghost use Rattle.trace_lines.specs.Stepped.{AtEach, CarriesOutTo};
-ghost use Rattle.trace_step.specs.Refusals.{MayBeFull};
-ghost use Rattle.trace_step.specs.Session.{Stands};
+ghost use Rattle.trace_replay.specs.Refusals.{MayBeFull};
+ghost use Rattle.trace_replay.specs.Session.{Stands};
 
 use crate::config::RunConfig;
 use byte_streams::{Sink, Source};
 use std::alloc::Allocator;
 use trace_lines::{Fault, read_all, split_line};
-use trace_step::{Session, carry_out};
+use trace_replay::{Session, carry_out};
 use trace_text::Kind;
 
 /// The most bytes that a line has before its line feed.

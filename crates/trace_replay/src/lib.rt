@@ -5,3 +5,4 @@ mod collecting;
 mod replaying;
 
 pub use replaying::replay;
+pub use trace_step::{Session, carry_out};

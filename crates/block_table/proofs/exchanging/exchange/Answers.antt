@@ -27,9 +27,3 @@ install-requires-clause-free g c = grind arith
 
 pub returns-clause-limit : goal.returns-clause-limit
 returns-clause-limit g c = search rules
-
-pub returns-clause-area : goal.returns-clause-area
-returns-clause-area g c = search rules
-
-pub returns-clause-area_once : goal.returns-clause-area_once
-returns-clause-area_once g c = search rules

@@ -1,13 +1,12 @@
-use Rattle.std.proofs.Common.{◌≡◌, ◌≤◌, ◌+◌, vec_len, vec_capacity}
+use Rattle.std.proofs.Common.{◌≡◌, vec_len}
 use Rattle.block_table.proofs.Installing.{Installing}
 use Rattle.block_table.proofs.exchanging.install.Given as goal
 
 -- the blocks that are left, and those that were put in
 abbrev pub invariant-loop-block : goal.invariant-loop-block
 invariant-loop-block g l = record {
-  so_far : Installing l.fn.blocks.items l.blocks.items l.fn.table l.table l.fn.pool.free l.pool.free l.area.items;
+  so_far : Installing l.fn.blocks.items l.blocks.items l.fn.table l.table l.fn.pool.free l.pool.free;
   limit : l.pool.limit ≡ l.fn.pool.limit;
-  room : vec_len l.area + vec_len l.blocks ≤ vec_capacity l.area;
 }
 
 abbrev pub decreases-loop-block : goal.decreases-loop-block

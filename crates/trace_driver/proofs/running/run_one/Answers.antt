@@ -1,8 +1,8 @@
 use Rattle.std.proofs.Common.{◌≡◌, subst, sym}
 use Rattle.std.specs.Prelude.{IfSome}
 use Rattle.model.specs.Store.{empty_store}
-use Rattle.trace_step.specs.Refusals.{MayBeFull}
-use Rattle.trace_step.specs.Session.{Stands}
+use Rattle.trace_replay.specs.Refusals.{MayBeFull}
+use Rattle.trace_replay.specs.Session.{Stands}
 use Rattle.trace_lines.proofs.FaultLemmas.{run_faults}
 use Rattle.trace_driver.proofs.running.run_one.Goals as goal
 

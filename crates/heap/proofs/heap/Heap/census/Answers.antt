@@ -1,13 +1,17 @@
-use Rattle.std.proofs.Common.{sym, ◌∙◌}
-use Rattle.std.specs.FinMap.{get, values, len}
+use Rattle.std.proofs.Common.{map, sym, ◌∙◌}
+use Rattle.std.specs.FinMap.{len}
+use Rattle.heap_data.specs.CensusView.{step_value}
 use Rattle.heap.specs.Roots.{roots_map}
 use Rattle.heap.proofs.RootMap.{len-roots}
 use Rattle.heap.proofs.HeapLemmas.{census_is}
+use Rattle.heap.proofs.OpenedHeap.{closed_in}
 use Rattle.heap.proofs.heap.Heap.census.Goals as goal
+
+pub count_remembered-requires : goal.count_remembered-requires
+count_remembered-requires g c = closed_in c.self.inside.space c.self.inside.roots.slots c.self.invariant
 
 pub returns : goal.returns
 returns g c =
-    let one = c.config-config.ensures.in_range.one_generation in
     let roots = c.len.ensures ∙ sym (len-roots c.self.inside.roots.slots) in
-    rw (← c.self.view_is, c.of_one_step.ensures, roots, c.count.ensures.generation, c.count.ensures.step)
-    (sym (census_is c.self.inside.space.config (get c.self.inside.space.objects) (values c.self.inside.space.objects) (len (roots_map c.self.inside.roots.slots)) c.count.result.objects c.count.result.words one c.count.ensures.plain c.count.ensures.objects c.count.ensures.words))
+    rw (← c.self.view_is, c.new.ensures, roots)
+    (sym (census_is c.self.inside.space.config c.self.inside.space.objects (len (roots_map c.self.inside.roots.slots)) c.count_remembered.result (map step_value c.step_counts-steps.result.items) c.free_count-free.ensures.space.small c.step_counts-steps.ensures c.count_remembered.ensures))

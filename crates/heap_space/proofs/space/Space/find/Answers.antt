@@ -1,11 +1,11 @@
-use Rattle.std.proofs.Common.{◌≡◌, ◌<◌, Option, Some, None, length, get_or, sym, ap, ◌∙◌, arith}
-use Rattle.std.specs.Prelude.{IsSome, slice_get}
+use Rattle.std.proofs.Common.{◌≡◌, ◌<◌, ◌≤◌, length, get_or, refl, sym, ap, ◌∙◌, arith}
+use Rattle.std.specs.Prelude.{IsSome}
 use Rattle.model.specs.Graph.{Object}
-use Rattle.layout.specs.Place.{place_word, small_word}
-use Rattle.layout.specs.ObjectRef.{raw_of}
-use Rattle.block_table.specs.Table.{objects_before}
+use Rattle.std.proofs.Common.{Option, Some, None}
 use Rattle.block_table.specs.Begins.{HasObjectAt}
-use Rattle.heap_space.proofs.Located.{IsBeginning, begins_at, covered, rank_is, number_in_range, number_names, large_none, few_objects, count_is, object_found}
+use Rattle.heap_space.proofs.Sound.{sound_fits, few_blocks}
+use Rattle.heap_space.proofs.Located.{large_none, covered}
+use Rattle.heap_space.proofs.Finding.{beginning, shown, at_step, not_young, young_here, numbered_here, sum_is, sum_few}
 use Rattle.heap_space.proofs.space.Space.find.Goals as goal
 
 no_some : (o : Option Object) → o ≡ None → IsSome o → ⊥
@@ -15,62 +15,78 @@ no_some (Some x) e h = cc
 pub unreachable-requires : goal.unreachable-requires
 unreachable-requires g c =
     let there = rw (← c.self.view_is, c.in_default.is) at c.requires.there in
-    no_some _ (large_none _ _ _ _ _ c.self.invariant c.in_default.field-0.number) there
-
-pub bounds-bases-number : goal.bounds-bases-number
-bounds-bases-number g c =
-    let covers = rw (← c.self.view_is) at c.requires.covers in
-    let there = rw (← c.self.view_is, c.in-Small.is) at c.requires.there in
-    covers c.in-Small.at.block c.in-Small.at.offset (omega (arith, c.in-Small.at.offset_in_range)) there
+    no_some _ (large_none c.self.inside.table.items (sound_fits _ _ _ _ c.self.invariant) (few_blocks _ _ _ _ c.self.invariant) c.in_default.field-0.number) there
 
 pub object_from-object-requires : goal.object_from-object-requires
 object_from-object-requires g c =
     let there = rw (← c.self.view_is, c.in-Small.is) at c.requires.there in
-    let found : IsBeginning c.self.inside.table.items c.in-Small.at.block c.in-Small.at.offset = begins_at _ _ _ _ _ c.self.invariant c.in-Small.at.block c.in-Small.at.offset c.in-Small.at.offset_in_range there in
+    let found = beginning _ _ _ _ c.self.invariant c.in-Small.at.block c.in-Small.at.offset c.in-Small.at.offset_in_range there in
     let has : HasObjectAt c.self.inside.table.items c.in-Small.at.block c.in-Small.at.offset = record { block = found.begins.block; ordinal = found.ordinal; there = found.begins.there; in_block = found.begins.in_block; at = found.begins.at } in
     rw c.deref.ensures.value has
 
-pub overflow_add-result : goal.overflow_add-result
-overflow_add-result g c =
+pub step_at-step-requires : goal.step_at-step-requires
+step_at-step-requires g c =
     let there = rw (← c.self.view_is, c.in-Small.is) at c.requires.there in
-    let found : IsBeginning c.self.inside.table.items c.in-Small.at.block c.in-Small.at.offset = begins_at _ _ _ _ _ c.self.invariant c.in-Small.at.block c.in-Small.at.offset c.in-Small.at.offset_in_range there in
-    let read = rw c.deref.ensures.value at c.object_from-object.ensures found.begins.block found.ordinal found.begins.there found.begins.in_block found.begins.at in
-    let ordinal : c.object_from-object.result.header.ordinal ≡ found.ordinal = read.0 in
-    let bases = rw (← c.self.view_is) at c.requires.bases in
-    let covers = rw (← c.self.view_is) at c.requires.covers in
-    let lt : c.in-Small.at.block < length c.args.bases.now = covers c.in-Small.at.block c.in-Small.at.offset (omega (arith, c.in-Small.at.offset_in_range)) there in
-    let base : get_or c.args.bases.now c.in-Small.at.block 0 ≡ objects_before c.self.inside.table.items c.in-Small.at.block = bases c.in-Small.at.block lt ∙ rank_is _ _ _ _ _ c.self.invariant c.in-Small.at.block in
-    omega (arith, base, ordinal, number_in_range _ _ _ _ _ c.self.invariant _ _ _ _ found.begins, count_is _ _ _ _ _ c.self.invariant, few_objects _ _ _ _ _ c.self.invariant)
+    record { in_range = rw c.deref-2.ensures.value (covered c.self.inside.table.items (sound_fits _ _ _ _ c.self.invariant) (few_blocks _ _ _ _ c.self.invariant) c.in-Small.at.block c.in-Small.at.offset (omega (arith, c.in-Small.at.offset_in_range)) there) }
+
+pub returns-then-step-g-clause-object : goal.returns-then-step-g-clause-object
+returns-then-step-g-clause-object g c =
+    let there = rw (← c.self.view_is, c.in-Small.is) at c.requires.there in
+    let read = rw c.deref.ensures.value at c.object_from-object.ensures in
+    let stands = rw c.deref-2.ensures.value at c.step_at-step.ensures in
+    rw (← c.self.view_is, c.in-Small.is) (shown _ _ _ _ c.self.invariant c.in-Small.at.block c.in-Small.at.offset c.in-Small.at.offset_in_range there c.object_from-object.result c.step_at-step.result read stands)
+
+pub returns-then-step-g-clause-step : goal.returns-then-step-g-clause-step
+returns-then-step-g-clause-step g c =
+    let there = rw (← c.self.view_is, c.in-Small.is) at c.requires.there in
+    let read = rw c.deref.ensures.value at c.object_from-object.ensures in
+    let stands = rw c.deref-2.ensures.value at c.step_at-step.ensures in
+    rw (← c.self.view_is, c.in-Small.is) (at_step _ _ _ _ c.self.invariant c.in-Small.at.block c.in-Small.at.offset c.in-Small.at.offset_in_range there c.object_from-object.result c.step_at-step.result read stands)
 
 pub returns-clause-object : goal.returns-clause-object
 returns-clause-object g c =
     let there = rw (← c.self.view_is, c.in-Small.is) at c.requires.there in
-    let found : IsBeginning c.self.inside.table.items c.in-Small.at.block c.in-Small.at.offset = begins_at _ _ _ _ _ c.self.invariant c.in-Small.at.block c.in-Small.at.offset c.in-Small.at.offset_in_range there in
-    let read = rw c.deref.ensures.value at c.object_from-object.ensures found.begins.block found.ordinal found.begins.there found.begins.in_block found.begins.at in
-    let ordinal : c.object_from-object.result.header.ordinal ≡ found.ordinal = read.0 in
-    rw (← c.self.view_is, c.in-Small.is) (object_found _ _ _ _ _ c.self.invariant c.in-Small.at.block c.in-Small.at.offset found.ordinal (raw_of c.object_from-object.result) c.in-Small.at.offset_in_range
-    (record { block = found.begins.block; there = found.begins.there; in_block = found.begins.in_block; at = found.begins.at; is = read.1 }))
+    let read = rw c.deref.ensures.value at c.object_from-object.ensures in
+    let stands = rw c.deref-2.ensures.value at c.step_at-step.ensures in
+    rw (← c.self.view_is, c.in-Small.is) (shown _ _ _ _ c.self.invariant c.in-Small.at.block c.in-Small.at.offset c.in-Small.at.offset_in_range there c.object_from-object.result c.step_at-step.result read stands)
 
-pub returns-clause-in_range : goal.returns-clause-in_range
-returns-clause-in_range g c =
+pub returns-clause-step : goal.returns-clause-step
+returns-clause-step g c =
     let there = rw (← c.self.view_is, c.in-Small.is) at c.requires.there in
-    let found : IsBeginning c.self.inside.table.items c.in-Small.at.block c.in-Small.at.offset = begins_at _ _ _ _ _ c.self.invariant c.in-Small.at.block c.in-Small.at.offset c.in-Small.at.offset_in_range there in
-    let read = rw c.deref.ensures.value at c.object_from-object.ensures found.begins.block found.ordinal found.begins.there found.begins.in_block found.begins.at in
-    let ordinal : c.object_from-object.result.header.ordinal ≡ found.ordinal = read.0 in
+    let read = rw c.deref.ensures.value at c.object_from-object.ensures in
+    let stands = rw c.deref-2.ensures.value at c.step_at-step.ensures in
+    rw (← c.self.view_is, c.in-Small.is) (at_step _ _ _ _ c.self.invariant c.in-Small.at.block c.in-Small.at.offset c.in-Small.at.offset_in_range there c.object_from-object.result c.step_at-step.result read stands)
+
+pub returns-then-step-g-clause-number : goal.returns-then-step-g-clause-number
+returns-then-step-g-clause-number g c =
+    let there = rw (← c.self.view_is, c.in-Small.is) at c.requires.there in
+    let read = rw c.deref.ensures.value at c.object_from-object.ensures in
+    let stands = rw c.deref-2.ensures.value at c.step_at-step.ensures in
+    rw (← c.self.view_is, c.in-Small.is) (not_young _ _ _ _ c.self.invariant c.in-Small.at.block c.in-Small.at.offset c.in-Small.at.offset_in_range there c.object_from-object.result c.step_at-step.result read stands c.args.g c.if-step-g.true)
+
+pub bounds-bases-number : goal.bounds-bases-number
+bounds-bases-number g c =
+    let there = rw (← c.self.view_is, c.in-Small.is) at c.requires.there in
+    let read = rw c.deref.ensures.value at c.object_from-object.ensures in
+    let stands = rw c.deref-2.ensures.value at c.step_at-step.ensures in
     let bases = rw (← c.self.view_is) at c.requires.bases in
-    let covers = rw (← c.self.view_is) at c.requires.covers in
-    let lt : c.in-Small.at.block < length c.args.bases.now = covers c.in-Small.at.block c.in-Small.at.offset (omega (arith, c.in-Small.at.offset_in_range)) there in
-    let base : get_or c.args.bases.now c.in-Small.at.block 0 ≡ objects_before c.self.inside.table.items c.in-Small.at.block = bases c.in-Small.at.block lt ∙ rank_is _ _ _ _ _ c.self.invariant c.in-Small.at.block in
-    rw (← c.self.view_is, base, ordinal) (number_in_range _ _ _ _ _ c.self.invariant _ _ _ _ found.begins)
+    let le : c.step_at-step.result.generation ≤ c.args.g = omega (arith, c.if-step-g.false) in
+    (sum_is _ _ _ _ c.self.invariant c.in-Small.at.block c.in-Small.at.offset c.in-Small.at.offset_in_range there c.object_from-object.result c.step_at-step.result read stands c.args.g c.args.bases.now le bases).0
+
+pub overflow_add-named : goal.overflow_add-named
+overflow_add-named g c =
+    let there = rw (← c.self.view_is, c.in-Small.is) at c.requires.there in
+    let read = rw c.deref.ensures.value at c.object_from-object.ensures in
+    let stands = rw c.deref-2.ensures.value at c.step_at-step.ensures in
+    let bases = rw (← c.self.view_is) at c.requires.bases in
+    let le : c.step_at-step.result.generation ≤ c.args.g = omega (arith, c.if-step-g.false) in
+    omega (arith, (sum_is _ _ _ _ c.self.invariant c.in-Small.at.block c.in-Small.at.offset c.in-Small.at.offset_in_range there c.object_from-object.result c.step_at-step.result read stands c.args.g c.args.bases.now le bases).1, sum_few _ _ _ _ c.self.invariant c.in-Small.at.block c.in-Small.at.offset c.in-Small.at.offset_in_range there c.object_from-object.result c.step_at-step.result read stands c.args.g le)
 
 pub returns-clause-number : goal.returns-clause-number
 returns-clause-number g c =
     let there = rw (← c.self.view_is, c.in-Small.is) at c.requires.there in
-    let found : IsBeginning c.self.inside.table.items c.in-Small.at.block c.in-Small.at.offset = begins_at _ _ _ _ _ c.self.invariant c.in-Small.at.block c.in-Small.at.offset c.in-Small.at.offset_in_range there in
-    let read = rw c.deref.ensures.value at c.object_from-object.ensures found.begins.block found.ordinal found.begins.there found.begins.in_block found.begins.at in
-    let ordinal : c.object_from-object.result.header.ordinal ≡ found.ordinal = read.0 in
+    let read = rw c.deref.ensures.value at c.object_from-object.ensures in
+    let stands = rw c.deref-2.ensures.value at c.step_at-step.ensures in
     let bases = rw (← c.self.view_is) at c.requires.bases in
-    let covers = rw (← c.self.view_is) at c.requires.covers in
-    let lt : c.in-Small.at.block < length c.args.bases.now = covers c.in-Small.at.block c.in-Small.at.offset (omega (arith, c.in-Small.at.offset_in_range)) there in
-    let base : get_or c.args.bases.now c.in-Small.at.block 0 ≡ objects_before c.self.inside.table.items c.in-Small.at.block = bases c.in-Small.at.block lt ∙ rank_is _ _ _ _ _ c.self.invariant c.in-Small.at.block in
-    rw (← c.self.view_is, base, ordinal) (number_names _ _ _ _ _ c.self.invariant _ _ _ _ found.begins ∙ ap place_word (sym c.in-Small.is))
+    let le : c.step_at-step.result.generation ≤ c.args.g = omega (arith, c.if-step-g.false) in
+    rw (← c.self.view_is, c.in-Small.is) (young_here _ _ _ _ c.self.invariant c.in-Small.at.block c.in-Small.at.offset c.in-Small.at.offset_in_range there c.object_from-object.result c.step_at-step.result read stands c.args.g le, rw (sum_is _ _ _ _ c.self.invariant c.in-Small.at.block c.in-Small.at.offset c.in-Small.at.offset_in_range there c.object_from-object.result c.step_at-step.result read stands c.args.g c.args.bases.now le bases).1 (numbered_here _ _ _ _ c.self.invariant c.in-Small.at.block c.in-Small.at.offset c.in-Small.at.offset_in_range there c.object_from-object.result c.step_at-step.result read stands c.args.g le))

@@ -1,13 +1,17 @@
-use Rattle.heap_space.proofs.Sound.{current_block, room_iff}
-use Rattle.block_table.proofs.TableSteps.{in_list}
+use Rattle.std.specs.Prelude.{IsSome, IsTrue, ◌↔◌}
+use Rattle.std.proofs.Common.{sym, subst}
+use Rattle.heap_space.proofs.Filling.{small_in, own_sound, room_is}
 use Rattle.heap_space.proofs.space.Space.has_room.Goals as goal
 
-pub block_for-requires-clause-in_range : goal.block_for-requires-clause-in_range
-block_for-requires-clause-in_range g c =
-    let b = current_block _ _ _ _ _ c.self.invariant in rw c.deref.ensures.value (in_list _ _ b.0 b.1)
+pub has_room-requires : goal.has_room-requires
+has_room-requires g c =
+    let mutator = rw (← c.self.view_is) at c.requires.mutator in
+    let small = rw (← c.self.view_is) at c.requires.small in
+    rw c.deref.ensures.value (small_in _ _ _ _ c.self.invariant c.args.mutator c.index.result.now mutator c.index.ensures c.args.size small)
 
 pub returns : goal.returns
 returns g c =
-    let b = current_block _ _ _ _ _ c.self.invariant in
-    let small = rw (← c.self.view_is) at c.requires in
-    rw (← c.self.view_is, c.is_some.ensures) (room_iff _ _ _ _ _ c.self.invariant c.args.size small c.block_for.result (rw c.nursery_blocks-count.ensures.value at (c.block_for.ensures b.0 (rw c.deref.ensures.value b.1))))
+    let mutator = rw (← c.self.view_is) at c.requires.mutator in
+    let sound = own_sound _ _ _ _ c.self.invariant c.args.mutator c.index.result.now mutator c.index.ensures in
+    let has = (rw c.deref.ensures.value at c.has_room.ensures) c.self.inside.config.block_words sound in
+    rw (← c.self.view_is) (subst (λ r. IsTrue c.has_room.result ↔ IsSome r) (sym (room_is _ _ _ _ c.self.invariant c.args.mutator c.index.result.now mutator c.index.ensures c.args.size)) has)

@@ -1,0 +1,123 @@
+//! The objects of some of a heap's blocks, counted.
+ghost use Rattle.std.specs.Prelude.{◌≡◌, ℕ, ◌<◌, ◌≤◌, ◌&&◌, length, IfOk, None, sum_by, slice_index, slice_index_or, nat_eq, nat_le, is_some};
+ghost use Rattle.std.specs.List.{IsDistinct};
+ghost use Rattle.std.specs.FinMap.{values};
+ghost use Rattle.model.specs.Census.{step_count};
+ghost use Rattle.model.specs.Config.{Config};
+ghost use Rattle.model.specs.Reached.{has};
+ghost use Rattle.steps.specs.ConfigRange.{IsInRange};
+ghost use Rattle.steps.specs.StepPairs.{step_pair};
+ghost use Rattle.heap_data.specs.CensusView.{step_value};
+ghost use Rattle.block_table.specs.Table.{AreHeapBlocks, objects_map, slot_at, slot_len, slot_words, objects_before, young_slot, young_table, step_slot};
+
+use block_pool::Block;
+use heap_data::StepCount;
+use std::alloc::{AllocError, Allocator};
+use steps::StepId;
+
+/// How many objects of a generation and step the block holds, and how many words they take.
+fn count_slot<A: Allocator>(slot: &Option<Block<A>>, at: StepId) -> (u64, u64)
+    ensures objects { result.0 ≡ slot_len (step_slot (step_pair at) slot.now) }
+    ensures few { result.0 ≤ 512 }
+    ensures words { result.1 ≡ slot_words (step_slot (step_pair at) slot.now) }
+    ensures small { result.1 ≤ 512 }
+{
+    match slot {
+        Some(block) => {
+            if block.generation() != at.generation || block.step() != at.step {
+                return (0, 0);
+            }
+            let _words = block.words();
+            (block.len() as u64, block.used() as u64)
+        }
+        None => (0, 0),
+    }
+}
+
+/// The objects of a generation and step, and how many words they take.
+pub fn count_step<A: Allocator>(table: &[Option<Block<A>>], at: StepId) -> StepCount
+    requires short { length table.now ≤ 65535 }
+    ensures { (config : Config) → IsInRange config → AreHeapBlocks config 0 table.now
+        → step_value result ≡ step_count config.block_words (values (objects_map table.now)) (step_pair at) }
+{
+    let mut objects = 0;
+    let mut words = 0;
+    for slot in table {
+        let (more_objects, more_words) = count_slot(slot, at);
+        objects += more_objects;
+        words += more_words;
+    }
+    StepCount {
+        generation: at.generation as u32,
+        step: at.step as u32,
+        objects,
+        words,
+    }
+}
+
+/// How many objects the block holds, where its generation is at most `g`.
+fn young_len<A: Allocator>(slot: &Option<Block<A>>, g: u8) -> u32
+    ensures value { result ≡ slot_len (young_slot g slot.now) }
+    ensures few { result ≤ 512 }
+{
+    match slot {
+        Some(block) => {
+            if block.generation() > g {
+                return 0;
+            }
+            let _words = block.words();
+            block.len() as u32
+        }
+        None => 0,
+    }
+}
+
+/// How many objects of generation at most `g` the blocks before each one hold, and how many all hold.
+pub fn bases<A: Allocator, B: Allocator>(
+    alloc: B,
+    table: &[Option<Block<A>>],
+    g: u8,
+) -> Result<(Vec<u32, B>, u32), AllocError>
+    requires short { length table.now ≤ 65535 }
+    ensures len { IfOk result (λ r. length r.0.items ≡ length table.now) }
+    ensures bases { IfOk result (λ r. (b : ℕ) → b < length table.now → slice_index r.0.items b ≡ objects_before (young_table g table.now) b) }
+    ensures all { IfOk result (λ r. r.1 ≡ sum_by slot_len (young_table g table.now)) }
+{
+    let mut bases = Vec::with_capacity(alloc, table.len())?;
+    let mut objects = 0;
+    for slot in table {
+        bases.push(objects)?;
+        objects += young_len(slot, g);
+    }
+    Ok((bases, objects))
+}
+
+/// Whether the slot has a block of generation at most `g`.
+fn is_young<A: Allocator>(slot: &Option<Block<A>>, g: u8) -> bool
+    ensures { result ≡ is_some (young_slot g slot.now) }
+{
+    match slot {
+        Some(block) => block.generation() <= g,
+        None => false,
+    }
+}
+
+/// The numbers, from `from` on, of the blocks of generation at most `g`.
+pub fn young_blocks<A: Allocator, B: Allocator>(
+    alloc: B,
+    table: &[Option<Block<A>>],
+    from: usize,
+    g: u8,
+) -> Result<Vec<u32, B>, AllocError>
+    requires short { length table.now ≤ 65535 }
+    ensures numbers { IfOk result (λ numbers. (n : ℕ) → has numbers.items n ≡ (nat_le from n && is_some (young_slot g (slot_at table.now n)))) }
+    ensures once { IfOk result (λ numbers. IsDistinct nat_eq numbers.items) }
+{
+    let mut numbers = Vec::new(alloc);
+    for number in from..table.len() {
+        if is_young(&table[number], g) {
+            numbers.push(number as u32)?;
+        }
+    }
+    Ok(numbers)
+}

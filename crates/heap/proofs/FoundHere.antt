@@ -1,0 +1,36 @@
+-- What a look-up tells of an object.
+use Rattle.std.proofs.Common.{◌≡◌, ℕ, List, Option, Some, None, refl, sym, ap, subst, ◌∙◌, arith}
+use Rattle.std.specs.Prelude.{IsSomeAnd, MatchOption}
+use Rattle.std.specs.Option.{option_map}
+use Rattle.std.specs.FinMap.{get}
+use Rattle.model.specs.Graph.{Object}
+use Rattle.model.specs.Live.{IsYoung}
+use Rattle.model.proofs.Options.{some_is}
+use Rattle.layout.specs.declared.place.Place.{Place}
+use Rattle.layout.specs.ObjectRef.{raw_of}
+use Rattle.layout.specs.declared.object.ObjectRef.{ObjectRef}
+use Rattle.steps.specs.StepPairs.{step_pair, stands_at}
+use Rattle.steps.specs.declared.step_id.StepId.{StepId}
+use Rattle.heap_data.specs.CollectionValue.{CollectionValue, IsOpened}
+use Rattle.heap_data.specs.Words.{IsShownAs}
+use Rattle.heap_space.specs.Space.{SpaceValue, graph_in}
+use Rattle.heap_space.specs.Collecting.{IsNumbered}
+use Rattle.heap.specs.HeapView.{heap_of}
+use Rattle.heap.specs.Found.{IsFound, HasNumber}
+use Rattle.heap.specs.declared.found.Found.{Found}
+use Rattle.heap.proofs.OpenedHeap.{young_in, young_of}
+
+pub found_here : (space : SpaceValue) (slots : List (Option Place)) (c : CollectionValue) (name : ℕ) (object : ObjectRef) (at : StepId) (number : Option ℕ) → IsOpened (heap_of space slots) c.generation c
+    → IsSomeAnd (get space.objects name) (λ o. IsShownAs o (raw_of object)) → Some (step_pair at) ≡ option_map stands_at (get space.objects name)
+    → MatchOption number (IsYoung (graph_in space) c.generation name → ⊥) (λ n. IsYoung (graph_in space) c.generation name × IsNumbered space c.generation name n)
+    → IsFound (heap_of space slots) c name (record { object = object; at = at; number = number })
+found_here space slots c name object at number opened shown stands numbered = go (get space.objects name) refl shown stands
+  where
+    number_is : (n : Option ℕ) → MatchOption n (IsYoung (graph_in space) c.generation name → ⊥) (λ k. IsYoung (graph_in space) c.generation name × IsNumbered space c.generation name k)
+        → MatchOption n (IsYoung (heap_of space slots).graph c.generation name → ⊥) (λ k. IsYoung (heap_of space slots).graph c.generation name × HasNumber (heap_of space slots) c name k)
+    number_is None not = λ young. not (young_in space slots c.generation name young)
+    number_is (Some n) is = (young_of space slots c.generation name is.0, record { in_range = omega (arith, is.1.in_range, opened.cells); is = is.1.is })
+
+    go : (o : Option Object) → get space.objects name ≡ o → IsSomeAnd o (λ x. IsShownAs x (raw_of object)) → Some (step_pair at) ≡ option_map stands_at o → IsFound (heap_of space slots) c name (record { object = object; at = at; number = number })
+    go None is h e = absurd h
+    go (Some x) is h e = record { object = x; there = is; shown = h; stands = some_is e; number = number_is number numbered }

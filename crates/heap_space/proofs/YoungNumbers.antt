@@ -1,0 +1,104 @@
+-- The objects of the generations that are collected, by number.
+use Rattle.std.proofs.Common.{◌≡◌, ℕ, ◌+◌, ◌*◌, ◌<◌, ◌≤◌, true, cond, List, length, get_or, map, Option, Some, None, sum_by, refl, sym, ap, subst, ◌∙◌, arith}
+use Rattle.std.proofs.lemmas.Bool.Decides.{nat_tests}
+use Rattle.std.proofs.lemmas.List.{length-map}
+use Rattle.std.specs.Prelude.{nat_le}
+use Rattle.std.specs.FinMap.{get, keys}
+use Rattle.model.specs.Graph.{Graph, Object}
+use Rattle.model.specs.Live.{IsYoung}
+use Rattle.model.proofs.Options.{some_is}
+use Rattle.layout.specs.Object.{Raw}
+use Rattle.layout.specs.Place.{small_word}
+use Rattle.block_pool.specs.BlockValue.{BlockValue}
+use Rattle.block_pool.specs.PoolValue.{PoolValue}
+use Rattle.model.specs.Config.{Config}
+use Rattle.heap_data.specs.CollectionValue.{rank_below, young_names}
+use Rattle.block_table.specs.Table.{slot_at, slot_len, objects_before, objects_map, young_slot, young_table}
+use Rattle.block_table.proofs.TableLemmas.{TableFits}
+use Rattle.block_table.proofs.YoungBlocks.{young_fits, young_names-table, young_at}
+use Rattle.nursery.specs.NurseryValue.{NurseryValue}
+use Rattle.heap_space.specs.Space.{IsSoundSpace, space_of, graph_in}
+use Rattle.heap_space.specs.Collecting.{AreBases, IsNumbered}
+use Rattle.heap_space.proofs.Sound.{sound_fits, few_blocks}
+use Rattle.heap_space.proofs.Located.{Begins, IsBeginning, begins_at, object_found, rank_is, count_is, few_objects, number_in_range, number_names, covered}
+
+module _ (config : Config) (table : List (Option BlockValue)) (nurseries : List NurseryValue) (pool : PoolValue) (sound : IsSoundSpace config table nurseries pool) (g : ℕ) where
+  abbrev graph : Graph
+  graph = graph_in (space_of config table nurseries pool)
+
+  abbrev young : List (Option BlockValue)
+  young = young_table g table
+
+  fits : TableFits young
+  fits = young_fits table g (sound_fits config table nurseries pool sound)
+
+  short : length young ≤ 65535
+  short = omega (arith, length-map table (young_slot g), few_blocks config table nurseries pool sound)
+
+  names : young_names graph g ≡ keys (objects_map young)
+  names = young_names-table table g graph (sound_fits config table nurseries pool sound) refl
+
+  pub young_rank : (block : ℕ) → rank_below (small_word block 0) (young_names graph g) ≡ objects_before young block
+  young_rank block = ap (rank_below (small_word block 0)) names ∙ rank_is young fits short block
+
+  pub young_count : length (young_names graph g) ≡ sum_by slot_len young
+  young_count = ap length names ∙ count_is young fits short
+
+  pub few_young : sum_by slot_len young ≤ 65535 * 512
+  few_young = few_objects young fits short
+
+  -- an object of a generation that is collected begins in a block of it
+  pub record BeginsYoung (number offset : ℕ) : Type 0 where
+    pub ordinal : ℕ
+    pub raw : Raw
+    pub begins : Begins table number offset ordinal raw
+    pub is_young : begins.block.generation ≤ g
+    pub among : Begins young number offset ordinal raw
+
+  young_begins : (number offset ordinal : ℕ) (raw : Raw) (begins : Begins table number offset ordinal raw) → begins.block.generation ≤ g → Begins young number offset ordinal raw
+  young_begins number offset ordinal raw begins le = record {
+    block = begins.block;
+    there =
+        let yes : nat_le begins.block.generation g ≡ true = grind (arith, nat_tests, le) in
+        young_at table g number ∙ ap (young_slot g) begins.there ∙ ap (λ b. cond {A = Option BlockValue} b (Some begins.block) None) yes;
+    in_block = begins.in_block;
+    at = begins.at;
+    is = begins.is;
+  }
+
+  pub begins_young : (number offset : ℕ) → offset < 512 → IsYoung graph g (small_word number offset) → BeginsYoung number offset
+  begins_young number offset lt is =
+      let found : IsBeginning table number offset = begins_at table (sound_fits config table nurseries pool sound) (few_blocks config table nurseries pool sound) number offset lt (rw is.there refl) in
+      let shows = some_is (sym is.there ∙ object_found table (sound_fits config table nurseries pool sound) (few_blocks config table nurseries pool sound) number offset found.ordinal found.raw lt found.begins) in
+      let le : found.begins.block.generation ≤ g = omega (arith, is.young, ap (λ o. o.generation) shows) in
+      record { ordinal = found.ordinal; raw = found.raw; begins = found.begins; is_young = le; among = young_begins number offset found.ordinal found.raw found.begins le }
+
+  -- where the block's generation is collected, so is the object
+  pub is_young_there : (number offset ordinal : ℕ) (raw : Raw) → offset < 512 → (begins : Begins table number offset ordinal raw) → begins.block.generation ≤ g → IsYoung graph g (small_word number offset)
+  is_young_there number offset ordinal raw lt begins le = record {
+    object = _;
+    there = object_found table (sound_fits config table nurseries pool sound) (few_blocks config table nurseries pool sound) number offset ordinal raw lt begins;
+    young = le;
+  }
+
+  pub begins_among : (number offset ordinal : ℕ) (raw : Raw) (begins : Begins table number offset ordinal raw) → begins.block.generation ≤ g → Begins young number offset ordinal raw
+  begins_among = young_begins
+
+  pub numbered : (number offset ordinal : ℕ) (raw : Raw) → Begins young number offset ordinal raw → IsNumbered (space_of config table nurseries pool) g (small_word number offset) (objects_before young number + ordinal)
+  numbered number offset ordinal raw begins = record {
+    in_range = subst (λ ns. objects_before young number + ordinal < length ns) (sym names) (number_in_range young fits short number offset ordinal raw begins);
+    is = ap (λ ns. get_or ns (objects_before young number + ordinal) 0) names ∙ number_names young fits short number offset ordinal raw begins;
+  }
+
+  pub base_at : (bases : List ℕ) (number offset : ℕ) → AreBases (space_of config table nurseries pool) g bases → offset < 512 → IsYoung graph g (small_word number offset) → (number < length bases) × (get_or bases number 0 ≡ objects_before young number)
+  base_at bases number offset are lt is =
+      let below = are.covers number offset (omega (arith, lt)) is in
+      (below, are.each number below ∙ young_rank number)
+
+  pub are_bases : (bases : List ℕ) → length bases ≡ length table → ((b : ℕ) → b < length table → get_or bases b 0 ≡ objects_before young b) → AreBases (space_of config table nurseries pool) g bases
+  are_bases bases len each = record {
+    each = λ block lt. each block (omega (arith, len)) ∙ sym (young_rank block);
+    covers = λ block offset lt is.
+        let below = covered table (sound_fits config table nurseries pool sound) (few_blocks config table nurseries pool sound) block offset lt (rw is.there refl) in
+        omega (arith, below, len);
+  }
