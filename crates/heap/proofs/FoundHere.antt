@@ -1,5 +1,5 @@
 -- What a look-up tells of an object.
-use Rattle.std.proofs.Common.{◌≡◌, ℕ, List, Option, Some, None, refl, sym, ap, subst, ◌∙◌, arith}
+use Rattle.std.proofs.Common.{◌≡◌, ℕ, List, Option, Some, None, refl, arith}
 use Rattle.std.specs.Prelude.{IsSomeAnd, MatchOption}
 use Rattle.std.specs.Option.{option_map}
 use Rattle.std.specs.FinMap.{get}
@@ -15,10 +15,9 @@ use Rattle.heap_data.specs.CollectionValue.{CollectionValue, IsOpened}
 use Rattle.heap_data.specs.Words.{IsShownAs}
 use Rattle.heap_space.specs.Space.{SpaceValue, graph_in}
 use Rattle.heap_space.specs.Collecting.{IsNumbered}
-use Rattle.heap.specs.HeapView.{heap_of}
+use Rattle.heap_commit.specs.HeapView.{heap_of}
 use Rattle.heap.specs.Found.{IsFound, HasNumber}
-use Rattle.heap.specs.declared.found.Found.{Found}
-use Rattle.heap.proofs.OpenedHeap.{young_in, young_of}
+use Rattle.heap_commit.proofs.OpenedBases.{young_in, young_of}
 
 pub found_here : (space : SpaceValue) (slots : List (Option Place)) (c : CollectionValue) (name : ℕ) (object : ObjectRef) (at : StepId) (number : Option ℕ) → IsOpened (heap_of space slots) c.generation c
     → IsSomeAnd (get space.objects name) (λ o. IsShownAs o (raw_of object)) → Some (step_pair at) ≡ option_map stands_at (get space.objects name)

@@ -1,7 +1,7 @@
 -- A heap as its blocks and roots show it.
-use Rattle.std.proofs.Common.{◌≡◌, ℕ, ◌-◌, ◌/◌, ◌<◌, ◌≤◌, Bool, true, false, cond, List, [], ◌∷◌, length, map, replicate, Option, Some, sum_by, refl, sym, ap, ◌∙◌, arith}
+use Rattle.std.proofs.Common.{◌≡◌, ℕ, ◌-◌, ◌/◌, ◌≤◌, false, cond, List, [], ◌∷◌, length, map, replicate, Some, sum_by, refl, sym, ap, ◌∙◌, arith}
 use Rattle.std.proofs.lemmas.Bool.Decides.{nat_tests}
-use Rattle.std.specs.Prelude.{filter, nat_lt}
+use Rattle.std.specs.Prelude.{filter}
 use Rattle.std.specs.Ordering.{nat_cmp}
 use Rattle.std.specs.FinMap.{FinMap, empty, get, entries, values, get-entries, entries_sorted}
 use Rattle.model.specs.Config.{Config}
@@ -13,8 +13,8 @@ use Rattle.model.specs.Store.{full_rooms}
 use Rattle.model.proofs.Among.{Among}
 use Rattle.model.proofs.OldSlotsExact.{entry_found}
 use Rattle.heap_data.specs.HeapValue.{HeapValue, empty_heap, nursery_count}
-use Rattle.heap.specs.HeapView.{heap_of}
-use Rattle.heap.specs.Roots.{roots_map}
+use Rattle.heap_commit.specs.HeapView.{heap_of}
+use Rattle.heap_commit.specs.Roots.{roots_map}
 use Rattle.heap_space.specs.Space.{empty_space}
 use Rattle.std.proofs.Common.{inl, inr}
 

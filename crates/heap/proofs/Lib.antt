@@ -1,5 +1,4 @@
 -- The heap's roots and its commands.
-pub mod RootMap
 pub mod HeapLemmas
 pub mod Allocating
 pub mod Storing
@@ -7,11 +6,3 @@ pub mod RootSlots
 pub mod SoundHeap
 pub mod OpenedHeap
 pub mod FoundHere
-pub mod Rewriting
-pub mod RenamedRoots
-pub mod SettledLemmas
-pub mod FieldsMoved
-pub mod MovedFields
-pub mod Committed
-pub mod Writable
-pub mod KeptCount

@@ -6,10 +6,10 @@ use Rattle.slab.specs.Slab.{entries_from}
 use Rattle.layout.specs.declared.place.Place.{Place}
 use Rattle.layout.specs.Place.{place_word}
 use Rattle.heap_data.specs.CollectionValue.{SlotValue, root_slot}
-use Rattle.heap.specs.Roots.{roots_map}
+use Rattle.heap_commit.specs.Roots.{roots_map}
 use Rattle.heap_data.specs.SlotView.{slot_value}
 use Rattle.heap_data.specs.declared.collection.Slot.{Slot}
-use Rattle.heap.proofs.RootMap.{entries-roots, pair_words}
+use Rattle.heap_commit.proofs.RootMap.{entries-roots, pair_words}
 
 -- the slots of roots with their places
 abbrev pub slots_for : List (ℕ × Place) → List SlotValue

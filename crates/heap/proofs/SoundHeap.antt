@@ -1,52 +1,17 @@
 -- What holds of every heap, fact by fact.
-use Rattle.std.proofs.Common.{◌≡◌, ℕ, ◌+◌, ◌<◌, true, List, length, get_or, Option, Some, None, refl, sym, ap, subst, ◌∙◌, arith}
-use Rattle.std.specs.Ordering.{nat_cmp}
-use Rattle.std.specs.FinMap.{get, get-empty}
-use Rattle.model.specs.Graph.{Graph, Object, IsClosed, object_at}
+use Rattle.std.proofs.Common.{◌≡◌, ℕ, true, get_or, Option, Some, None, refl, sym, ap, subst, ◌∙◌, arith}
+use Rattle.model.specs.Graph.{Object, IsClosed, object_at}
 use Rattle.model.specs.Reached.{has}
-use Rattle.model.proofs.Options.{some_not_none}
 use Rattle.layout.specs.declared.place.SmallPlace.{SmallPlace}
-use Rattle.layout.specs.declared.place.Place.{Place}
 use Rattle.layout.specs.declared.place.Place.TheVariants.{Small}
-use Rattle.layout.specs.Place.{small_word, place_word}
-use Rattle.heap_data.specs.HeapValue.{HeapValue, nursery_count}
-use Rattle.heap_data.specs.CollectedHeap.{IsFreeBlock, HoldsObject}
+use Rattle.layout.specs.Place.{small_word}
+use Rattle.heap_data.specs.HeapValue.{HeapValue}
+use Rattle.heap_data.specs.CollectedHeap.{HoldsObject}
 use Rattle.heap_data.specs.CollectionValue.{AreFreeBlocks, FreeBlocksAreEmpty}
 use Rattle.heap_data.specs.Plain.{NamesArePlaces}
 use Rattle.block_table.proofs.Areas.{has_at}
 use Rattle.block_table.proofs.TableSteps.{get_or_any}
-use Rattle.heap_space.specs.Space.{SpaceValue, IsSpace, IsPlace}
-use Rattle.heap.specs.HeapView.{heap_of}
-use Rattle.heap.specs.IsHeap.{IsHeap, IsHeapObject}
-
--- blocks and roots make a sound heap
-pub is_heap : (space : SpaceValue) (slots : List (Option Place)) → IsSpace space → IsClosed (heap_of space slots).graph → IsHeap (heap_of space slots)
-is_heap space slots sound closed = record {
-  range = sound.in_range;
-  closed = closed;
-  objects = λ name o is. record { step = sound.steps name o is; small = sound.small name o is };
-  places = sound.places;
-  mutators = sound.mutators;
-  rooms = sound.rooms;
-  free = λ block. (now_free block, λ free. sound.all_free block free.in_pool free.in_range (λ offset lt. empty block free offset lt (get space.objects (small_word block offset)) refl));
-  rising = sound.rising;
-}
-  where
-    now_free : (block : ℕ) → has space.free block ≡ true → IsFreeBlock (heap_of space slots) block
-    now_free block h =
-        let free = sound.free block h in
-        record {
-          in_pool = free.0;
-          in_range = free.1;
-          holds_none = λ holds. some_not_none (sym holds.there ∙ free.2 holds.offset (omega (arith, holds.in_range)));
-          no_large = λ name blocks is. absurd (some_not_none (sym is ∙ get-empty nat_cmp name));
-        }
-
-    empty : (block : ℕ) → IsFreeBlock (heap_of space slots) block → (offset : ℕ) → offset < 512 → (o : Option Object) → get space.objects (small_word block offset) ≡ o → o ≡ None
-    empty block free offset lt None is = refl
-    empty block free offset lt (Some o) is =
-        let holds : HoldsObject (heap_of space slots).graph block = record { offset = offset; object = o; in_range = lt; there = is } in
-        absurd (free.holds_none holds)
+use Rattle.heap_commit.specs.IsHeap.{IsHeap, IsHeapObject}
 
 pub heap_closed : (heap : HeapValue) → IsHeap heap → IsClosed heap.graph
 heap_closed heap sound = sound.closed

@@ -1,14 +1,12 @@
 -- What the calls on a heap do.
 pub mod Commands
-pub mod Roots
-pub mod RootView
-pub mod HeapView
 pub mod Found
-pub mod IsHeap
-pub mod Moves
 pub use Rattle.steps.specs.ConfigRange
 pub use Rattle.steps.specs.ConfigView
 pub use Rattle.steps.specs.StepPairs
+pub use Rattle.heap_commit.specs.Roots
+pub use Rattle.heap_commit.specs.HeapView
+pub use Rattle.heap_commit.specs.IsHeap
 pub use Rattle.heap_data.specs.HeapValue
 pub use Rattle.heap_data.specs.CensusCode
 pub use Rattle.heap_data.specs.CensusView

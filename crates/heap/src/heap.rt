@@ -5,7 +5,7 @@ ghost use Rattle.model.specs.Graph.{root_at, without_root, with_pointer};
 ghost use Rattle.layout.specs.Place.{place_word};
 ghost use Rattle.heap_data.specs.HeapValue.{empty_heap, nursery_count};
 ghost use Rattle.heap.specs.Found.{IsFound};
-ghost use Rattle.heap.specs.IsHeap.{IsHeap};
+ghost use Rattle.heap_commit.specs.IsHeap.{IsHeap};
 ghost use Rattle.heap.specs.Commands.{Allocates, is_too_big, room_for, heap_census, Changes, HasPointer, HasPlain, IsValue, value_at, rooted_object};
 ghost use Rattle.std.specs.Prelude.{MatchOption, IsSomeAnd, IsNone, ◌⊎◌, slice_get, slice_set, slice_index, length, sum_by, Err};
 ghost use Rattle.model.specs.Graph.{IsClosed, object_at};
@@ -20,11 +20,10 @@ ghost use Rattle.heap_data.specs.ReportValue.{all_won, renaming_of};
 ghost use Rattle.heap_data.specs.SettledValue.{IsSettled};
 ghost use Rattle.heap_data.specs.CollectedHeap.{CollectedHeap};
 
-use crate::commit::{all_fit, count_won, write_roots};
 use crate::counts::step_counts;
 use crate::found::Found;
-use crate::moves::{renamed_fields, renamed_roots, write_fields};
 use crate::opening::opened;
+use heap_commit::commit;
 use heap_data::{Census, Collection, Report, RootId, Settled};
 use heap_space::Space;
 use layout::{ObjectRef, Place};
@@ -99,7 +98,7 @@ impl<A: Allocator> Model for Heap<A> {
     ghost coded = { heap_code };
 
     ghost use Rattle.model.specs.Graph.{IsClosed};
-    ghost use Rattle.heap.specs.HeapView.{heap_of};
+    ghost use Rattle.heap_commit.specs.HeapView.{heap_of};
 
     ghost view = { λ h. heap_of h.space h.roots.slots };
 
@@ -362,33 +361,6 @@ impl<A: Allocator + Clone> Heap<A> {
         ensures sound { IfOk result (λ _. IsHeap self.new) }
         ensures err { OnErr result (self.new ≡ self.old) }
     {
-        let _before = self.space.free_count();
-        let collection = &settled.collection;
-        let g = collection.generation();
-        let cells = collection.cells() as u64;
-        let bases = collection.bases();
-        let places = &settled.places;
-        let roots = renamed_roots(alloc.clone()?, &self.space, &self.roots, bases, g, places)?;
-        let slots = collection.slots();
-        let fields = renamed_fields(alloc.clone()?, &self.space, slots, bases, g, places)?;
-        let kept = count_won(&settled.workers);
-        let _fit = all_fit(&settled.blocks);
-        let Settled {
-            collection: _,
-            places: _,
-            blocks,
-            workers,
-            deliveries,
-        } = settled;
-        self.space.replace(alloc, g, blocks)?;
-        write_fields(&mut self.space, &fields);
-        write_roots(&mut self.roots, &roots);
-        let _after = self.space.free_count();
-        Ok(Report {
-            kept,
-            freed: cells - kept,
-            workers,
-            deliveries,
-        })
+        commit(alloc, &mut self.space, &mut self.roots, settled)
     }
 }

@@ -1,11 +1,9 @@
 //! The heap: objects in blocks, roots, and what a collection takes from it and gives back.
 #![tactic(auto)]
 
-mod commit;
 mod counts;
 mod found;
 mod heap;
-mod moves;
 mod opening;
 
 pub use found::Found;

@@ -5,8 +5,8 @@ ghost use Rattle.model.specs.Graph.{IsClosed};
 ghost use Rattle.heap_data.specs.CollectionValue.{root_slot, IsOpened};
 ghost use Rattle.heap_data.specs.SlotView.{slot_value};
 ghost use Rattle.heap_space.specs.Space.{graph_in};
-ghost use Rattle.heap.specs.Roots.{roots_map};
-ghost use Rattle.heap.specs.HeapView.{heap_of};
+ghost use Rattle.heap_commit.specs.Roots.{roots_map};
+ghost use Rattle.heap_commit.specs.HeapView.{heap_of};
 
 use heap_data::{Collection, RootId, Slot};
 use heap_space::Space;

@@ -1,8 +1,7 @@
-use Rattle.std.proofs.Common.{◌≡◌, ◌+◌, ◌<◌, ◌++◌, ◌∷◌, [], map, take, get_or, length, refl, sym, ap, ◌∙◌, arith, length-append}
+use Rattle.std.proofs.Common.{◌<◌, ◌++◌, ◌∷◌, [], map, take, get_or, length, sym, ap, ◌∙◌, arith, length-append}
 use Rattle.std.proofs.lemmas.List.{map-append, take_all, take_more}
 use Rattle.std.specs.FinMap.{values}
 use Rattle.model.specs.Census.{step_count}
-use Rattle.model.specs.Destination.{all_steps}
 use Rattle.steps.specs.StepPairs.{step_pair}
 use Rattle.heap_data.specs.CensusView.{step_value}
 use Rattle.steps.specs.declared.step_id.StepId.{StepId}

@@ -1,4 +1,4 @@
-use Rattle.std.proofs.Common.{◌≡◌, map, length, ap, ◌∙◌, arith}
+use Rattle.std.proofs.Common.{map, length, ap, ◌∙◌, arith}
 use Rattle.std.specs.FinMap.{values}
 use Rattle.model.specs.Census.{step_count}
 use Rattle.model.specs.Destination.{all_steps}

@@ -1,4 +1,4 @@
-use Rattle.std.proofs.Common.{◌≡◌, ◌++◌, map, refl, ap, sym, ◌∙◌}
+use Rattle.std.proofs.Common.{◌++◌, map, refl, ap, ◌∙◌}
 use Rattle.model.specs.OldSlots.{old_slots}
 use Rattle.heap_data.specs.CollectionValue.{field_slot_of}
 use Rattle.heap_space.specs.Space.{graph_in}

@@ -1,9 +1,9 @@
-use Rattle.std.proofs.Common.{◌≡◌, ap, sym, ◌∙◌, None, arith, rules}
+use Rattle.std.proofs.Common.{ap, sym, ◌∙◌, None, rules}
 use Rattle.std.specs.Prelude.{slice_index_or}
 use Rattle.std.specs.FinMap.{insert}
 use Rattle.layout.specs.Place.{place_word}
-use Rattle.heap.specs.Roots.{roots_map}
-use Rattle.heap.proofs.RootMap.{roots-insert}
+use Rattle.heap_commit.specs.Roots.{roots_map}
+use Rattle.heap_commit.proofs.RootMap.{roots-insert}
 use Rattle.model.proofs.ClosedLemmas.{closed_fresh}
 use Rattle.heap.proofs.Allocating.{allocates_is}
 use Rattle.heap.proofs.heap.Heap.allocate.Goals as goal

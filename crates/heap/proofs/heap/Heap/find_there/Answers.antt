@@ -1,5 +1,5 @@
 use Rattle.layout.specs.Place.{place_word}
-use Rattle.heap.proofs.OpenedHeap.{opened_bases}
+use Rattle.heap_commit.proofs.OpenedBases.{opened_bases}
 use Rattle.heap.proofs.FoundHere.{found_here}
 use Rattle.heap.proofs.heap.Heap.find_there.Goals as goal
 

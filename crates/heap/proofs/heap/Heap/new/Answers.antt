@@ -1,10 +1,10 @@
-use Rattle.std.proofs.Common.{◌≡◌, [], sym, ap, subst, ◌∙◌, rules}
+use Rattle.std.proofs.Common.{◌≡◌, [], sym, ap, subst, ◌∙◌}
 use Rattle.model.specs.Graph.{IsClosed}
 use Rattle.model.proofs.ClosedLemmas.{closed_empty}
 use Rattle.heap_data.specs.HeapValue.{HeapValue, empty_heap}
-use Rattle.heap.specs.HeapView.{heap_of}
+use Rattle.heap_commit.specs.HeapView.{heap_of}
 use Rattle.heap.proofs.HeapLemmas.{empty_view}
-use Rattle.heap.proofs.SoundHeap.{is_heap}
+use Rattle.heap_commit.proofs.SoundSpace.{is_heap}
 use Rattle.heap.proofs.heap.Heap.new.Goals as goal
 
 pub returns-in-Ok-new-clause-ok : goal.returns-in-Ok-new-clause-ok

@@ -1,5 +1,4 @@
-use Rattle.std.proofs.Common.{◌≡◌, arith, sym, ◌∙◌}
-use Rattle.heap.proofs.OpenedHeap.{opened_bases, young_in}
+use Rattle.heap_commit.proofs.OpenedBases.{opened_bases, young_in}
 use Rattle.heap.proofs.heap.Heap.number_of.Goals as goal
 
 pub number_of-requires-clause-bases : goal.number_of-requires-clause-bases

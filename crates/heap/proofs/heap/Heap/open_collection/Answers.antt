@@ -1,5 +1,5 @@
-use Rattle.heap.proofs.OpenedHeap.{closed_in}
-use Rattle.heap.proofs.SoundHeap.{is_heap}
+use Rattle.heap_commit.proofs.OpenedBases.{closed_in}
+use Rattle.heap_commit.proofs.SoundSpace.{is_heap}
 use Rattle.heap.proofs.heap.Heap.open_collection.Goals as goal
 
 pub opened-requires-clause-closed : goal.opened-requires-clause-closed

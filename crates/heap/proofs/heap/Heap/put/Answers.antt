@@ -1,5 +1,5 @@
 use Rattle.std.proofs.Common.{rules}
-use Rattle.heap.specs.HeapView.{heap_of}
+use Rattle.heap_commit.specs.HeapView.{heap_of}
 use Rattle.heap.proofs.Storing.{held, plain_stored}
 use Rattle.heap.proofs.heap.Heap.put.Goals as goal
 

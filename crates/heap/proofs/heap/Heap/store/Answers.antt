@@ -2,7 +2,7 @@ use Rattle.std.proofs.Common.{◌≡◌, ap, ◌∙◌, sym, refl, rules}
 use Rattle.std.specs.Option.{option_map}
 use Rattle.layout.specs.Place.{place_word}
 use Rattle.heap.specs.Commands.{value_at}
-use Rattle.heap.specs.HeapView.{heap_of}
+use Rattle.heap_commit.specs.HeapView.{heap_of}
 use Rattle.heap.proofs.Storing.{held, pointer_stored}
 use Rattle.heap.proofs.heap.Heap.store.Goals as goal
 use Rattle.heap.proofs.heap.Heap.store.Goals.{in-None, in-Some-value+in-Some-target}
