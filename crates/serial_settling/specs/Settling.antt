@@ -1,5 +1,5 @@
 -- What a worker by itself brings to the commit of its collection.
-use Rattle.std.specs.Prelude.{◌≡◌, ℕ, ◌≤◌, List, [], ◌∷◌, length, map, min, nat_eq}
+use Rattle.std.specs.Prelude.{◌≡◌, ℕ, ◌≤◌, List, [], ◌∷◌, length, map, min}
 use Rattle.std.specs.List.{enumerate_from}
 use Rattle.heap_data.specs.ReportValue.{WorkerLists, renaming_of}
 use Rattle.heap_data.specs.CollectionValue.{young_names}

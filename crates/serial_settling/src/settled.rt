@@ -1,5 +1,5 @@
 //! What the worker brings to the commit of its collection.
-ghost use Rattle.std.specs.Prelude.{◌≡◌, ◌<◌, ◌++◌, [], All, IfOk, OnOk, length, map};
+ghost use Rattle.std.specs.Prelude.{◌≡◌, ◌<◌, ◌++◌, ◌∷◌, [], All, IfOk, OnOk, length, map};
 ghost use Rattle.layout.specs.Place.{place_word};
 ghost use Rattle.model.specs.Live.{IsYoung};
 ghost use Rattle.heap_data.specs.CollectionValue.{IsOpened, young_names};
@@ -114,6 +114,19 @@ fn exported<A: Allocator + Clone>(
     delivered(alloc, told.of(0))
 }
 
+/// The reports of all workers: that of the one.
+fn reported<A: Allocator>(
+    alloc: A,
+    won: Vec<Won, A>,
+    scanned: Vec<Place, A>,
+) -> Result<Vec<WorkerReport<A>, A>, AllocError>
+    ensures { IfOk result (λ v. v.items ≡ record { won = map won_value won.items; scanned = map place_word scanned.items } ∷ []) }
+{
+    let mut workers = Vec::with_capacity(alloc, 1)?;
+    workers.push_reserved(WorkerReport::new(won, scanned));
+    Ok(workers)
+}
+
 /// What the worker brings to the commit of its collection, once nothing is left to it. An error says that memory ran out.
 pub fn settle<A: Allocator + Clone>(
     alloc: A,
@@ -150,8 +163,7 @@ pub fn settle<A: Allocator + Clone>(
     let blocks = in_one_list(alloc.clone()?, allocation, done)?;
     let places = places_in(alloc.clone()?, cells, pass)?;
     let deliveries = exported(alloc.clone()?, queues, seat)?;
-    let mut workers = Vec::with_capacity(alloc, 1)?;
-    workers.push_reserved(WorkerReport::new(won, scanned));
+    let workers = reported(alloc, won, scanned)?;
     Ok(Settled {
         collection,
         places,

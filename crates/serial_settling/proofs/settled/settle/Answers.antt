@@ -1,9 +1,8 @@
-use Rattle.std.proofs.Common.{◌≡◌, ◌∷◌, [], All, length, map, refl, sym, ap, subst, ◌∙◌}
+use Rattle.std.proofs.Common.{◌≡◌, All, length, map, sym, ap, subst, ◌∙◌}
 use Rattle.std.specs.Option.{option_map}
 use Rattle.layout.specs.Place.{place_word}
 use Rattle.block_pool.specs.BlockValue.{BlockValue}
-use Rattle.heap_data.specs.CollectionValue.{young_names}
-use Rattle.heap_data.specs.ReportValue.{WorkerLists, all_won, renaming_of}
+use Rattle.heap_data.specs.ReportValue.{all_won}
 use Rattle.heap_data.specs.ReportView.{won_value}
 use Rattle.heap_data.specs.SettledValue.{IsSettled}
 use Rattle.model.specs.Live.{IsYoung}
@@ -13,8 +12,8 @@ use Rattle.workers.specs.Joined.{Each, OnSome}
 use Rattle.to_space.specs.Named.{named, IsWhole}
 use Rattle.to_space.specs.Fronts.{slot_at}
 use Rattle.scavenge.specs.Shown.{WorkspaceValue, pair_of}
-use Rattle.serial_settling.specs.Settling.{IsReportOf, deliveries_of}
-use Rattle.serial_settling.proofs.SettleWhole.{IsAtEnd, opened_at_end, young_at_end, settled_at_end, reports_at_end, scans_at_end, sizes_at_end, all_won-alone}
+use Rattle.serial_settling.specs.Settling.{deliveries_of}
+use Rattle.serial_settling.proofs.SettleWhole.{opened_at_end, young_at_end, settled_at_end, reports_at_end, scans_at_end, sizes_at_end, all_won-alone}
 use Rattle.serial_settling.proofs.settled.settle.Goals as goal
 
 pub numbered-requires-clause-opened : goal.numbered-requires-clause-opened
@@ -39,8 +38,7 @@ places_in-requires-clause-alone g c = ap (λ (k : PlainValue). k.passes) c.into_
 
 pub returns-clause-settled : goal.returns-clause-settled
 returns-clause-settled g c =
-    let alone : c.push_reserved.new.self.items ≡ c.new.result ∷ [] = rw (c.push_reserved.ensures.items, c.in_ok-workers.ensures.items) refl in
-    let won : all_won c.push_reserved.new.self.items ≡ map won_value c.in_ok-won.won.items = all_won-alone c.push_reserved.new.self.items c.new.result alone ∙ ap (λ (w : WorkerLists). w.won) c.new.ensures in
+    let won : all_won c.in_ok-workers.workers.items ≡ map won_value c.in_ok-won.won.items = all_won-alone c.in_ok-workers.workers.items _ c.in_ok-workers.ensures in
     let same = c.into_parts-cells.ensures.workspace in
     subst (IsSettled c.args.serial.heap c.args.collection c.in_ok-places.places.items c.in_ok-blocks.blocks.items) (sym won)
     (settled_at_end c.args.serial c.into_parts-cells.ensures.serial c.args.heap.now c.args.collection
@@ -60,14 +58,13 @@ returns-clause-collection g c = c.requires.collection
 
 pub returns-clause-lists : goal.returns-clause-lists
 returns-clause-lists g c =
-    let alone : c.push_reserved.new.self.items ≡ c.new.result ∷ [] = rw (c.push_reserved.ensures.items, c.in_ok-workers.ensures.items) refl in
     let same = c.into_parts-cells.ensures.workspace in
     reports_at_end c.args.serial c.into_parts-cells.ensures.serial c.args.heap.now c.args.collection
     (record { heap_is = c.requires.heap; collection_is = c.requires.collection; out = c.requires.out; queue = c.requires.queue; reached = c.requires.reached })
-    c.push_reserved.new.self.items c.new.result alone
-    (ap (λ (w : WorkerLists). renaming_of (young_names c.args.heap.now.graph c.args.collection.generation) w.won) c.new.ensures ∙ c.in_ok-won.ensures.renaming ∙ ap (map pair_of) c.deref.ensures.value ∙ c.into_parts-allocation.ensures.won
+    c.in_ok-workers.workers.items _ c.in_ok-workers.ensures
+    (c.in_ok-won.ensures.renaming ∙ ap (map pair_of) c.deref.ensures.value ∙ c.into_parts-allocation.ensures.won
     ∙ ap (λ (w : WorkspaceValue). w.worker.won) same)
-    (ap (λ (w : WorkerLists). w.scanned) c.new.ensures ∙ c.into_parts-allocation.ensures.scanned ∙ ap (λ (w : WorkspaceValue). w.worker.scanned) same)
+    (c.into_parts-allocation.ensures.scanned ∙ ap (λ (w : WorkspaceValue). w.worker.scanned) same)
 
 pub returns-clause-deliveries : goal.returns-clause-deliveries
 returns-clause-deliveries g c = c.in_ok-deliveries.ensures ∙ ap (λ q. deliveries_of (map (λ (b : BlockValue). length b.objects) (lane_at q 0).sent)) c.into_parts-cells.ensures.queues ∙ ap deliveries_of (sizes_at_end c.args.serial c.into_parts-cells.ensures.serial)
