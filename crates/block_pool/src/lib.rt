@@ -7,4 +7,5 @@ mod words;
 
 pub use block::Block;
 pub use claims::{ClaimSeat, Claims};
+pub use number_sets::RankedSet;
 pub use pool::{GrantError, Pool};

@@ -76,6 +76,7 @@ impl<A: Allocator> NumberSet<A> {
         ensures value { result ≡ length self.now.members }
         ensures in_limit { result ≤ self.now.limit }
         ensures rising { IsStrictlyIncreasing self.now.members }
+        ensures below { All (λ n. n < self.now.limit) self.now.members }
     {
         self.count
     }
