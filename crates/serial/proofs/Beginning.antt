@@ -29,22 +29,6 @@ use Rattle.scavenge.specs.Shown.{WorkspaceValue}
 use Rattle.serial.specs.SerialValue.{SerialValue, lane_of, waiting_in, positions_below, left_of, system_of, setting_in, targets_in, destinations_in}
 use Rattle.serial.specs.IsSerial.{IsSerial, IsReadyToCollect, AreForwarded, HasWorked}
 
-above_index : (xs : List ℕ) → IsStrictlyIncreasing xs → (k : ℕ) → k < length xs → k ≤ slice_index xs k
-above_index xs rising zero l = omega arith
-above_index xs rising (suc k) l =
-    let e : k + 1 ≡ suc k = omega arith in
-    let h : k ≤ slice_index xs k = above_index xs rising k (omega arith) in
-    let s : slice_index xs k < slice_index xs (suc k) = subst (λ i. slice_index xs k < slice_index xs i) e (rising k (omega (arith, e))) in
-    omega (arith, h, s)
-
--- there are no more free blocks than blocks
-pub few_free : (blocks : ℕ) (free : List ℕ) → AreFreeBlocks blocks free → length free ≤ blocks
-few_free blocks [] a = omega arith
-few_free blocks (x ∷ xs) a =
-    let l : slice_index (x ∷ xs) (length xs) < blocks = a.in_range (length xs) 0 (omega arith) in
-    let h : length xs ≤ slice_index (x ∷ xs) (length xs) = above_index (x ∷ xs) a.rising (length xs) (omega arith) in
-    omega (arith, l, h)
-
 none_held : (count number : ℕ) → place_held (replicate count None) number ≡ None
 none_held zero number = refl
 none_held (suc count) zero = refl
