@@ -3,7 +3,11 @@ use std::alloc::{AllocError, Global};
 use std::test::Fail;
 
 /// The members that have these numbers of members below them.
-fn members_at(alloc: Global, ranked: &RankedSet, places: &[usize]) -> Result<Vec<Option<u32>>, AllocError> {
+fn members_at(
+    alloc: Global,
+    ranked: &RankedSet,
+    places: &[usize],
+) -> Result<Vec<Option<u32>>, AllocError> {
     let mut members = Vec::new(alloc);
     for place in places {
         members.push(ranked.nth(*place))?;
@@ -18,7 +22,10 @@ fn members_come_lowest_first(rt: HostRuntime) -> Result<(), Fail> {
     assert_eq!(rt; (set.pop_first(), set.pop_first()), (Some(0), Some(1)));
     assert!(rt; 0 < set.limit() && !set.contains(0));
     set.insert(0);
-    assert_eq!(rt; (set.pop_first(), set.pop_first(), set.pop_first()), (Some(0), Some(2), None));
+    assert_eq!(rt;
+        (set.pop_first(), set.pop_first(), set.pop_first()),
+        (Some(0), Some(2), None)
+    );
     assert_eq!(rt; set.len(), 0);
     Ok(())
 }
@@ -34,7 +41,10 @@ fn members_are_found_in_all_words(rt: HostRuntime) -> Result<(), Fail> {
     set.remove(64);
     assert!(rt; set.contains(199));
     set.remove(199);
-    assert_eq!(rt; (set.contains(63), set.contains(65), set.contains(200)), (false, true, false));
+    assert_eq!(rt;
+        (set.contains(63), set.contains(65), set.contains(200)),
+        (false, true, false)
+    );
     let ranked = set.ranked(rt.alloc())?;
     assert_eq!(rt; ranked.len(), 196);
     let places = [0, 61, 62, 125, 195, 196];

@@ -1,6 +1,6 @@
 -- A pool as the numbers of its free blocks.
-pub use Rattle.number_sets.specs.Members.{numbers_below, without, insert_rising}
-use Rattle.std.specs.Prelude.{◌≡◌, ℕ, List, refl}
+pub use Rattle.claims.specs.Members.{numbers_below, without, insert_rising}
+use Rattle.std.specs.Prelude.{ℕ, List, refl}
 use Rattle.std.specs.Coded.{Coded, code_by, coded×, coded_list, coded_ℕ}
 
 pub record PoolValue : Type 0 where

@@ -1,9 +1,9 @@
 -- The bits of a number as flags: how many, which, and what setting and clearing one does.
-use Rattle.std.proofs.Common.{◌≡◌, ◌≢◌, ℕ, zero, suc, ◌+◌, ◌-◌, ◌*◌, ◌/◌, ◌%◌, ◌^◌, ◌<◌, ◌≤◌, ◌⊎◌, inl, inr, Bool, true, false, cond, eqb, List, [], ◌∷◌, ◌++◌, length, get_or, set, take, drop, replicate, refl, sym, ap, subst, ◌∙◌, arith, w64}
+use Rattle.std.proofs.Common.{◌≡◌, ◌≢◌, ℕ, zero, suc, ◌+◌, ◌-◌, ◌*◌, ◌/◌, ◌%◌, ◌^◌, ◌<◌, ◌≤◌, inl, inr, Bool, true, false, eqb, List, ◌∷◌, ◌++◌, length, get_or, set, replicate, refl, sym, ap, subst, ◌∙◌, arith, w64}
 use Rattle.std.specs.Prelude.{bit_and, bit_or, count_ones}
 use Rattle.std.specs.Int.{bit_at, bit_not, trailing_zeros}
-use Rattle.std.proofs.lemmas.Bool.{ne_eqb, eq-eqb, eqb-true, cases_eq, cases_lt, false_from_ne_true}
-use Rattle.std.proofs.lemmas.Nat.{ones_cat, ones_le_self, zero_from_ones, div-add-mod', div_below}
+use Rattle.std.proofs.lemmas.Bool.{ne_eqb, eq-eqb, cases_eq, cases_lt}
+use Rattle.std.proofs.lemmas.Nat.{ones_cat, ones_le_self, zero_from_ones}
 use Rattle.std.proofs.lemmas.Nat.Bits.{bit_at_lowest, bit_at-suc, bit_at-lt, bit_at_set_same, bit_at_set_other, bit_at_clear_same, bit_at_clear_other, bit_at_ones, bit_at_ones_above, bit_at-trailing_zeros}
 use Rattle.std.proofs.lemmas.List.{get_or-set_same, get_or-set_other, length-set, ext_get_or, length-replicate, get_or-replicate, get_or-append_right, get_or_append_left, length-append}
 use Rattle.number_sets.specs.Members.{set_from}
@@ -32,28 +32,28 @@ pub bits-set : (n k : ℕ) → k < 64 → bits_of 64 (bit_or n (1 * 2 ^ k % 2 ^ 
 bits-set n k h =
     let m : ℕ = bit_or n (1 * 2 ^ k % 2 ^ 64) in
     ext_get_or false (bits_of 64 m) (set (bits_of 64 n) k true) (length-bits 64 m ∙ sym (length-set (bits_of 64 n) k true ∙ length-bits 64 n)) (
-      λ i l.
-      let within : i < 64 = omega (arith, length-bits 64 m) in
-      elim (cases_eq i k) [
-        | inl same ↦
-            rw same (bit_is_set 64 m k h (bit_at_set_same w64 n k h) ∙ sym (get_or-set_same (bits_of 64 n) k true false (omega (arith, length-bits 64 n))))
-        | inr ne ↦
-            bits-at 64 m i within ∙ ap (λ b. eqb b 1) (bit_at_set_other w64 n k h i ne) ∙ sym (bits-at 64 n i within) ∙ sym (get_or-set_other (bits_of 64 n) k i true false ne)
-      ]
+    λ i l.
+    let within : i < 64 = omega (arith, length-bits 64 m) in
+    elim (cases_eq i k) [
+      | inl same ↦
+          rw same (bit_is_set 64 m k h (bit_at_set_same w64 n k h) ∙ sym (get_or-set_same (bits_of 64 n) k true false (omega (arith, length-bits 64 n))))
+      | inr ne ↦
+          bits-at 64 m i within ∙ ap (λ b. eqb b 1) (bit_at_set_other w64 n k h i ne) ∙ sym (bits-at 64 n i within) ∙ sym (get_or-set_other (bits_of 64 n) k i true false ne)
+    ]
     )
 
 pub bits-cleared : (n k : ℕ) → k < 64 → bits_of 64 (bit_and n (bit_not w64 (1 * 2 ^ k % 2 ^ 64))) ≡ set (bits_of 64 n) k false
 bits-cleared n k h =
     let m : ℕ = bit_and n (bit_not w64 (1 * 2 ^ k % 2 ^ 64)) in
     ext_get_or false (bits_of 64 m) (set (bits_of 64 n) k false) (length-bits 64 m ∙ sym (length-set (bits_of 64 n) k false ∙ length-bits 64 n)) (
-      λ i l.
-      let within : i < 64 = omega (arith, length-bits 64 m) in
-      elim (cases_eq i k) [
-        | inl same ↦
-            rw same (bit_is_clear 64 m k h (bit_at_clear_same w64 n k h) ∙ sym (get_or-set_same (bits_of 64 n) k false false (omega (arith, length-bits 64 n))))
-        | inr ne ↦
-            bits-at 64 m i within ∙ ap (λ b. eqb b 1) (bit_at_clear_other w64 n k h i within ne) ∙ sym (bits-at 64 n i within) ∙ sym (get_or-set_other (bits_of 64 n) k i false false ne)
-      ]
+    λ i l.
+    let within : i < 64 = omega (arith, length-bits 64 m) in
+    elim (cases_eq i k) [
+      | inl same ↦
+          rw same (bit_is_clear 64 m k h (bit_at_clear_same w64 n k h) ∙ sym (get_or-set_same (bits_of 64 n) k false false (omega (arith, length-bits 64 n))))
+      | inr ne ↦
+          bits-at 64 m i within ∙ ap (λ b. eqb b 1) (bit_at_clear_other w64 n k h i within ne) ∙ sym (bits-at 64 n i within) ∙ sym (get_or-set_other (bits_of 64 n) k i false false ne)
+    ]
     )
 
 -- the bits below one are set, the others are not
@@ -62,16 +62,16 @@ bits-ones k n h =
     let m : ℕ = 2 ^ k - 1 in
     let right : length (replicate k true ++ replicate (n - k) false) ≡ n = length-append (replicate k true) (replicate (n - k) false) ∙ omega (arith, length-replicate k true, length-replicate (n - k) false) in
     ext_get_or false (bits_of n m) (replicate k true ++ replicate (n - k) false) (length-bits n m ∙ sym right) (
-      λ i l.
-      let within : i < n = omega (arith, length-bits n m) in
-      elim (cases_lt i k) [
-        | inl below ↦
-            bit_is_set n m i within (bit_at_ones k i below)
-            ∙ sym (get_or_append_left (replicate k true) (replicate (n - k) false) false i (omega (arith, length-replicate k true)) ∙ get_or-replicate k i true false below)
-        | inr above ↦
-            bit_is_clear n m i within (bit_at_ones_above k i above)
-            ∙ sym (get_or-append_right (replicate k true) (replicate (n - k) false) k i false (length-replicate k true) above ∙ get_or-replicate (n - k) (i - k) false false (omega arith))
-      ]
+    λ i l.
+    let within : i < n = omega (arith, length-bits n m) in
+    elim (cases_lt i k) [
+      | inl below ↦
+          bit_is_set n m i within (bit_at_ones k i below)
+          ∙ sym (get_or_append_left (replicate k true) (replicate (n - k) false) false i (omega (arith, length-replicate k true)) ∙ get_or-replicate k i true false below)
+      | inr above ↦
+          bit_is_clear n m i within (bit_at_ones_above k i above)
+          ∙ sym (get_or-append_right (replicate k true) (replicate (n - k) false) k i false (length-replicate k true) above ∙ get_or-replicate (n - k) (i - k) false false (omega arith))
+    ]
     )
 
 -- the number of bits that are set

@@ -1,11 +1,9 @@
 -- The numbers of the flags that are set, as flags are set and cleared.
-use Rattle.std.proofs.Common.{◌≡◌, ◌≢◌, ℕ, zero, suc, ◌+◌, ◌-◌, ◌<◌, ◌≤◌, ◌⊎◌, ◌↔◌, inl, inr, Bool, true, false, cond, eqb, ltb, List, [], ◌∷◌, ◌++◌, length, get_or, set, take, drop, replicate, refl, sym, ap, subst, ◌∙◌, arith}
+use Rattle.std.proofs.Common.{◌≡◌, ◌≢◌, ℕ, zero, suc, ◌+◌, ◌<◌, ◌≤◌, ◌⊎◌, ◌↔◌, inl, inr, Bool, true, false, eqb, ltb, List, [], ◌∷◌, ◌++◌, length, get_or, set, take, drop, replicate, refl, sym, ap, subst, ◌∙◌, arith}
 use Rattle.std.specs.List.{Contains, All, range_with_len}
 use Rattle.std.specs.List.Sorted.{IsStrictlyIncreasing}
 use Rattle.std.proofs.lemmas.Bool.{ne_eqb, eq-eqb, lt-ltb, le-ltb, cases_eq, cases_lt, false_from_ne_true}
-use Rattle.std.proofs.lemmas.List.{get_or-set_same, get_or-set_other, length-set, get_or_default, take_more, get_or_past, length-replicate, length-take, length-drop, append-nil, get_or-take, get_or-drop, take-append-drop}
-use Rattle.std.proofs.lemmas.List.Elements.{Contains-append_left, Contains-append_right, Contains-append_cases}
-use Rattle.std.proofs.lemmas.List.FromFn.{length-range_with_len}
+use Rattle.std.proofs.lemmas.List.{get_or-set_same, get_or-set_other, get_or_default, get_or_past, length-take, append-nil, get_or-drop, take-append-drop}
 use Rattle.number_sets.proofs.Containing.{Contains-first, Contains-later, Contains-cons_cases}
 use Rattle.number_sets.specs.Members.{set_from, without, insert_rising}
 use Rattle.number_sets.specs.Words.{NoneSetBelow, NoneSetFrom}
@@ -230,6 +228,7 @@ none_below-cleared bs n none k h =
   where
     below_but : (k n : ℕ) → k < n + 1 → k ≢ n → k < n
     below_but k n h ne = omega arith
+
 -- the numbers of the flags of two lists
 pub set_from-append : (first : ℕ) (bs cs : List Bool) → set_from first (bs ++ cs) ≡ set_from first bs ++ set_from (first + length bs) cs
 set_from-append first [] cs = let same : first ≡ first + 0 = omega arith in ap (λ n. set_from n cs) same

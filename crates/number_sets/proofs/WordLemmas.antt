@@ -1,13 +1,13 @@
 -- The flags of words: which they are, and what setting and clearing one leaves of a set's fields.
-use Rattle.std.proofs.Common.{◌≡◌, ◌≢◌, ℕ, zero, suc, ◌+◌, ◌-◌, ◌*◌, ◌/◌, ◌%◌, ◌^◌, ◌<◌, ◌≤◌, inl, inr, Bool, true, false, eqb, List, [], ◌∷◌, ◌++◌, length, get_or, set, take, drop, replicate, refl, sym, ap, subst, ◌∙◌, arith, w64}
-use Rattle.std.specs.Prelude.{bit_and, bit_or, count_ones}
+use Rattle.std.proofs.Common.{◌≡◌, ℕ, zero, suc, ◌+◌, ◌-◌, ◌*◌, ◌/◌, ◌%◌, ◌^◌, ◌<◌, ◌≤◌, inl, inr, Bool, true, false, eqb, List, [], ◌∷◌, ◌++◌, length, get_or, set, replicate, refl, sym, ap, subst, ◌∙◌, arith, w64}
+use Rattle.std.specs.Prelude.{bit_and, bit_or}
 use Rattle.std.specs.Int.{bit_at, bit_not, trailing_zeros}
-use Rattle.std.proofs.lemmas.Bool.{eq-eqb, eqb-true, cases_lt}
+use Rattle.std.proofs.lemmas.Bool.{cases_lt}
 use Rattle.std.proofs.lemmas.List.{length-set, set-append_left, set-append_right, get_or-append_right, get_or_append_left, length-append, append_assoc, append-nil, length-replicate, replicate-append-replicate, take_all, take_more_set, take-replicate, get_or-replicate, get_or_past}
 use Rattle.std.specs.List.{range_with_len}
 use Rattle.std.proofs.lemmas.List.FromFn.{length-range_with_len}
-use Rattle.number_sets.specs.Members.{set_from, without, insert_rising}
-use Rattle.number_sets.specs.Words.{bits_of, flags_of, members_of, NoneSetBelow, NoneSetFrom, IsNumberSet}
+use Rattle.number_sets.specs.Members.{set_from}
+use Rattle.number_sets.specs.Words.{bits_of, flags_of, members_of, NoneSetBelow, IsNumberSet}
 use Rattle.number_sets.proofs.Flags.{length-set_from-cleared, length-set_from-set, none_past-cleared, none_past-set, none_below-kept, none_below-set, set_from-first, set_from-none, set_from-append, set_from-all, contains-below, contains-from_is_set}
 use Rattle.number_sets.proofs.Bits.{length-bits, bits-at, bits-set, bits-cleared, bits-zero, bits-ones, IsLowest, is_lowest}
 

@@ -1,5 +1,5 @@
 -- A set of numbers below a limit, and what changes it.
-use Rattle.std.specs.Prelude.{◌≡◌, ℕ, ◌+◌, Bool, cond, not, nat_eq, nat_lt, List, [], ◌∷◌, refl}
+use Rattle.std.specs.Prelude.{ℕ, ◌+◌, Bool, cond, not, nat_eq, nat_lt, List, [], ◌∷◌, refl}
 use Rattle.std.specs.List.{filter, range_with_len}
 use Rattle.std.specs.Coded.{Coded, code_by, coded×, coded_list, coded_ℕ}
 

@@ -6,7 +6,10 @@ ghost use Rattle.number_sets.specs.Words.{bits_of, AreRanks};
 use std::alloc::{AllocError, Allocator};
 
 /// How many members stand in the words before each word. An error says that memory ran out.
-pub(crate) fn counts_before<A: Allocator>(alloc: A, words: &[u64]) -> Result<Vec<u32, A>, AllocError>
+pub(crate) fn counts_before<A: Allocator>(
+    alloc: A,
+    words: &[u64],
+) -> Result<Vec<u32, A>, AllocError>
     requires { length words.now ≤ 1024 }
     ensures { IfOk result (λ before. AreRanks words.now before.items) }
 {

@@ -2,7 +2,6 @@
 use Rattle.std.proofs.Common.{◌≡◌, ℕ, zero, suc, ◌+◌, ◌<◌, ◌≤◌, List, [], ◌∷◌, length, map, replicate, Option, Some, None, refl, sym, ap, subst, ◌∙◌, arith, nat_eq}
 use Rattle.std.specs.Prelude.{All, slice_index, slice_index_or, slice_get}
 use Rattle.std.specs.List.{IsDistinct, range_with_len}
-use Rattle.std.specs.List.Sorted.{IsStrictlyIncreasing}
 use Rattle.std.specs.Option.{option_map}
 use Rattle.std.specs.Ordering.{nat_cmp}
 use Rattle.std.specs.FinMap.{find}
@@ -17,7 +16,7 @@ use Rattle.plain_cells.specs.declared.held.Held.{Held}
 use Rattle.plain_queues.specs.PlainValue.{PlainLane, empty_lane, lane_at, new_pending}
 use Rattle.plain_queues.specs.PlainValue.{PlainValue as PlainQueuesValue}
 use Rattle.heap_data.specs.HeapValue.{HeapValue}
-use Rattle.heap_data.specs.CollectionValue.{CollectionValue, AreFreeBlocks, target_of_slot}
+use Rattle.heap_data.specs.CollectionValue.{CollectionValue, target_of_slot}
 use Rattle.model.specs.Destination.{dest_count}
 use Rattle.copies.specs.Handed.{CopiesKeyValue}
 use Rattle.workers.specs.System.{System, opening, opening_worker}

@@ -1,9 +1,8 @@
-use Rattle.std.proofs.Common.{◌≡◌, ◌<◌, ◌≤◌, ◌+◌, ◌*◌, ◌^◌, ◌++◌, ◌∷◌, [], ◌∙◌, ap, sym, arith, rules, get_or, length, inl, inr, refl}
+use Rattle.std.proofs.Common.{◌≡◌, ◌<◌, ◌+◌, ◌^◌, ◌++◌, ◌∷◌, [], ◌∙◌, ap, sym, arith, rules, get_or, length, inl, inr, refl}
 use Rattle.std.specs.Prelude.{count_ones}
 use Rattle.std.proofs.lemmas.Bool.{cases_lt}
 use Rattle.std.proofs.lemmas.List.{length_push, get_or_append_left, get_or_push}
 use Rattle.std.proofs.lemmas.Nat.{ones-le}
-use Rattle.number_sets.specs.Words.{rank}
 use Rattle.number_sets.proofs.Ranks.{rank-zero, rank-le, rank-more}
 use Rattle.number_sets.proofs.ranking.counts_before.Goals as goal
 
@@ -29,14 +28,14 @@ loop-word-preserved g c =
       each =
           λ place h.
           rw items (
-            elim (cases_lt place c.loop-word.word-index) [
-              | inl before ↦
-                  get_or_append_left c.loop-word.before.items (c.loop-word.count ∷ []) 0 place (omega (arith, c.loop-word.invariant.as_many))
-                  ∙ c.loop-word.invariant.each place before
-              | inr last ↦
-                  let same : place ≡ c.loop-word.word-index = omega arith in
-                  rw same (get_or_push c.loop-word.before.items c.loop-word.count 0 c.loop-word.word-index c.loop-word.invariant.as_many ∙ c.loop-word.invariant.count_is)
-            ]
+          elim (cases_lt place c.loop-word.word-index) [
+            | inl before ↦
+                get_or_append_left c.loop-word.before.items (c.loop-word.count ∷ []) 0 place (omega (arith, c.loop-word.invariant.as_many))
+                ∙ c.loop-word.invariant.each place before
+            | inr last ↦
+                let same : place ≡ c.loop-word.word-index = omega arith in
+                rw same (get_or_push c.loop-word.before.items c.loop-word.count 0 c.loop-word.word-index c.loop-word.invariant.as_many ∙ c.loop-word.invariant.count_is)
+          ]
           );
       count_is =
           ap (λ n. n + count_ones (get_or c.args.words.now c.loop-word.word-index 0)) c.loop-word.invariant.count_is

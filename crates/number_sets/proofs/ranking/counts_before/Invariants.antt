@@ -1,4 +1,4 @@
-use Rattle.std.proofs.Common.{◌≡◌, ◌≤◌, length}
+use Rattle.std.proofs.Common.{◌≡◌, length}
 use Rattle.number_sets.specs.Words.{rank}
 use Rattle.number_sets.proofs.Ranks.{AreRanksBelow}
 use Rattle.number_sets.proofs.ranking.counts_before.Given as goal

@@ -1,4 +1,4 @@
-use Rattle.std.proofs.Common.{◌≡◌, ◌<◌, ◌≤◌, ◌-◌, length, get_or}
+use Rattle.std.proofs.Common.{◌<◌, ◌≤◌, ◌-◌, length, get_or}
 use Rattle.number_sets.proofs.ranking.last_at_most.Given as goal
 
 abbrev pub invariant-loop-high : goal.invariant-loop-high

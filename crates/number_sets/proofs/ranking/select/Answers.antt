@@ -1,4 +1,4 @@
-use Rattle.std.proofs.Common.{◌≡◌, ◌<◌, ◌^◌, ◌∙◌, ap, sym, arith, get_or}
+use Rattle.std.proofs.Common.{◌≡◌, ◌<◌, ◌^◌, ◌∙◌, ap, arith, get_or}
 use Rattle.number_sets.specs.Members.{set_from}
 use Rattle.number_sets.specs.Words.{bits_of}
 use Rattle.number_sets.proofs.Bits.{is_lowest}

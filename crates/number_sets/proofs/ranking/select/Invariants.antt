@@ -1,4 +1,3 @@
-use Rattle.std.proofs.Common.{◌<◌, ◌^◌}
 use Rattle.number_sets.proofs.Ranks.{AreLeft}
 use Rattle.number_sets.proofs.ranking.select.Given as goal
 

@@ -1,7 +1,6 @@
-use Rattle.std.proofs.Common.{◌≡◌, ◌∙◌, ◌-◌, ◌*◌, ◌/◌, ◌%◌, ◌^◌, ◌+◌, ap, sym, arith, List, ℕ, set, replicate, true, false, length, refl, ◌++◌}
+use Rattle.std.proofs.Common.{◌≡◌, ◌∙◌, ◌-◌, ◌*◌, ◌/◌, ◌%◌, ◌^◌, ◌+◌, arith, replicate, refl}
 use Rattle.std.proofs.lemmas.List.{length-replicate, length-set}
 use Rattle.std.proofs.lemmas.Nat.{one_shl}
-use Rattle.number_sets.specs.Words.{flags_of, members_of}
 use Rattle.number_sets.proofs.WordLemmas.{full-flags, full-members, IsNumberSet-full}
 use Rattle.number_sets.proofs.number_set.NumberSet.full.Goals as goal
 

@@ -1,5 +1,4 @@
-use Rattle.std.proofs.Common.{◌≡◌, ◌∙◌, ◌<◌, ◌*◌, ◌/◌, ◌%◌, ◌^◌, ap, arith, get_or, length, set, true, false, refl}
-use Rattle.std.specs.Prelude.{bit_or}
+use Rattle.std.proofs.Common.{◌≡◌, ◌<◌, ◌/◌, ap, arith, get_or, length, false, refl}
 use Rattle.std.proofs.lemmas.List.{length-set, get_or_read}
 use Rattle.number_sets.specs.Words.{flags_of, members_of}
 use Rattle.number_sets.proofs.Flags.{not_set-from_not_contains, contains-set, insert_rising-set, set_from-at_most}

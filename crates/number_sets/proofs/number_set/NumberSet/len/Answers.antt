@@ -1,5 +1,4 @@
-use Rattle.std.proofs.Common.{◌≡◌, ap, arith, rules, length}
-use Rattle.std.specs.List.Sorted.{IsStrictlyIncreasing}
+use Rattle.std.proofs.Common.{◌≡◌, ap, arith}
 use Rattle.number_sets.specs.Words.{flags_of, members_of}
 use Rattle.number_sets.proofs.Flags.{set_from-rises, set_from-at_most, All-below}
 use Rattle.number_sets.proofs.number_set.NumberSet.len.Goals as goal

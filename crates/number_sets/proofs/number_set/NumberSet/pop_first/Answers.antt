@@ -1,8 +1,7 @@
-use Rattle.std.proofs.Common.{◌≡◌, ◌∙◌, ◌<◌, ◌≤◌, ◌+◌, ◌*◌, ◌^◌, ℕ, ap, sym, arith, get_or, length, refl, w64, rules}
-use Rattle.std.specs.Int.{trailing_zeros}
+use Rattle.std.proofs.Common.{◌≡◌, ◌∙◌, ◌<◌, ◌^◌, ap, sym, arith, get_or, length, rules}
 use Rattle.std.proofs.lemmas.List.{get_or_read}
 use Rattle.number_sets.specs.Words.{members_of}
-use Rattle.number_sets.proofs.WordLemmas.{IsFirstTaken, first_taken, IsNumberSet-none}
+use Rattle.number_sets.proofs.WordLemmas.{first_taken, IsNumberSet-none}
 use Rattle.number_sets.proofs.number_set.NumberSet.pop_first.Goals as goal
 
 pub invariant_of-self : goal.invariant_of-self

@@ -1,4 +1,4 @@
-use Rattle.std.proofs.Common.{◌≡◌, ◌∙◌, ◌<◌, ◌*◌, ◌/◌, ◌%◌, ◌^◌, ap, arith, get_or, length, set, true, false, refl}
+use Rattle.std.proofs.Common.{◌≡◌, ◌<◌, ◌/◌, ap, arith, get_or, refl}
 use Rattle.std.specs.List.{Contains}
 use Rattle.std.proofs.lemmas.List.{length-set, get_or_read}
 use Rattle.number_sets.specs.Words.{flags_of, members_of}

@@ -1,9 +1,8 @@
-use Rattle.std.proofs.Common.{◌≡◌, ◌<◌, ◌≤◌, ◌-◌, ◌*◌, ◌+◌, ◌^◌, ◌∙◌, ap, sym, arith, rules, get_or, length, ℕ, Some, subst}
+use Rattle.std.proofs.Common.{◌≡◌, ◌<◌, ◌-◌, ◌*◌, ◌+◌, ◌^◌, ◌∙◌, ap, sym, arith, rules, get_or, length, ℕ, Some}
 use Rattle.std.specs.List.{slice_get}
-use Rattle.std.specs.Prelude.{count_ones}
 use Rattle.std.proofs.lemmas.List.{get_or_read}
 use Rattle.number_sets.specs.Members.{set_from}
-use Rattle.number_sets.specs.Words.{bits_of, members_of, rank}
+use Rattle.number_sets.specs.Words.{bits_of, rank}
 use Rattle.number_sets.proofs.Ranks.{some_words, rank-zero, IsFound, is_found, member_in, cases_of}
 use Rattle.number_sets.proofs.ranked_set.RankedSet.nth.Goals as goal
 
