@@ -1,7 +1,9 @@
-//! Tests of words, blocks and their pool, by public calls.
+//! Tests of words, blocks, sets of numbers and the pool, by public calls.
 #![tactic(auto)]
 
 #[cfg(test)]
 mod block_tests;
 #[cfg(test)]
 mod layout_tests;
+#[cfg(test)]
+mod number_set_tests;

@@ -6,5 +6,5 @@ mod pool;
 mod words;
 
 pub use block::Block;
-pub use claims::{ClaimSeat, Claims};
+pub use claims::{ClaimSeat, Claims, RankedSet};
 pub use pool::{GrantError, Pool};

@@ -1,8 +1,9 @@
-ghost use Rattle.std.specs.Prelude.{◌≡◌, ◌≢◌, ℕ, ◌+◌, ◌<◌, ◌≤◌, ◌↔◌, ◌⊎◌, true, false, length, take, drop, Err, IsTrue, IfOk, OnOk, OnErr, slice_index_or};
+ghost use Rattle.std.specs.Prelude.{◌≡◌, ◌≢◌, ℕ, ◌+◌, ◌<◌, ◌≤◌, ◌↔◌, ◌⊎◌, length, take, drop, Err, IsTrue, IfOk, OnOk, OnErr};
 ghost use Rattle.std.specs.List.{Contains, All};
 ghost use Rattle.std.specs.List.Sorted.{IsStrictlyIncreasing};
 ghost use Rattle.block_pool.specs.PoolValue.{PoolValue, numbers_below, without, insert_rising};
 
+use claims::{NumberSet, RankedSet};
 use std::alloc::{AllocError, Allocator, Global};
 use std::marker::Model;
 
@@ -18,37 +19,17 @@ pub enum GrantError {
 /// The numbers of the blocks of a heap, of which some are free.
 #[derive(Drop)]
 pub struct Pool<A: Allocator = Global> {
-    flags: Vec<bool, A>,
-    count: usize,
-    lowest: usize,
+    numbers: NumberSet<A>,
 }
 
 impl<A: Allocator> Model for Pool<A> {
-    ghost use Rattle.std.specs.Prelude.{length};
-    ghost use Rattle.block_pool.specs.PoolValue.{PoolValue, pool_code, set_from, IsPool};
+    ghost use Rattle.block_pool.specs.PoolValue.{PoolValue, pool_code};
 
     ghost Value = { PoolValue };
 
     ghost coded = { pool_code };
 
-    ghost view = { λ p. record { limit = length p.flags.items; free = set_from 0 p.flags.items } };
-
-    ghost invariant = { λ p. IsPool p.flags.items p.count p.lowest };
-}
-
-/// The first number, from `from` on, whose flag is set, or the number of flags where none is.
-fn next_set(flags: &[bool], from: usize) -> usize
-    requires { from ≤ length flags.now }
-    ensures from { from ≤ result }
-    ensures to { result ≤ length flags.now }
-    ensures passed { (k : ℕ) → from ≤ k → k < result → slice_index_or flags.now k false ≡ false }
-    ensures found { result < length flags.now → slice_index_or flags.now result false ≡ true }
-{
-    let mut number = from;
-    while number < flags.len() && !flags[number] {
-        number += 1;
-    }
-    number
+    ghost view = { λ p. record { limit = p.numbers.limit; free = p.numbers.members } };
 }
 
 impl<A: Allocator> Pool<A> {
@@ -57,11 +38,8 @@ impl<A: Allocator> Pool<A> {
         requires { limit ≤ 65535 }
         ensures { IfOk result (λ pool. pool ≡ record { limit = limit; free = numbers_below limit }) }
     {
-        let count = limit as usize;
         Ok(Pool {
-            flags: vec![in alloc; true; count]?,
-            count,
-            lowest: 0,
+            numbers: NumberSet::full(alloc, limit)?,
         })
     }
 
@@ -70,7 +48,7 @@ impl<A: Allocator> Pool<A> {
         ensures value { result ≡ self.now.limit }
         ensures in_range { result ≤ 65535 }
     {
-        self.flags.len() as u32
+        self.numbers.limit()
     }
 
     /// How many blocks are free.
@@ -79,7 +57,7 @@ impl<A: Allocator> Pool<A> {
         ensures in_limit { result ≤ self.now.limit }
         ensures rising { IsStrictlyIncreasing self.now.free }
     {
-        self.count
+        self.numbers.len()
     }
 
     /// Whether the block with that number is free. A number past the limit is not.
@@ -87,23 +65,16 @@ impl<A: Allocator> Pool<A> {
         ensures value { IsTrue result ↔ Contains self.now.free number }
         ensures in_limit { Contains self.now.free number → number < self.now.limit }
     {
-        let number = number as usize;
-        number < self.flags.len() && self.flags[number]
+        self.numbers.contains(number)
     }
 
     /// The numbers of the free blocks, rising. An error says that memory ran out.
-    pub fn free_numbers<B: Allocator>(&self, alloc: B) -> Result<Vec<u32, B>, AllocError>
-        ensures value { IfOk result (λ numbers. numbers.items ≡ self.now.free) }
+    pub fn free_numbers<B: Allocator + Clone>(&self, alloc: B) -> Result<RankedSet<B>, AllocError>
+        ensures value { IfOk result (λ numbers. numbers ≡ self.now.free) }
         ensures rising { IsStrictlyIncreasing self.now.free }
         ensures in_limit { All (λ n. n < self.now.limit) self.now.free }
     {
-        let mut numbers = Vec::with_capacity(alloc, self.count)?;
-        for (number, is_free) in self.flags.iter().enumerate() {
-            if *is_free {
-                numbers.push(number as u32)?;
-            }
-        }
-        Ok(numbers)
+        self.numbers.ranked(alloc)
     }
 
     /// Takes the `count` free blocks with the lowest numbers, and returns these, rising.
@@ -120,19 +91,18 @@ impl<A: Allocator> Pool<A> {
         ensures members { IfOk result (λ numbers. (n : ℕ) → Contains self.old.free n ↔ (Contains numbers.items n ⊎ Contains self.new.free n)) }
         ensures apart { IfOk result (λ numbers. (n : ℕ) → Contains numbers.items n → ¬ Contains self.new.free n) }
     {
-        if self.count < count {
+        if self.numbers.len() < count {
             return Err(GrantError::HeapFull);
         }
         let Ok(mut granted) = Vec::with_capacity(alloc, count) else {
             return Err(GrantError::NoMemory);
         };
         while granted.len() < count {
-            let number = next_set(&self.flags, self.lowest);
-            self.flags[number] = false;
-            self.lowest = number + 1;
-            granted.push(number as u32).unwrap();
+            match self.numbers.pop_first() {
+                Some(number) => granted.push(number).unwrap(),
+                None => unreachable!(),
+            }
         }
-        self.count -= count;
         Ok(granted)
     }
 
@@ -142,8 +112,7 @@ impl<A: Allocator> Pool<A> {
         ensures taken { self.new ≡ record self.old { free = without number self.old.free } }
         ensures members { (n : ℕ) → Contains self.new.free n ↔ (Contains self.old.free n × (n ≢ number)) }
     {
-        self.flags[number as usize] = false;
-        self.count -= 1;
+        self.numbers.remove(number);
     }
 
     /// Gives back a block, which is not free.
@@ -153,9 +122,6 @@ impl<A: Allocator> Pool<A> {
         ensures given { self.new ≡ record self.old { free = insert_rising number self.old.free } }
         ensures members { (n : ℕ) → Contains self.new.free n ↔ ((n ≡ number) ⊎ Contains self.old.free n) }
     {
-        let number = number as usize;
-        self.flags[number] = true;
-        self.count += 1;
-        self.lowest = self.lowest.min(number);
+        self.numbers.insert(number);
     }
 }

@@ -1,25 +1,27 @@
 -- What all seats drew, as it is gathered from the last seat to the first, and what follows from how often each number stands in it.
-use Rattle.std.proofs.Common.{◌≡◌, ◌≢◌, ℕ, ◌+◌, ◌<◌, ◌≤◌, ◌==◌, ◌||◌, Bool, true, false, List, [], ◌∷◌, ◌++◌, take, min, length, length-append, Option, Some, None, IfSome, MatchOption, Bor, get_or, nat_eq, eq-eqb, ne_eqb, refl, sym, ap, ◌∙◌, subst, ⊎_elim, append_assoc, arith}
+use Rattle.std.proofs.Common.{◌≡◌, ◌≢◌, ℕ, ◌+◌, ◌<◌, ◌≤◌, ◌==◌, ◌||◌, Bool, true, false, List, [], ◌∷◌, ◌++◌, take, min, length, length-append, Option, Some, None, IfSome, MatchOption, get_or, ltb, not, inl, inr, nat_eq, eq-eqb, ne_eqb, refl, sym, ap, ◌∙◌, subst, ⊎_elim, append_assoc, arith}
 use Rattle.std.proofs.lemmas.List.{append-nil}
 use Rattle.std.proofs.lemmas.List.Elements.{All-pop, All-contains_itself}
-use Rattle.std.specs.Option.{option_copied}
+use Rattle.std.proofs.lemmas.Option.{slice_get_within, get_or_from_slice_get, slice_get-get_or}
+use Rattle.std.proofs.lemmas.Bool.{cases_lt, lt-ltb, le-ltb}
+use Rattle.std.specs.Option.{is_some}
 use Rattle.std.specs.List.Sorted.{IsStrictlyIncreasing}
 use Rattle.std.proofs.lemmas.List.Kept.{AllPairs-from_increasing}
 use Rattle.std.proofs.lemmas.Map.Made.{IsDistinct-from_AllPairs}
 use Rattle.std.proofs.lemmas.Bool.Decides.{Decides-eqb}
 use Rattle.std.proofs.lemmas.Bool.{eqb-false}
 use Rattle.std.proofs.lemmas.Map.Keys.{IsDistinct-head, IsDistinct-tail, IsDistinct-cons}
-use Rattle.std.specs.List.{All, Contains, AllByRecursion, HoldsAt, IsDistinct}
+use Rattle.std.specs.List.{All, Contains, AllByRecursion, IsDistinct, slice_get}
 use Rattle.std.specs.Prelude.{if◌then◌else◌}
 use mathlib.Core.Logic.{dite}
 use native.Mathlib.Decide.{ℕ_discrete}
 use Rattle.atomic_table.specs.Seated.{TableId}
 use Rattle.views.specs.Total.{one_if}
-use Rattle.claims.specs.Drawn.{times_in}
+use Rattle.claims.specs.Drawn.{times_in, after_draw}
 use Rattle.claims.specs.ClaimsValue.{Source, SeatValue, IsSeatOf, all_drawn, any_out}
 use Rattle.claims.proofs.DrawLemmas.{times-take, IsEnd}
 use Rattle.claims.specs.declared.claim_plays.Share.{Share}
-use Rattle.claims.proofs.Containing.{Contains-first, Contains-later, Contains-cons_cases}
+use Rattle.number_sets.proofs.Containing.{Contains-first, Contains-later, Contains-cons_cases}
 
 pub all_drawn-snoc : (xs : List SeatValue) (p : SeatValue) → all_drawn xs ++ p.drawn ≡ all_drawn (xs ++ p ∷ [])
 all_drawn-snoc [] p = sym (append-nil p.drawn)
@@ -146,17 +148,48 @@ closed free known k word v seats all is_free distinct known_end is_all drawn_all
     }
 
 -- what a draw reads was not drawn before, where the counter tells so
-pub fresh_read : (mine free drawn : List ℕ) (at : ℕ) (read : Option (Bor ℕ)) (found : Option ℕ) → mine ≡ free → found ≡ option_copied read → MatchOption read (length free ≤ at) (λ x. (at < length free) × HoldsAt (λ y. x.now ≡ y) free at) → (at < length mine → times_in (get_or mine at 0) drawn ≡ 0)
-    → IfSome found (λ n. ¬ Contains drawn n)
-fresh_read mine free drawn at None found same is held fresh = subst (λ (o : Option ℕ). IfSome o (λ n. ¬ Contains drawn n)) (sym is) tt
-fresh_read mine free drawn at (Some x) found same is held fresh = subst (λ (o : Option ℕ). IfSome o (λ n. ¬ Contains drawn n)) (sym is) (λ c.
+pub fresh_read : (mine free drawn : List ℕ) (at : ℕ) (found : Option ℕ) → mine ≡ free → found ≡ slice_get free at → (at < length mine → times_in (get_or mine at 0) drawn ≡ 0) → IfSome found (λ n. ¬ Contains drawn n)
+fresh_read mine free drawn at None same is fresh = tt
+fresh_read mine free drawn at (Some x) same is fresh =
+    λ c.
     let long = ap length same in
-    let low = held.0 in
-    let reads : x.now ≡ get_or mine at 0 = held.1 0 ∙ ap (λ (ns : List ℕ). get_or ns at 0) (sym same) in
-    let here = times-Contains x.now drawn c in
+    let low = slice_get_within free at x (sym is) in
+    let reads : x ≡ get_or mine at 0 = sym (get_or_from_slice_get free at x 0 (sym is)) ∙ ap (λ (ns : List ℕ). get_or ns at 0) (sym same) in
+    let here = times-Contains x drawn c in
     let none = fresh (omega arith) in
-    let e : times_in x.now drawn ≡ times_in (get_or mine at 0) drawn = ap (λ (m : ℕ). times_in m drawn) reads in
-    absurd (omega arith))
+    let e : times_in x drawn ≡ times_in (get_or mine at 0) drawn = ap (λ (m : ℕ). times_in m drawn) reads in
+    absurd (omega arith)
+
+-- a seat as its parts show it
+abbrev pub seat_value : TableId → Share → Bool → SeatValue
+seat_value name me out = record { source = record { name = name; free = me.free; seats = me.seats }; drawn = me.drawn; out = out }
+
+-- the seat after a draw
+pub drew : (name name' : TableId) (me me' : Share) (out out' : Bool) (old : SeatValue) (free : List ℕ) (at : ℕ) (found : Option ℕ) → seat_value name me out ≡ old → out ≡ false → name' ≡ name → me' ≡ after_draw me at (ltb at (length me.free)) → me.free ≡ free → found ≡ slice_get free at → is_some found ≡ not out'
+    → MatchOption found (seat_value name' me' out' ≡ record { source = old.source; drawn = old.drawn; out = true }) (λ n. (seat_value name' me' out' ≡ record { source = old.source; drawn = old.drawn ++ n ∷ []; out = old.out }) × Contains free n)
+drew name name' me me' out true old free at None view is named after same found some =
+    let past : length me.free ≤ at =
+    elim (cases_lt at (length me.free)) [
+      | inl h ↦ let no : None ≡ Some (get_or free at 0) = found ∙ slice_get-get_or free at 0 (omega (arith, ap length same)) in cc
+      | inr h ↦ h
+    ]
+    in
+    let now : me' ≡ after_draw me at false = after ∙ ap (after_draw me at) (le-ltb at (length me.free) past) in
+    ap (λ n. seat_value n me' true) named ∙ ap (λ m. seat_value name m true) now ∙ ap (λ (v : SeatValue). record { source = v.source; drawn = v.drawn; out = true }) view
+drew name name' me me' out false old free at None view is named after same found some = cc
+drew name name' me me' out true old free at (Some n) view is named after same found some = cc
+drew name name' me me' out false old free at (Some n) view is named after same found some =
+    let low : at < length free = slice_get_within free at n (sym found) in
+    let read : get_or me.free at 0 ≡ n = ap (λ l. get_or l at 0) same ∙ get_or_from_slice_get free at n 0 (sym found) in
+    let now : me' ≡ after_draw me at true = after ∙ ap (after_draw me at) (lt-ltb at (length me.free) (omega (arith, ap length same))) in
+    let was : seat_value name me false ≡ old = ap (seat_value name me) (sym is) ∙ view in
+    let parts : seat_value name' me' false ≡ record { source = old.source; drawn = old.drawn ++ n ∷ []; out = old.out } =
+    ap (λ m. seat_value m me' false) named
+    ∙ ap (λ m. seat_value name m false) now
+    ∙ ap (λ (v : SeatValue). record { source = v.source; drawn = v.drawn ++ get_or me.free at 0 ∷ []; out = v.out }) was
+    ∙ ap (λ m. record { source = old.source; drawn = old.drawn ++ m ∷ []; out = old.out }) read
+    in
+    (parts, (at, low, get_or_from_slice_get free at n n (sym found)))
 
 -- numbers that rise
 pub IsDistinct-rising : (xs : List ℕ) → IsStrictlyIncreasing xs → IsDistinct nat_eq xs

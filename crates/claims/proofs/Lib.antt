@@ -1,4 +1,3 @@
 -- Each draw keeps the rule, and what gathered seats have drawn.
-pub mod Containing
 pub mod DrawLemmas
 pub mod ClaimLemmas

@@ -1,12 +1,13 @@
 //! The rule of the counter, and what a step on it tells.
 use atomic_table::{Join, Play, Split, TableRule};
+use number_sets::RankedSet;
 use std::alloc::Allocator;
 use std::collections::LinkedList;
 
 /// The free list, and how many seats draw from it.
 #[derive(Drop)]
 pub struct Plan<A: Allocator> {
-    pub free: Vec<u32, A>,
+    pub free: RankedSet<A>,
     pub seats: u32,
 }
 
@@ -26,9 +27,9 @@ impl<A: Allocator> TableRule<(), Share, Plan<A>> for Rule {
     ghost use Rattle.claims.specs.Drawn.{share, IsKept};
     ghost use Rattle.std.specs.Prelude.{[]};
 
-    ghost holds = { λ plan s. IsKept plan.free.items plan.seats s };
+    ghost holds = { λ plan s. IsKept plan.free plan.seats s };
 
-    ghost first = { λ plan. share plan.free.items plan.seats plan.seats [] 0 };
+    ghost first = { λ plan. share plan.free plan.seats plan.seats [] 0 };
 }
 
 pub struct Draw;

@@ -8,6 +8,7 @@ ghost use Rattle.claims.specs.ClaimsValue.{Source, unused, IsSeatOf, all_drawn, 
 
 use crate::claim_plays::{Deal, Draw, Gather, Plan, Rule, Share};
 use atomic_table::{Seat, Table};
+use number_sets::RankedSet;
 use std::alloc::{AllocError, Allocator, Global};
 use std::marker::Model;
 
@@ -27,9 +28,9 @@ impl<A: Allocator> Model for Claims<A> {
 
     ghost coded = { claims_code };
 
-    ghost view = { λ c. record { source = record { name = c.table.shared.table_id; free = c.plan.free.items; seats = c.plan.seats } } };
+    ghost view = { λ c. record { source = record { name = c.table.shared.table_id; free = c.plan.free; seats = c.plan.seats } } };
 
-    ghost invariant = { λ c. (c.table.shared.key ≡ c.plan) × (c.table.shared.table_id.words ≡ 1) × (c.table.shared.table_id.slots ≡ 0) × (c.plan.seats < 2 ^ 32) × (length c.plan.free.items < 2 ^ 32) × IsDistinct nat_eq c.plan.free.items };
+    ghost invariant = { λ c. (c.table.shared.key ≡ c.plan) × (c.table.shared.table_id.words ≡ 1) × (c.table.shared.table_id.slots ≡ 0) × (c.plan.seats < 2 ^ 32) × (length c.plan.free < 2 ^ 32) × IsDistinct nat_eq c.plan.free };
 }
 
 /// A thread's right to draw, and what it has drawn. Its only byte says whether it found none left.
@@ -72,10 +73,10 @@ fn deal<A: Allocator, B: Allocator>(
     count: u32,
 ) -> Result<Vec<ClaimSeat, B>, AllocError>
     requires table { (first.table_id ≡ table.now.shared.table_id) × (0 < table.now.shared.table_id.words) }
-    requires parts { first.me ≡ (share table.now.shared.key.free.items table.now.shared.key.seats count [] 0, []) }
+    requires parts { first.me ≡ (share table.now.shared.key.free table.now.shared.key.seats count [] 0, []) }
     requires seats { seats.items ≡ [] }
     ensures count { IfOk result (λ all. length all.items ≡ count) }
-    ensures seats { IfOk result (λ all. All (λ s. s ≡ unused (record { name = table.now.shared.table_id; free = table.now.shared.key.free.items; seats = table.now.shared.key.seats })) all.items) }
+    ensures seats { IfOk result (λ all. All (λ s. s ≡ unused (record { name = table.now.shared.table_id; free = table.now.shared.key.free; seats = table.now.shared.key.seats })) all.items) }
 {
     for _ in 0..count {
         let seat = table.shared.split_seat::<Deal>(&mut first);
@@ -106,19 +107,18 @@ fn gather<A: Allocator, B: Allocator>(
 }
 
 impl<A: Allocator + Clone> Claims<A> {
-    /// Claims over a free list of fewer than 2^32 numbers, each standing in it once, and so many seats, with which nothing
-    /// was drawn. An error says that memory ran out.
+    /// Claims over a free list, and so many seats, with which nothing was drawn. An error says that memory ran out.
     pub fn new(
         alloc: A,
-        free: Vec<u32, A>,
+        free: RankedSet<A>,
         seats: u32,
     ) -> Result<(Claims<A>, Vec<ClaimSeat, A>), AllocError>
-        requires once { IsDistinct nat_eq free.items }
-        requires few { length free.items < 2 ^ 32 }
-        ensures free { IfOk result (λ made. made.0.source.free ≡ free.items) }
+        ensures free { IfOk result (λ made. made.0.source.free ≡ free) }
         ensures count { IfOk result (λ made. (made.0.source.seats ≡ seats) × (length made.1.items ≡ seats)) }
         ensures seats { IfOk result (λ made. All (λ s. s ≡ unused made.0.source) made.1.items) }
     {
+        // What `len` ensures: the numbers rise, so each stands in the list once.
+        let _count = free.len();
         let made = Vec::with_capacity(alloc.clone()?, seats as usize)?;
         let plan = Plan { free, seats };
         let (table, first) = Table::of_words(alloc, &[0], &plan)?;
@@ -145,7 +145,7 @@ impl<A: Allocator> Claims<A> {
             return None;
         }
         let at = self.table.shared.fetch_add::<Draw>(&mut seat.seat, 0, 1);
-        let number = self.plan.free.get(at as usize).copied();
+        let number = self.plan.free.nth(at as usize);
         seat.out = number.is_none();
         number
     }

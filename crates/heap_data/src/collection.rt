@@ -4,7 +4,7 @@ ghost use Rattle.heap_data.specs.SlotView.{slot_value};
 
 use crate::report::{Delivery, WorkerReport};
 use crate::root_id::RootId;
-use block_pool::Block;
+use block_pool::{Block, RankedSet};
 use layout::Place;
 use std::alloc::{Allocator, Global};
 use std::marker::Model;
@@ -43,7 +43,7 @@ impl Slot {
 pub struct Collection<A: Allocator = Global> {
     generation: u8,
     slots: Vec<Slot, A>,
-    free: Vec<u32, A>,
+    free: RankedSet<A>,
     bases: Vec<u32, A>,
     cells: u32,
 }
@@ -62,7 +62,7 @@ impl<A: Allocator> Model for Collection<A> {
     ghost view = { λ c. record {
       generation = c.generation;
       slots = map slot_value c.slots.items;
-      free = c.free.items;
+      free = c.free;
       bases = c.bases.items;
       cells = c.cells;
     } };
@@ -73,11 +73,11 @@ impl<A: Allocator> Collection<A> {
     pub fn new(
         generation: u8,
         slots: Vec<Slot, A>,
-        free: Vec<u32, A>,
+        free: RankedSet<A>,
         bases: Vec<u32, A>,
         cells: u32,
     ) -> Self
-        ensures { result ≡ record { generation = generation; slots = map slot_value slots.items; free = free.items; bases = bases.items; cells = cells } }
+        ensures { result ≡ record { generation = generation; slots = map slot_value slots.items; free = free; bases = bases.items; cells = cells } }
     {
         Collection {
             generation,
@@ -103,10 +103,10 @@ impl<A: Allocator> Collection<A> {
     }
 
     /// The free blocks, rising.
-    pub fn free(&self) -> &[u32]
+    pub fn free(&self) -> &RankedSet<A>
         ensures { result.now ≡ self.now.free }
     {
-        self.free.as_slice()
+        &self.free
     }
 
     /// How many objects there are in the generations collected. They are numbered from 0.

@@ -19,7 +19,7 @@ ghost use Rattle.heap_space.specs.Space.{SpaceAllocates, empty_space, room_in, g
 ghost use Rattle.heap_space.specs.Collecting.{AreBases, IsNumbered, CanReplace, IsReplaced};
 
 use crate::nurseries::{nurseries_of, nursery_table, reset_all};
-use block_pool::{Block, Pool};
+use block_pool::{Block, Pool, RankedSet};
 use block_table::{
     Table, bases, block_object, count_remembered, count_step, end_of, exchange, grow, object_from,
     ordinal_at, push_old_slots, set_plain, set_pointer, step_at, young_blocks,
@@ -292,8 +292,8 @@ impl<A: Allocator + Clone> Space<A> {
     }
 
     /// The numbers of the free blocks, rising.
-    pub fn free_numbers(&self, alloc: A) -> Result<Vec<u32, A>, AllocError>
-        ensures { IfOk result (λ numbers. numbers.items ≡ self.now.free) }
+    pub fn free_numbers(&self, alloc: A) -> Result<RankedSet<A>, AllocError>
+        ensures { IfOk result (λ numbers. numbers ≡ self.now.free) }
     {
         self.pool.free_numbers(alloc)
     }

@@ -72,8 +72,7 @@ impl<A: Allocator + Clone> InterleavedCollection<A> {
         ensures workers { IfOk result (λ m. m.workers ≡ n) }
         ensures first { IfOk result (λ m. system_of m ≡ opening (destinations_in m) n (targets_in m) m.heap.free) }
     {
-        let mut free = Vec::new(alloc.clone()?);
-        free.extend_from_slice(collection.free())?;
+        let free = collection.free().copy(alloc.clone()?)?;
         let (claims, draws) = Claims::new(alloc.clone()?, free, 1)?;
         let (cells, passes) = PlainCells::new(alloc.clone()?, collection.cells(), 1)?;
         let key = CopiesKey::new(heap, collection.generation());

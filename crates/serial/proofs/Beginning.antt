@@ -2,7 +2,6 @@
 use Rattle.std.proofs.Common.{◌≡◌, ℕ, zero, suc, ◌+◌, ◌<◌, ◌≤◌, List, [], ◌∷◌, length, map, replicate, Option, Some, None, refl, sym, ap, subst, ◌∙◌, arith, nat_eq}
 use Rattle.std.specs.Prelude.{All, slice_index, slice_index_or, slice_get}
 use Rattle.std.specs.List.{IsDistinct, range_with_len}
-use Rattle.std.specs.List.Sorted.{IsStrictlyIncreasing}
 use Rattle.std.specs.Option.{option_map}
 use Rattle.std.specs.Ordering.{nat_cmp}
 use Rattle.std.specs.FinMap.{find}
@@ -17,7 +16,7 @@ use Rattle.plain_cells.specs.declared.held.Held.{Held}
 use Rattle.plain_queues.specs.PlainValue.{PlainLane, empty_lane, lane_at, new_pending}
 use Rattle.plain_queues.specs.PlainValue.{PlainValue as PlainQueuesValue}
 use Rattle.heap_data.specs.HeapValue.{HeapValue}
-use Rattle.heap_data.specs.CollectionValue.{CollectionValue, AreFreeBlocks, target_of_slot}
+use Rattle.heap_data.specs.CollectionValue.{CollectionValue, target_of_slot}
 use Rattle.model.specs.Destination.{dest_count}
 use Rattle.copies.specs.Handed.{CopiesKeyValue}
 use Rattle.workers.specs.System.{System, opening, opening_worker}
@@ -28,22 +27,6 @@ use Rattle.scavenge.specs.Slots.{cell_of}
 use Rattle.scavenge.specs.Shown.{WorkspaceValue}
 use Rattle.serial.specs.SerialValue.{SerialValue, lane_of, waiting_in, positions_below, left_of, system_of, setting_in, targets_in, destinations_in}
 use Rattle.serial.specs.IsSerial.{IsSerial, IsReadyToCollect, AreForwarded, HasWorked}
-
-above_index : (xs : List ℕ) → IsStrictlyIncreasing xs → (k : ℕ) → k < length xs → k ≤ slice_index xs k
-above_index xs rising zero l = omega arith
-above_index xs rising (suc k) l =
-    let e : k + 1 ≡ suc k = omega arith in
-    let h : k ≤ slice_index xs k = above_index xs rising k (omega arith) in
-    let s : slice_index xs k < slice_index xs (suc k) = subst (λ i. slice_index xs k < slice_index xs i) e (rising k (omega (arith, e))) in
-    omega (arith, h, s)
-
--- there are no more free blocks than blocks
-pub few_free : (blocks : ℕ) (free : List ℕ) → AreFreeBlocks blocks free → length free ≤ blocks
-few_free blocks [] a = omega arith
-few_free blocks (x ∷ xs) a =
-    let l : slice_index (x ∷ xs) (length xs) < blocks = a.in_range (length xs) 0 (omega arith) in
-    let h : length xs ≤ slice_index (x ∷ xs) (length xs) = above_index (x ∷ xs) a.rising (length xs) (omega arith) in
-    omega (arith, l, h)
 
 none_held : (count number : ℕ) → place_held (replicate count None) number ≡ None
 none_held zero number = refl

@@ -33,8 +33,7 @@ impl<A: Allocator + Clone> SerialCollection<A> {
         ensures collection { IfOk result (λ s. s.collection ≡ collection.now) }
         ensures first { IfOk result (λ s. system_of s ≡ opening (destinations_in s) 1 (targets_in s) s.heap.free) }
     {
-        let mut free = Vec::new(alloc.clone()?);
-        free.extend_from_slice(collection.free())?;
+        let free = collection.free().copy(alloc.clone()?)?;
         let (claims, draws) = Claims::new(alloc.clone()?, free, 1)?;
         let (cells, passes) = PlainCells::new(alloc.clone()?, collection.cells(), 1)?;
         let key = CopiesKey::new(heap, collection.generation());

@@ -1,4 +1,6 @@
-use Rattle.std.proofs.Common.{rules}
+use Rattle.std.proofs.Common.{rules, nat_eq}
+use Rattle.std.specs.List.{IsDistinct}
+use Rattle.claims.proofs.ClaimLemmas.{IsDistinct-rising}
 use Rattle.claims.proofs.claims.Claims.new.Goals as goal
 
 pub deal-requires-clause-parts : goal.deal-requires-clause-parts
@@ -8,7 +10,9 @@ pub returns-clause-count : goal.returns-clause-count
 returns-clause-count g c = search rules
 
 pub invariant_of-result : goal.invariant_of-result
-invariant_of-result g c = search rules
+invariant_of-result g c =
+    let once : IsDistinct nat_eq c.args.free = IsDistinct-rising c.args.free c.len-count.ensures.rising in
+    search rules
 
 pub returns-clause-free : goal.returns-clause-free
 returns-clause-free g c = search rules

@@ -1,33 +1,17 @@
-use Rattle.std.proofs.Common.{◌≡◌, ◌++◌, [], length, refl, sym, ap, subst, ◌∙◌, arith}
-use Rattle.std.specs.List.Sorted.{IsStrictlyIncreasing}
+use Rattle.std.proofs.Common.{◌≡◌, [], refl, sym, ap, subst, ◌∙◌}
 use Rattle.std.specs.Prelude.{All}
 use Rattle.std.proofs.lemmas.List.Elements.{All-head}
 use Rattle.heap_data.specs.HeapValue.{HeapValue}
 use Rattle.heap_data.specs.CollectionValue.{CollectionValue}
 use Rattle.claims.specs.ClaimsValue.{SeatValue, unused}
-use Rattle.claims.proofs.ClaimLemmas.{IsDistinct-rising}
 use Rattle.copies.specs.Handed.{CopiesKeyValue}
 use Rattle.plain_cells.specs.Plain.{IsFit, empty_cells}
 use Rattle.plain_queues.specs.PlainValue.{new_pending}
-use Rattle.heap.proofs.SoundHeap.{heap_free}
 use Rattle.serial.specs.IsSerial.{IsReadyToCollect}
-use Rattle.serial.proofs.Beginning.{few_free}
 use Rattle.interleaved.specs.InterleavedValue.{InterleavedValue}
 use Rattle.interleaved.specs.IsInterleaved.{AreFirst}
 use Rattle.interleaved.proofs.Beginning.{key_of, begun, first_system}
 use Rattle.interleaved.proofs.interleaved.InterleavedCollection.new.Goals as goal
-
-pub new-requires-clause-once : goal.new-requires-clause-once
-new-requires-clause-once g c =
-    let free = c.in_ok-extend_from_slice.ensures.items ∙ ap (λ xs. xs ++ c.free.result.now) c.new-free.ensures.items ∙ c.free.ensures ∙ c.requires.ready.opened.free in
-    IsDistinct-rising c.extend_from_slice.new.self.items (subst IsStrictlyIncreasing (sym free) (heap_free c.args.heap.now c.requires.ready.sound).rising)
-
-pub new-requires-clause-few : goal.new-requires-clause-few
-new-requires-clause-few g c =
-    let free = c.in_ok-extend_from_slice.ensures.items ∙ ap (λ xs. xs ++ c.free.result.now) c.new-free.ensures.items ∙ c.free.ensures ∙ c.requires.ready.opened.free in
-    let l : length c.extend_from_slice.new.self.items ≡ length c.args.heap.now.free = ap length free in
-    let f = few_free c.args.heap.now.config.blocks c.args.heap.now.free (heap_free c.args.heap.now c.requires.ready.sound) in
-    omega (arith, l, f, c.requires.ready.range.most_blocks)
 
 pub invariant_of-result : goal.invariant_of-result
 invariant_of-result g c =
@@ -35,7 +19,7 @@ invariant_of-result g c =
     let ready = subst (λ h. IsReadyToCollect h c.of-2.result.value) (sym c.of.ensures) (subst (IsReadyToCollect c.args.heap.now) (sym c.of-2.ensures) c.requires.ready) in
     let cells = c.in_ok-cells.ensures.cells ∙ ap (λ n. empty_cells n 1) (c.cells.ensures ∙ ap (λ (k : CollectionValue). k.cells) (sym c.of-2.ensures)) in
     let fit = All-head (IsFit c.in_ok-cells.cells) c.only.result [] (subst (All (IsFit c.in_ok-cells.cells)) c.only.ensures c.in_ok-cells.ensures.fits) in
-    let free = c.in_ok-claims.ensures.free ∙ c.in_ok-extend_from_slice.ensures.items ∙ ap (λ xs. xs ++ c.free.result.now) c.new-free.ensures.items ∙ c.free.ensures ∙ c.requires.ready.opened.free ∙ ap (λ (h : HeapValue). h.free) (sym c.of.ensures) in
+    let free = c.in_ok-claims.ensures.free ∙ c.in_ok-free.ensures ∙ c.free.ensures ∙ c.requires.ready.opened.free ∙ ap (λ (h : HeapValue). h.free) (sym c.of.ensures) in
     let draws = All-head (λ (s : SeatValue). s ≡ unused c.in_ok-claims.claims.source) c.only-2.result [] (subst (All (λ (s : SeatValue). s ≡ unused c.in_ok-claims.claims.source)) c.only-2.ensures c.in_ok-claims.ensures.seats) in
     let queues = c.in_ok-queues.ensures.queues ∙ ap (λ (k : CopiesKeyValue). new_pending k c.args.n)
     (c.new-key.ensures ∙ ap (λ n. key_of c.args.heap.now n) (c.generation.ensures ∙ ap (λ (k : CollectionValue). k.generation) (sym c.of-2.ensures)) ∙ ap (λ h. key_of h c.of-2.result.value.generation) (sym c.of.ensures)) in
@@ -48,7 +32,7 @@ returns-clause-first g c =
     let ready = subst (λ h. IsReadyToCollect h c.of-2.result.value) (sym c.of.ensures) (subst (IsReadyToCollect c.args.heap.now) (sym c.of-2.ensures) c.requires.ready) in
     let cells = c.in_ok-cells.ensures.cells ∙ ap (λ n. empty_cells n 1) (c.cells.ensures ∙ ap (λ (k : CollectionValue). k.cells) (sym c.of-2.ensures)) in
     let fit = All-head (IsFit c.in_ok-cells.cells) c.only.result [] (subst (All (IsFit c.in_ok-cells.cells)) c.only.ensures c.in_ok-cells.ensures.fits) in
-    let free = c.in_ok-claims.ensures.free ∙ c.in_ok-extend_from_slice.ensures.items ∙ ap (λ xs. xs ++ c.free.result.now) c.new-free.ensures.items ∙ c.free.ensures ∙ c.requires.ready.opened.free ∙ ap (λ (h : HeapValue). h.free) (sym c.of.ensures) in
+    let free = c.in_ok-claims.ensures.free ∙ c.in_ok-free.ensures ∙ c.free.ensures ∙ c.requires.ready.opened.free ∙ ap (λ (h : HeapValue). h.free) (sym c.of.ensures) in
     let draws = All-head (λ (s : SeatValue). s ≡ unused c.in_ok-claims.claims.source) c.only-2.result [] (subst (All (λ (s : SeatValue). s ≡ unused c.in_ok-claims.claims.source)) c.only-2.ensures c.in_ok-claims.ensures.seats) in
     let queues = c.in_ok-queues.ensures.queues ∙ ap (λ (k : CopiesKeyValue). new_pending k c.args.n)
     (c.new-key.ensures ∙ ap (λ n. key_of c.args.heap.now n) (c.generation.ensures ∙ ap (λ (k : CollectionValue). k.generation) (sym c.of-2.ensures)) ∙ ap (λ h. key_of h c.of-2.result.value.generation) (sym c.of.ensures)) in

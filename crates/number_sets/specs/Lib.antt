@@ -1,0 +1,3 @@
+-- Sets of numbers below a limit, and how they lie in words.
+pub mod Members
+pub mod Words

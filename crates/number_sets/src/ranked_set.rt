@@ -1,0 +1,91 @@
+//! A set of numbers whose k-th member is found in a few steps.
+ghost use Rattle.std.specs.Prelude.{◌≡◌, ◌<◌, ◌≤◌, length, IfOk};
+ghost use Rattle.std.specs.List.{slice_get, HoldsAt};
+ghost use Rattle.std.specs.Option.{MatchOption};
+ghost use Rattle.std.specs.List.Sorted.{IsStrictlyIncreasing};
+ghost use Rattle.number_sets.specs.Words.{members_of};
+
+use crate::ranking::{counts_before, last_at_most, select};
+use std::alloc::{AllocError, Allocator, Global};
+use std::marker::Model;
+
+/// Numbers in rising order, as they stood in a set, by flags and the count of the members before each word.
+#[derive(Debug, Drop)]
+pub struct RankedSet<A: Allocator = Global> {
+    words: Vec<u64, A>,
+    before: Vec<u32, A>,
+    count: usize,
+}
+
+impl<A: Allocator> Model for RankedSet<A> {
+    ghost use Rattle.std.specs.Prelude.{List, ℕ};
+    ghost use Rattle.std.specs.Coded.{coded_list, coded_ℕ};
+    ghost use Rattle.number_sets.specs.Words.{members_of, IsRankedSet};
+
+    ghost Value = { List ℕ };
+
+    ghost coded = { coded_list coded_ℕ };
+
+    ghost view = { λ s. members_of s.words.items };
+
+    ghost invariant = { λ s. IsRankedSet s.words.items s.before.items s.count };
+}
+
+impl<A: Allocator + Clone> RankedSet<A> {
+    /// The members whose flags are set in words. An error says that memory ran out.
+    pub(crate) fn of_words(alloc: A, words: &[u64], count: usize) -> Result<Self, AllocError>
+        requires count { count ≡ length (members_of words.now) }
+        requires in_range { count ≤ 65535 }
+        requires words { length words.now ≤ 1024 }
+        ensures { IfOk result (λ ranked. ranked ≡ members_of words.now) }
+    {
+        let mut own = Vec::with_capacity(alloc.clone()?, words.len())?;
+        own.extend_from_slice(words)?;
+        let before = counts_before(alloc, words)?;
+        Ok(RankedSet {
+            words: own,
+            before,
+            count,
+        })
+    }
+}
+
+impl<A: Allocator> RankedSet<A> {
+    /// How many members there are.
+    pub fn len(&self) -> usize
+        ensures value { result ≡ length self.now }
+        ensures in_range { result ≤ 65535 }
+        ensures rising { IsStrictlyIncreasing self.now }
+    {
+        self.count
+    }
+
+    /// The member that has `k` members below it. None says that there are not so many.
+    pub fn nth(&self, k: usize) -> Option<u32>
+        ensures value { result ≡ slice_get self.now k }
+        ensures cases { MatchOption result (length self.now ≤ k) (λ n. (k < length self.now) × HoldsAt (λ m. n ≡ m) self.now k) }
+    {
+        if k >= self.count {
+            return None;
+        }
+        let k = k as u32;
+        let at = last_at_most(&self.before, k);
+        let bit = select(self.words[at], k - self.before[at]);
+        Some(at as u32 * 64 + bit)
+    }
+
+    /// The same members in another allocator's memory. An error says that memory ran out.
+    pub fn copy<B: Allocator + Clone>(&self, alloc: B) -> Result<RankedSet<B>, AllocError>
+        ensures { IfOk result (λ copied. copied ≡ self.now) }
+    {
+        let mut words = Vec::with_capacity(alloc.clone()?, self.words.len())?;
+        words.extend_from_slice(&self.words)?;
+        let mut before = Vec::with_capacity(alloc, self.before.len())?;
+        before.extend_from_slice(&self.before)?;
+        Ok(RankedSet {
+            words,
+            before,
+            count: self.count,
+        })
+    }
+}
