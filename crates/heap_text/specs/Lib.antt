@@ -1,3 +1,4 @@
 -- The text of a heap.
 pub mod HeapLines
 pub mod Numbering
+pub mod CollectionLine

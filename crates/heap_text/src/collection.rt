@@ -1,43 +1,57 @@
 //! A collection as text.
-ghost use Rattle.std.specs.Prelude.{◌≡◌, ◌+◌, ◌-◌, ◌^◌, ◌<◌, OnOk, IsErrOf, IfOk, codes, string_bytes};
+ghost use Rattle.std.specs.Prelude.{◌≡◌, ◌+◌, ◌-◌, ◌^◌, ◌<◌, ◌≤◌, ◌++◌, OnOk, OnErr, decimal};
 ghost use Rattle.std.specs.Io.KnownBytes.{Appends};
+ghost use Rattle.arrayvec.specs.ArrayString.{array_string_len};
 ghost use Rattle.model.specs.Text.{collection_line};
+ghost use Rattle.heap_text.specs.CollectionLine.{cause_word};
 
-use crate::error::WriteError;
-use byte_streams::{Sink, write_all};
-use std::alloc::{AllocError, Allocator};
-use std::fmt::Write;
+use crate::cause::Cause;
+use arrayvec::ArrayString;
+use byte_streams::{Sink, WriteFailed, write_all};
+use itoa::Buffer;
 
-/// The line of a collection, after a word that says what started it.
-fn line_of<A: Allocator>(
-    alloc: A,
-    word: &str,
-    g: u64,
-    kept: u64,
-    freed: u64,
-) -> Result<String<A>, AllocError>
-    ensures { IfOk result (λ text. string_bytes text ≡ collection_line word.now g kept freed) }
+/// Room for the line of a collection.
+type Line = ArrayString<192>;
+
+fn push_number(line: &mut Line, number: u64)
+    requires { array_string_len line.old ≤ 152 }
+    ensures bytes { line.new.bytes ≡ line.old.bytes ++ decimal number }
+    ensures len { array_string_len line.new ≤ array_string_len line.old + 40 }
 {
-    let mut text = String::new(alloc);
-    writeln!(text, "{word} {g}: {kept} kept, {freed} freed")?;
-    Ok(text)
+    let mut digits = Buffer::new();
+    line.push_str(digits.format(number));
 }
 
-/// Writes the line of a collection of the generations 0 to `g` by command. Where memory is refused nothing is written.
-/// After a failed write nothing is said of what was written.
-pub fn write_collection<A: Allocator, W: Sink>(
-    alloc: A,
+/// The line of a collection of the generations 0 to `g`.
+fn line_of(cause: Cause, g: u64, kept: u64, freed: u64) -> Line
+    ensures { result.bytes ≡ collection_line (cause_word cause) g kept freed }
+{
+    let mut line = Line::new();
+    line.push_str(cause.word());
+    line.push_str(" ");
+    push_number(&mut line, g);
+    line.push_str(": ");
+    push_number(&mut line, kept);
+    line.push_str(" kept, ");
+    push_number(&mut line, freed);
+    line.push_str(" freed\n");
+    line
+}
+
+/// Writes the line of a collection of the generations 0 to `g`. It takes no memory. After a failed write nothing is said of
+/// what was written.
+pub fn write_collection<W: Sink>(
+    cause: Cause,
     g: u64,
     kept: u64,
     freed: u64,
     writer: &mut W,
-) -> Result<(), WriteError>
+) -> Result<(), WriteFailed>
     requires { W.failed_writes writer.old < 2 ^ 64 - 1 }
-    ensures bytes { OnOk result (Appends (W.contents writer.old) (W.contents writer.new) (collection_line (codes "collected") g kept freed)) }
+    ensures bytes { OnOk result (Appends (W.contents writer.old) (W.contents writer.new) (collection_line (cause_word cause) g kept freed)) }
     ensures ok { OnOk result (W.failed_writes writer.new ≡ W.failed_writes writer.old) }
-    ensures memory { IsErrOf result WriteError.NoMemory → writer.new ≡ writer.old }
-    ensures failed { IsErrOf result WriteError.WriteFailed → W.failed_writes writer.new ≡ W.failed_writes writer.old + 1 }
+    ensures failed { OnErr result (W.failed_writes writer.new ≡ W.failed_writes writer.old + 1) }
 {
-    let text = line_of(alloc, "collected", g, kept, freed).map_err(|_| WriteError::NoMemory)?;
-    write_all(writer, text.as_bytes()).map_err(|_| WriteError::WriteFailed)
+    let line = line_of(cause, g, kept, freed);
+    write_all(writer, line.as_str().as_bytes())
 }

@@ -1,6 +1,7 @@
 //! Texts of a heap, written to a sink.
 #![tactic(auto)]
 
+mod cause;
 mod census;
 mod collection;
 mod error;
@@ -8,6 +9,7 @@ mod listing;
 mod numbering;
 
 pub use byte_streams::{Counted, Sink, WriteFailed, write_all};
+pub use cause::Cause;
 pub use census::write_census;
 pub use collection::write_collection;
 pub use error::WriteError;

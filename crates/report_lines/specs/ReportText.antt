@@ -4,8 +4,8 @@ use Rattle.std.specs.List.{enumerate_from}
 use Rattle.heap_data.specs.ReportValue.{WorkerLists}
 use Rattle.heap_data.specs.declared.report.Delivery.{Delivery}
 use Rattle.model.specs.Text.{collection_line}
-use Rattle.report_lines.specs.declared.cause.Cause.{Cause}
-use Rattle.report_lines.specs.declared.cause.Cause.TheVariants as causes
+use Rattle.heap_text.specs.declared.cause.Cause.{Cause}
+use Rattle.heap_text.specs.CollectionLine.{cause_word}
 
 -- the worker's number, how many races it won and how many objects it scanned
 abbrev pub worker_line : ℕ × WorkerLists → List ℕ
@@ -14,10 +14,6 @@ worker_line (number, lists) = codes "worker " ++ decimal number ++ codes ": " ++
 -- a block by its exporter and its position there, how many objects it holds, and who took it
 abbrev pub delivery_line : Delivery → List ℕ
 delivery_line d = codes "block " ++ decimal d.exporter ++ codes "." ++ decimal d.position ++ codes ": " ++ decimal d.objects ++ codes " objects, taken by " ++ decimal d.taker ++ codes "\n"
-
-abbrev pub cause_word : Cause → List ℕ
-cause_word causes.Command = codes "collected"
-cause_word causes.FullNursery = codes "auto"
 
 -- the workers in their order, and then the deliveries in theirs
 abbrev pub workers_text : List WorkerLists → List Delivery → List ℕ

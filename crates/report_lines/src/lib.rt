@@ -1,8 +1,7 @@
 //! What a collection and its workers report, as text.
 #![tactic(auto)]
 
-mod cause;
 mod report;
 
-pub use cause::Cause;
-pub use report::write_report;
+pub use heap_text::Cause;
+pub use report::{workers_text, write_report};

@@ -1,14 +1,14 @@
 //! A report as text.
-ghost use Rattle.std.specs.Prelude.{◌≡◌, ◌+◌, ◌-◌, ◌^◌, ◌<◌, ◌++◌, OnOk, IsErrOf, IfOk, string_bytes};
+ghost use Rattle.std.specs.Prelude.{◌≡◌, ◌+◌, ◌-◌, ◌^◌, ◌<◌, ◌++◌, OnOk, OnErr, IfOk, string_bytes};
 ghost use Rattle.std.specs.List.{flat_map, enumerate_from};
 ghost use Rattle.std.specs.Io.KnownBytes.{Appends};
-ghost use Rattle.report_lines.specs.ReportText.{worker_line, delivery_line, report_text};
+ghost use Rattle.report_lines.specs.ReportText.{worker_line, delivery_line, workers_text};
+ghost use Rattle.heap_text.specs.CollectionLine.{cause_word};
 ghost use Rattle.model.specs.Text.{collection_line};
 
-use crate::cause::Cause;
-use byte_streams::{Sink, write_all};
-use heap_data::{Delivery, Report, WorkerReport};
-use heap_text::WriteError;
+use byte_streams::{Sink, WriteFailed, write_all};
+use heap_data::{Delivery, WorkerReport};
+use heap_text::{Cause, write_collection};
 use std::alloc::{AllocError, Allocator};
 use std::fmt::Write;
 
@@ -61,57 +61,36 @@ fn push_deliveries<A: Allocator>(
     Ok(())
 }
 
-fn push_collection<A: Allocator>(
-    text: &mut String<A>,
-    word: &str,
-    generation: u64,
-    kept: u64,
-    freed: u64,
-) -> Result<(), AllocError>
-    ensures { OnOk result (string_bytes text.new ≡ string_bytes text.old ++ collection_line word.now generation kept freed) }
-{
-    writeln!(text, "{word} {generation}: {kept} kept, {freed} freed")
-}
-
-fn text_of<A: Allocator, B: Allocator>(
+/// The lines of a collection's workers, and then one for each block that one worker exported and one took, in their order.
+/// An error says that memory ran out.
+pub fn workers_text<A: Allocator, B: Allocator>(
     alloc: A,
-    cause: Cause,
-    generation: u64,
-    report: &Report<B>,
+    workers: &[WorkerReport<B>],
+    deliveries: &[Delivery],
 ) -> Result<String<A>, AllocError>
-    ensures { IfOk result (λ text. string_bytes text
-        ≡ report_text cause generation report.now.kept report.now.freed report.now.workers.items report.now.deliveries.items) }
+    ensures { IfOk result (λ text. string_bytes text ≡ workers_text workers.now deliveries.now) }
 {
     let mut text = String::new(alloc);
-    push_collection(
-        &mut text,
-        cause.word(),
-        generation,
-        report.kept,
-        report.freed,
-    )?;
-    push_workers(&mut text, report.workers.as_slice())?;
-    push_deliveries(&mut text, report.deliveries.as_slice())?;
+    push_workers(&mut text, workers)?;
+    push_deliveries(&mut text, deliveries)?;
     Ok(text)
 }
 
-/// Writes the line of a collection of the generations 0 to `generation`, then a line for each of its workers, and then
-/// one for each block that one worker exported and one took, in the order of the report. Where memory is refused nothing
-/// is written. After a failed write nothing is said of what was written.
-pub fn write_report<A: Allocator, B: Allocator, W: Sink>(
-    alloc: A,
+/// Writes the line of a collection of the generations 0 to `generation`, and then the lines of its workers. It takes no
+/// memory. After a failed write nothing is said of what was written.
+pub fn write_report<W: Sink>(
     cause: Cause,
     generation: u64,
-    report: &Report<B>,
+    kept: u64,
+    freed: u64,
+    workers: &str,
     writer: &mut W,
-) -> Result<(), WriteError>
+) -> Result<(), WriteFailed>
     requires { W.failed_writes writer.old < 2 ^ 64 - 1 }
-    ensures bytes { OnOk result (Appends (W.contents writer.old) (W.contents writer.new)
-        (report_text cause generation report.now.kept report.now.freed report.now.workers.items report.now.deliveries.items)) }
+    ensures bytes { OnOk result (Appends (W.contents writer.old) (W.contents writer.new) (collection_line (cause_word cause) generation kept freed ++ workers.now)) }
     ensures ok { OnOk result (W.failed_writes writer.new ≡ W.failed_writes writer.old) }
-    ensures memory { IsErrOf result WriteError.NoMemory → writer.new ≡ writer.old }
-    ensures failed { IsErrOf result WriteError.WriteFailed → W.failed_writes writer.new ≡ W.failed_writes writer.old + 1 }
+    ensures failed { OnErr result (W.failed_writes writer.new ≡ W.failed_writes writer.old + 1) }
 {
-    let text = text_of(alloc, cause, generation, report).map_err(|_| WriteError::NoMemory)?;
-    write_all(writer, text.as_bytes()).map_err(|_| WriteError::WriteFailed)
+    write_collection(cause, generation, kept, freed, writer)?;
+    write_all(writer, workers.as_bytes())
 }

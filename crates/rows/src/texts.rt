@@ -2,7 +2,7 @@
 ghost use Rattle.std.specs.Prelude.{◌≡◌, IfOk};
 
 use heap::{Config, Sizes};
-use heap_text::{Counted, write_collection};
+use heap_text::{Cause, Counted, write_collection};
 use std::test::Fail;
 use trace_driver::{CountedReader, RunConfig, run_one};
 
@@ -27,7 +27,7 @@ fn texts_and_runs(rt: HostRuntime) -> Result<(), Fail> {
         inner: Vec::new(rt.alloc()),
         failed_writes: 0,
     };
-    write_collection(rt.alloc(), 3, u64::MAX, 10, &mut writer)?;
+    write_collection(Cause::Command, 3, u64::MAX, 10, &mut writer)?;
     let mut reader = CountedReader {
         inner: b"new a 0 0 0\ncollect 0\n".as_slice(),
         failed_reads: 0,

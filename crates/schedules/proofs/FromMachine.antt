@@ -23,9 +23,9 @@ use Rattle.trace_lines.specs.Pieces.{Piece, finished, pieces}
 use Rattle.machine.specs.MachineValue.{MachineValue, setting_in}
 use Rattle.machine.specs.Events.{IsSameCollection, IsShortOfBlocks, Opens}
 use Rattle.machine.specs.Settles.{Settles}
-use Rattle.schedules.specs.Runs.{IsSchedule}
-use Rattle.schedules.specs.Stops.{IsUnreadable, IsFaulty, IsRefusedBlocks, IsSoundLine, OfLine, StopsAt, StopsWith, faulty, not_ended}
-use Rattle.schedules.specs.Brought.{BringsToCommit}
+use Rattle.schedules.specs.Runs.{Finishes, IsSchedule}
+use Rattle.schedules.specs.Stops.{IsUnreadable, IsFaulty, IsRefusedBlocks, IsSoundLine, OfLine, StopsAt, StopsWith, IsStuckAfter, faulty, not_ended}
+use Rattle.schedules.specs.Brought.{IsBrought, BringsToCommit, ComesToCommit}
 
 -- what can't be refused holds
 set_if : (o : Option Bool) → ((o ≡ Some true → ⊥) → ⊥) → o ≡ Some true
@@ -74,13 +74,51 @@ module _ (heap : HeapValue) (g n : ℕ) (first : MachineValue) (opens : Opens he
   fault_at_heap start text ReadFailed f = f
   fault_at_heap start text WriteFailed f = f
 
-  module _ (last : MachineValue) (same : IsSameCollection first last) (start : ℕ) (text : List ℕ) (commit : ℕ) (rest : List ℕ) (schedule : IsSchedule (setting_in first) first.system (start + 1) text commit rest last.system) where
+  module _ (last : MachineValue) (same : IsSameCollection first last) where
     heap_is : last.heap ≡ heap
     heap_is = same.heap ∙ opens.heap_is
 
     generation_is : last.collection.generation ≡ g
     generation_is = ap (λ (c : CollectionValue). c.generation) same.collection ∙ opens.opened.generation
 
+    brought : (collection : CollectionValue) (places : List (Option Place)) (blocks : List BlockValue) (workers : List WorkerLists) (deliveries : List Delivery) → Settles last collection places blocks workers deliveries
+        → IsBrought heap g last.system collection places blocks workers deliveries
+    brought collection places blocks workers deliveries settles = record {
+      reports_are = subst (λ h. Reports h g last.system workers deliveries) heap_is (subst (λ k. Reports last.heap k last.system workers deliveries) generation_is settles.reports_are);
+      generation_is = ap (λ (c : CollectionValue). c.generation) settles.collection_is ∙ generation_is;
+      may_commit = subst (λ h. IsSettled h collection places blocks (all_won workers)) heap_is settles.may_commit;
+      once = subst (λ h. ScansOnce h g workers) heap_is (subst (λ k. ScansOnce last.heap k workers) generation_is settles.once);
+    }
+
+    -- each event came by itself
+    pub comes : Finishes (setting_in first) first.system last.system → (collection : CollectionValue) (places : List (Option Place)) (blocks : List BlockValue) (workers : List WorkerLists) (deliveries : List Delivery) → Settles last collection places blocks workers deliveries
+        → ComesToCommit heap g n collection places blocks workers deliveries
+    comes finishes collection places blocks workers deliveries settles = record {
+      last = last.system;
+      finishes = at_heap (λ k s. Finishes k s last.system) finishes;
+      brought = brought collection places blocks workers deliveries settles;
+    }
+
+  -- where what comes by itself is short of blocks
+  pub finish_fault : (number : ℕ) (e : Fault)
+      → MatchEachFault e
+      (λ _ _. ⊥) (λ _ _. ⊥)
+      (λ at. (at ≡ Some number) × IsStuckAfter first)
+      (λ at. at ≡ Some number)
+      ⊥ ⊥
+      → MatchEachFault e
+      (λ _ _. ⊥) (λ _ _. ⊥)
+      (λ at. (at ≡ Some number) × IsShortOfBlocks heap g n)
+      (λ at. at ≡ Some number)
+      ⊥ ⊥
+  finish_fault number (BadTrace at kind) f = f
+  finish_fault number (BadSchedule at kind) f = f
+  finish_fault number (HeapFull at) f = (f.0, short_is f.1.short)
+  finish_fault number (NoMemory at) f = f
+  finish_fault number ReadFailed f = f
+  finish_fault number WriteFailed f = f
+
+  module _ (last : MachineValue) (same : IsSameCollection first last) (start : ℕ) (text : List ℕ) (commit : ℕ) (rest : List ℕ) (schedule : IsSchedule (setting_in first) first.system (start + 1) text commit rest last.system) where
     schedule_is : IsSchedule (setting_at heap g n) (opening_at heap g n) (start + 1) text commit rest last.system
     schedule_is = at_heap (λ k s. IsSchedule k s (start + 1) text commit rest last.system) schedule
 
@@ -89,10 +127,7 @@ module _ (heap : HeapValue) (g n : ℕ) (first : MachineValue) (opens : Opens he
     brings collection places blocks workers deliveries settles = record {
       last = last.system;
       schedule = schedule_is;
-      reports_are = subst (λ h. Reports h g last.system workers deliveries) heap_is (subst (λ k. Reports last.heap k last.system workers deliveries) generation_is settles.reports_are);
-      generation_is = ap (λ (c : CollectionValue). c.generation) settles.collection_is ∙ generation_is;
-      may_commit = subst (λ h. IsSettled h collection places blocks (all_won workers)) heap_is settles.may_commit;
-      once = subst (λ h. ScansOnce h g workers) heap_is (subst (λ k. ScansOnce last.heap k workers) generation_is settles.once);
+      brought = brought last same collection places blocks workers deliveries settles;
     }
 
     at_commit : (P : System → Piece → Type 0) → P last.system (finished schedule_is.ends) → StopsAt P (setting_at heap g n) (opening_at heap g n) (start + 1) text commit

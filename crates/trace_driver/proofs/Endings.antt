@@ -9,7 +9,7 @@ use Rattle.trace_lines.specs.declared.fault.Fault.{Fault}
 use Rattle.trace_lines.specs.declared.fault.Fault.TheVariants.{BadTrace, BadSchedule, HeapFull, NoMemory, ReadFailed, WriteFailed}
 use Rattle.trace_lines.specs.Faults.{MatchEachFault}
 use Rattle.trace_lines.specs.Outcome.{outcome}
-use Rattle.trace_replay.specs.ReplayStops.{HasTraceFault, HasScheduleFault, Stops}
+use Rattle.trace_replay.specs.ReplayStops.{HasTraceFault, HasScheduleFault, Quietly, Stops}
 use Rattle.trace_driver.specs.Program.{config_of, ByTask, AreInRange, PrintsFaulty, StopsFaulty, in_trace, in_schedule, IsFaulty, EndsAs}
 
 if_some : {T : Type 0} {P Q : T → Type 0} → ((x : T) → P x → Q x) → (o : Option T) → IfSome o P → IfSome o Q
@@ -31,7 +31,7 @@ module _ (o : Options) (task : o.task ≡ Replay) (in_range : AreInRange o) (con
 
   pub replay_ends : (full memory : Option ℕ → Type 0) (read written : Type 0) (status : ℕ) (e : Fault)
       → MatchEachFault e (λ _ _. status ≡ 2) (λ _ _. status ≡ 2) (λ _. status ≡ 1) (λ _. status ≡ 1) (status ≡ 4) (status ≡ 4)
-      → MatchEachFault e (λ at kind. IfSome remaining (Stops (HasTraceFault config n kind) config n at old new)) (λ at kind. IfSome remaining (Stops (HasScheduleFault config n kind) config n at old new)) full memory read written
+      → MatchEachFault e (λ at kind. IfSome remaining (Stops (Quietly (HasTraceFault config n kind)) config n at old new)) (λ at kind. IfSome remaining (Stops (Quietly (HasScheduleFault config n kind)) config n at old new)) full memory read written
       → EndsAs o status remaining old new
   replay_ends full memory read written status (BadTrace at kind) is f =
       ends_otherwise status (λ s. omega (arith, is, s)) (λ s. omega (arith, is, s)) (λ s. if_some (λ input stops. faulty_at input (in_trace kind at stops)) remaining f)

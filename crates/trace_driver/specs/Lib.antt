@@ -2,6 +2,7 @@
 pub use Rattle.trace_lines.specs.Pieces
 pub use Rattle.trace_lines.specs.Outcome
 pub use Rattle.trace_lines.specs.Sound
+pub use Rattle.trace_lines.specs.CollectsFirst
 pub use Rattle.trace_lines.specs.Carried
 pub use Rattle.trace_lines.specs.Faults
 pub use Rattle.trace_lines.specs.FaultText

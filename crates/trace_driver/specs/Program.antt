@@ -12,7 +12,7 @@ use Rattle.command_line.specs.declared.words.Task.{Task}
 use Rattle.command_line.specs.declared.words.Task.TheVariants.{Run, Replay}
 use Rattle.trace_text.specs.declared.schedule.ScheduleKind.{ScheduleKind}
 use Rattle.trace_replay.specs.Replays.{IsReplayed}
-use Rattle.trace_replay.specs.ReplayStops.{HasTraceFault, HasScheduleFault, Stops}
+use Rattle.trace_replay.specs.ReplayStops.{HasTraceFault, HasScheduleFault, Quietly, Stops}
 
 -- the sizes that were asked for
 abbrev pub config_of : Options → Config
@@ -34,8 +34,8 @@ pub record PrintsFaulty (run : Meant) (old new : Option (List ℕ)) : Type 0 whe
 
 -- a replay stops at a faulty line of the trace or of a schedule
 pub data StopsFaulty (config : Config) (n : ℕ) (old new : Option (List ℕ)) (input : List ℕ) : Type 0 where
-  in_trace : (kind : Kind) (at : ℕ) → Stops (HasTraceFault config n kind) config n at old new input → StopsFaulty config n old new input
-  in_schedule : (kind : ScheduleKind) (at : ℕ) → Stops (HasScheduleFault config n kind) config n at old new input → StopsFaulty config n old new input
+  in_trace : (kind : Kind) (at : ℕ) → Stops (Quietly (HasTraceFault config n kind)) config n at old new input → StopsFaulty config n old new input
+  in_schedule : (kind : ScheduleKind) (at : ℕ) → Stops (Quietly (HasScheduleFault config n kind)) config n at old new input → StopsFaulty config n old new input
 
 abbrev pub IsDone : Options → (old new : Option (List ℕ)) → List ℕ → Type 0
 IsDone o old new input = ByTask o.task (Prints (outcome (config_of o) input) None old new) (IsReplayed (config_of o) o.threads old new input)

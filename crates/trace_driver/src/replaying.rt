@@ -2,7 +2,7 @@
 ghost use Rattle.std.specs.Prelude.{◌≡◌, ◌+◌, ◌-◌, ◌^◌, ◌<◌, ◌≤◌, ◌⊎◌, ◌*◌, length, MatchOption, IfSome, OnOk, IfErr};
 ghost use Rattle.trace_lines.specs.Faults.{MatchEachFault};
 ghost use Rattle.trace_replay.specs.Replays.{IsReplayed};
-ghost use Rattle.trace_replay.specs.ReplayStops.{HasTraceFault, HasScheduleFault, WantsBlocks, IsSoundAt, Stops};
+ghost use Rattle.trace_replay.specs.ReplayStops.{HasTraceFault, HasScheduleFault, WantsBlocks, IsSoundAt, Quietly, Stops};
 
 use crate::config::RunConfig;
 use byte_streams::{Sink, Source};
@@ -21,11 +21,11 @@ pub fn replay<A: Allocator + Clone, S: Source, W: Sink>(
     requires writable { W.failed_writes writer.old < 2 ^ 64 - 1 }
     ensures ok { OnOk result (IfSome (S.remaining reader.old) (IsReplayed config.config config.workers (W.contents writer.old) (W.contents writer.new))) }
     ensures err { IfErr result (λ e. MatchEachFault e
-        (λ at kind. IfSome (S.remaining reader.old) (Stops (HasTraceFault config.config config.workers kind) config.config config.workers at (W.contents writer.old) (W.contents writer.new)))
-        (λ at kind. IfSome (S.remaining reader.old) (Stops (HasScheduleFault config.config config.workers kind) config.config config.workers at (W.contents writer.old) (W.contents writer.new)))
+        (λ at kind. IfSome (S.remaining reader.old) (Stops (Quietly (HasTraceFault config.config config.workers kind)) config.config config.workers at (W.contents writer.old) (W.contents writer.new)))
+        (λ at kind. IfSome (S.remaining reader.old) (Stops (Quietly (HasScheduleFault config.config config.workers kind)) config.config config.workers at (W.contents writer.old) (W.contents writer.new)))
         (λ at. MatchOption at
         ((config.config.blocks < config.config.mutators * config.config.nursery_blocks) × (writer.new ≡ writer.old) × (reader.new ≡ reader.old))
-        (λ line. IfSome (S.remaining reader.old) (Stops (WantsBlocks config.config config.workers) config.config config.workers line (W.contents writer.old) (W.contents writer.new))))
+        (λ line. IfSome (S.remaining reader.old) (Stops (Quietly (WantsBlocks config.config config.workers)) config.config config.workers line (W.contents writer.old) (W.contents writer.new))))
         (λ at. MatchOption at
         (writer.new ≡ writer.old)
         (λ line. IfSome (S.remaining reader.old) (Stops (IsSoundAt config.config config.workers) config.config config.workers line (W.contents writer.old) (W.contents writer.new))))

@@ -1,10 +1,10 @@
 //! A run from bytes to bytes.
 ghost use Rattle.std.specs.Prelude.{◌≡◌, ℕ, ◌+◌, ◌-◌, ◌^◌, ◌<◌, ◌≤◌, ◌⊎◌, ◌*◌, None, Some, length, MatchOption, IfSome, IfOk, OnOk, IfErr};
+ghost use Rattle.trace_lines.specs.CollectsFirst.{IsSoundSoFar};
 ghost use Rattle.trace_lines.specs.Faults.{MatchFault};
 ghost use Rattle.trace_lines.specs.Outcome.{outcome_from, outcome};
 ghost use Rattle.trace_lines.specs.Pieces.{HasNoFeed, pieces};
-ghost use Rattle.trace_lines.specs.Sound.{IsSound};
-ghost use Rattle.trace_lines.specs.Carried.{StopsAt, LeavesBefore, LeavesOutput, Prints, PrintsFront};
+ghost use Rattle.trace_lines.specs.Carried.{StopsAt, Silently, LeavesBefore, LeavesOutput, Prints, PrintsFront};
 ghost use Rattle.trace_lines.specs.Stepped.{AtEach, CarriesOutTo};
 ghost use Rattle.trace_replay.specs.Refusals.{MayBeFull};
 ghost use Rattle.trace_replay.specs.Session.{Stands};
@@ -36,8 +36,8 @@ fn carry_out_lines<'t, A: Allocator + Clone, W: Sink>(
     ensures rises { W.failed_writes writer.new ≤ W.failed_writes writer.old + 1 }
     ensures err { IfErr result (λ e. MatchFault e
         (λ at kind. AtEach (Stands session.old) (λ config store. StopsAt config number store text.now at kind (W.contents writer.old) (W.contents writer.new)))
-        (λ at. AtEach (Stands session.old) (λ config store. LeavesBefore (MayBeFull config) config number store text.now at (W.contents writer.old) (W.contents writer.new)))
-        (λ at. AtEach (Stands session.old) (λ config store. LeavesBefore (IsSound config) config number store text.now at (W.contents writer.old) (W.contents writer.new)))
+        (λ at. AtEach (Stands session.old) (λ config store. LeavesBefore (Silently (MayBeFull config)) config number store text.now at (W.contents writer.old) (W.contents writer.new)))
+        (λ at. AtEach (Stands session.old) (λ config store. LeavesBefore (IsSoundSoFar config) config number store text.now at (W.contents writer.old) (W.contents writer.new)))
         ⊥
         (W.failed_writes writer.new ≡ W.failed_writes writer.old + 1)) }
 {
@@ -67,8 +67,8 @@ fn carry_out_text<A: Allocator + Clone, W: Sink>(
     ensures rises { W.failed_writes writer.new ≤ W.failed_writes writer.old + 1 }
     ensures err { IfErr result (λ e. MatchFault e
         (λ at kind. AtEach (Stands session.old) (λ config store. Prints (outcome_from config 1 store (pieces text.now)) (Some (at, kind)) (W.contents writer.old) (W.contents writer.new)))
-        (λ at. AtEach (Stands session.old) (λ config store. LeavesBefore (MayBeFull config) config 1 store text.now at (W.contents writer.old) (W.contents writer.new)))
-        (λ at. AtEach (Stands session.old) (λ config store. LeavesBefore (IsSound config) config 1 store text.now at (W.contents writer.old) (W.contents writer.new)))
+        (λ at. AtEach (Stands session.old) (λ config store. LeavesBefore (Silently (MayBeFull config)) config 1 store text.now at (W.contents writer.old) (W.contents writer.new)))
+        (λ at. AtEach (Stands session.old) (λ config store. LeavesBefore (IsSoundSoFar config) config 1 store text.now at (W.contents writer.old) (W.contents writer.new)))
         ⊥
         (W.failed_writes writer.new ≡ W.failed_writes writer.old + 1)) }
 {
@@ -103,10 +103,10 @@ pub fn run_one<A: Allocator + Clone, S: Source, W: Sink>(
         Prints (outcome config.config input) (Some (line, kind)) (W.contents writer.old) (W.contents writer.new)))
         (λ line. MatchOption line
         ((config.config.blocks < config.config.mutators * config.config.nursery_blocks) × (writer.new ≡ writer.old) × (reader.new ≡ reader.old))
-        (λ at. IfSome (S.remaining reader.old) (LeavesOutput (MayBeFull config.config) config.config at (W.contents writer.old) (W.contents writer.new))))
+        (λ at. IfSome (S.remaining reader.old) (LeavesOutput (Silently (MayBeFull config.config)) config.config at (W.contents writer.old) (W.contents writer.new))))
         (λ line. MatchOption line
         (writer.new ≡ writer.old)
-        (λ at. IfSome (S.remaining reader.old) (LeavesOutput (IsSound config.config) config.config at (W.contents writer.old) (W.contents writer.new))))
+        (λ at. IfSome (S.remaining reader.old) (LeavesOutput (IsSoundSoFar config.config) config.config at (W.contents writer.old) (W.contents writer.new))))
         (IfSome (S.remaining reader.old) (PrintsFront config.config (W.contents writer.old) (W.contents writer.new))
         × ((S.failed_reads reader.new ≡ S.failed_reads reader.old + 1)
         ⊎ IfSome (S.remaining reader.old) (λ input. 2 ^ 64 - 1 ≤ length input)))
@@ -145,10 +145,10 @@ pub fn run<A: Allocator + Clone, S: Source, W: Sink>(
         Prints (outcome config.config input) (Some (line, kind)) (W.contents writer.old) (W.contents writer.new)))
         (λ line. MatchOption line
         ((config.config.blocks < config.config.mutators * config.config.nursery_blocks) × (writer.new ≡ writer.old) × (reader.new ≡ reader.old))
-        (λ at. IfSome (S.remaining reader.old) (LeavesOutput (MayBeFull config.config) config.config at (W.contents writer.old) (W.contents writer.new))))
+        (λ at. IfSome (S.remaining reader.old) (LeavesOutput (Silently (MayBeFull config.config)) config.config at (W.contents writer.old) (W.contents writer.new))))
         (λ line. MatchOption line
         (writer.new ≡ writer.old)
-        (λ at. IfSome (S.remaining reader.old) (LeavesOutput (IsSound config.config) config.config at (W.contents writer.old) (W.contents writer.new))))
+        (λ at. IfSome (S.remaining reader.old) (LeavesOutput (IsSoundSoFar config.config) config.config at (W.contents writer.old) (W.contents writer.new))))
         (IfSome (S.remaining reader.old) (PrintsFront config.config (W.contents writer.old) (W.contents writer.new))
         × ((S.failed_reads reader.new ≡ S.failed_reads reader.old + 1)
         ⊎ IfSome (S.remaining reader.old) (λ input. 2 ^ 64 - 1 ≤ length input)))

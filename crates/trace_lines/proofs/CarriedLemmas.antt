@@ -13,9 +13,9 @@ use Rattle.trace_lines.specs.declared.fault.Fault.TheVariants.{BadTrace, BadSche
 use Rattle.trace_lines.specs.Faults.{MatchFault}
 use Rattle.trace_lines.specs.Pieces.{HasNoFeed, finished, pieces}
 use Rattle.trace_lines.specs.Outcome.{after, outcome_from, line_step}
-use Rattle.trace_lines.specs.Sound.{IsSound}
-use Rattle.trace_lines.specs.Carried.{Carried, CarriesOut, StopsAt, LeavesBefore}
-use Rattle.trace_lines.specs.Stepped.{AtEach, StepsTo, CarriesOutTo}
+use Rattle.trace_lines.specs.CollectsFirst.{IsSoundSoFar}
+use Rattle.trace_lines.specs.Carried.{Carried, CarriesOut, StopsAt, Silently, LeavesBefore}
+use Rattle.trace_lines.specs.Stepped.{AtEach, StepsTo, Writes, CarriesOutTo}
 use Rattle.trace_lines.proofs.PieceLemmas.{pieces_line}
 
 after-after : (a b : List ℕ) (o : Run) → after a (after b o) ≡ after (a ++ b) o
@@ -109,17 +109,18 @@ module _ (config : Config) (number : ℕ) (store : Store) (text : List ℕ) (num
         Carried-whole _ _ _ _ _ _ _ _ so_far.carried more ∙ ap (λ o. after so_far.out o) stop ∙ ap (λ xs. record { store = store'; output = xs; fault = Some (at, kind) }) (append-nil so_far.out);
   }
 
-  pub leaves_before : (P : Store → List ℕ → Type 0) (at : Option ℕ) → at ≡ Some number' → P store' line → LeavesBefore P config number store text at old now
-  leaves_before P at here holds = record {
+  pub leaves_before : (P : Store → List ℕ → List ℕ → Type 0) (at : Option ℕ) → at ≡ Some number' → (new : Option (List ℕ)) → Writes (P store' line) now new → LeavesBefore P config number store text at old new
+  leaves_before P at here new own = record {
     out = so_far.out;
     lines = so_far.lines;
     store' = store';
     refused = line;
+    written = own.written;
     line_is = here ∙ ap (λ n. Some n) so_far.number_is;
-    held = so_far.held;
+    held = Appends-trans old now new so_far.out own.written so_far.held own.held;
     printed = Carried-before _ _ _ _ _ _ _ _ so_far.carried;
     there = λ more. slice_get_at _ _ so_far.lines _ (so_far.carried.left more ∙ first_piece more);
-    holds = holds;
+    holds = own.holds;
   }
 
 -- at each store for which a session stands
@@ -129,29 +130,32 @@ module _ (stands stands' : Config → Store → Type 0) (number : ℕ) (text : L
       let here = so_far config store at in
       CarriesOut-line config number store text number' here.next rest old now here.carries line next is free stands'' new (steps config here.next here.stands')
 
-  leaves : (P : Config → Store → List ℕ → Type 0) (at : Option ℕ) → at ≡ Some number' → AtEach stands' (λ config store. P config store line) → AtEach stands (λ config store. LeavesBefore (P config) config number store text at old now)
-  leaves P at here holds = λ config store there.
+  leaves : (P : Config → Store → List ℕ → List ℕ → Type 0) (at : Option ℕ) → at ≡ Some number' → (new : Option (List ℕ)) → AtEach stands' (λ config store. Writes (P config store line) now new) → AtEach stands (λ config store. LeavesBefore (P config) config number store text at old new)
+  leaves P at here new own = λ config store there.
       let before = so_far config store there in
-      leaves_before config number store text number' before.next rest old now before.carries line next is free (P config) at here (holds config before.next before.stands')
+      leaves_before config number store text number' before.next rest old now before.carries line next is free (P config) at here new (own config before.next before.stands')
 
-  pub fault_of_line : (wants : Config → Store → List ℕ → Type 0) {T : Type 0} (contents : T → Option (List ℕ)) (before new : T) (written : Type 0) (e : Fault) → contents before ≡ now
+  pub fault_of_line : (wants : Config → Store → List ℕ → Type 0) {T : Type 0} (contents : T → Option (List ℕ)) (before new : T) (failed : Type 0) (e : Fault) → contents before ≡ now
       → MatchFault e
-      (λ at kind. (at ≡ number') × AtEach stands' (λ config store. line_step config store line ≡ Err kind) × (new ≡ before))
-      (λ at. (at ≡ Some number') × AtEach stands' (λ config store. wants config store line) × (new ≡ before))
-      (λ at. (at ≡ Some number') × AtEach stands' (λ config store. IsSound config store line) × (new ≡ before))
-      ⊥ written
+      (λ at kind. (at ≡ number') × AtEach stands' (λ config store. (line_step config store line ≡ Err kind) × (new ≡ before)))
+      (λ at. (at ≡ Some number') × AtEach stands' (λ config store. wants config store line × (new ≡ before)))
+      (λ at. (at ≡ Some number') × AtEach stands' (λ config store. Writes (IsSoundSoFar config store line) (contents before) (contents new)))
+      ⊥ failed
       → MatchFault e
       (λ at kind. AtEach stands (λ config store. StopsAt config number store text at kind old (contents new)))
-      (λ at. AtEach stands (λ config store. LeavesBefore (wants config) config number store text at old (contents new)))
-      (λ at. AtEach stands (λ config store. LeavesBefore (IsSound config) config number store text at old (contents new)))
-      ⊥ written
-  fault_of_line wants contents before new written (BadTrace at kind) same facts =
-      rw (facts.2, same)
-      (λ config store there.
+      (λ at. AtEach stands (λ config store. LeavesBefore (Silently (wants config)) config number store text at old (contents new)))
+      (λ at. AtEach stands (λ config store. LeavesBefore (IsSoundSoFar config) config number store text at old (contents new)))
+      ⊥ failed
+  fault_of_line wants contents before new failed (BadTrace at kind) same facts = λ config store there.
       let here = so_far config store there in
-      stops_at config number store text number' here.next rest old now here.carries line next is free at kind facts.0 (facts.1 config here.next here.stands'))
-  fault_of_line wants contents before new written (BadSchedule at kind) same facts = absurd facts
-  fault_of_line wants contents before new written (HeapFull at) same facts = rw (facts.2, same) (leaves wants at facts.0 facts.1)
-  fault_of_line wants contents before new written (NoMemory at) same facts = rw (facts.2, same) (leaves IsSound at facts.0 facts.1)
-  fault_of_line wants contents before new written ReadFailed same facts = facts
-  fault_of_line wants contents before new written WriteFailed same facts = facts
+      let fault = facts.1 config here.next here.stands' in
+      rw (fault.1, same) (stops_at config number store text number' here.next rest old now here.carries line next is free at kind facts.0 fault.0)
+  fault_of_line wants contents before new failed (BadSchedule at kind) same facts = absurd facts
+  fault_of_line wants contents before new failed (HeapFull at) same facts =
+      leaves (λ config. Silently (wants config)) at facts.0 (contents new)
+      (λ config store there.
+      let fault = facts.1 config store there in
+      rw (fault.1, same) (record { written = []; held = Appends-nil now; holds = (fault.0, refl) }))
+  fault_of_line wants contents before new failed (NoMemory at) same facts = leaves IsSoundSoFar at facts.0 (contents new) (rw (← same) facts.1)
+  fault_of_line wants contents before new failed ReadFailed same facts = facts
+  fault_of_line wants contents before new failed WriteFailed same facts = facts

@@ -5,3 +5,4 @@ pub mod TextLemmas
 pub mod ReadLemmas
 pub mod FaultLemmas
 pub mod CommandFaults
+pub mod SecondAttempt

@@ -8,11 +8,11 @@ use Rattle.model.specs.Store.{Store, empty_store}
 use Rattle.trace_lines.specs.declared.fault.Fault.{Fault}
 use Rattle.trace_lines.specs.declared.fault.Fault.TheVariants.{BadTrace, BadSchedule, HeapFull, NoMemory, ReadFailed, WriteFailed}
 use Rattle.trace_lines.specs.Faults.{MatchFault}
-use Rattle.trace_lines.specs.Sound.{IsSound}
+use Rattle.trace_lines.specs.CollectsFirst.{IsSoundSoFar}
 use Rattle.trace_lines.specs.Stepped.{AtEach}
 use Rattle.trace_lines.specs.Pieces.{HasNoFeed, finished, pieces}
 use Rattle.trace_lines.specs.Outcome.{after, outcome_from, outcome_before}
-use Rattle.trace_lines.specs.Carried.{CarriesOut, StopsAt, LeavesBefore, LeavesOutput, Prints}
+use Rattle.trace_lines.specs.Carried.{CarriesOut, StopsAt, Silently, LeavesBefore, LeavesOutput, Prints}
 use Rattle.trace_lines.proofs.PieceLemmas.{pieces_last}
 use Rattle.trace_lines.proofs.CarriedLemmas.{Carried-whole}
 
@@ -64,7 +64,7 @@ prints_stop config number store text line kind old new at =
     }
 
 -- of a whole trace
-pub leaves_output : (P : Store → List ℕ → Type 0) (config : Config) (text : List ℕ) (line : ℕ) (old new : Option (List ℕ)) → LeavesBefore P config 1 (empty_store config) text (Some line) old new → LeavesOutput P config line old new text
+pub leaves_output : (P : Store → List ℕ → List ℕ → Type 0) (config : Config) (text : List ℕ) (line : ℕ) (old new : Option (List ℕ)) → LeavesBefore P config 1 (empty_store config) text (Some line) old new → LeavesOutput P config line old new text
 leaves_output P config text line old new before =
     let line_is : line ≡ 1 + before.lines = cc (before.line_is) in
     let lines : line - 1 ≡ before.lines = omega (arith, line_is) in
@@ -73,6 +73,7 @@ leaves_output P config text line old new before =
     let there : slice_get (pieces text) before.lines ≡ Some (finished before.refused) = simp append-nil at (before.there []) in
     record {
       refused = before.refused;
+      written = before.written;
       counted = omega (arith, line_is);
       there = rw lines there;
       sound = ap (λ o. o.fault) is;
@@ -84,13 +85,13 @@ leaves_output P config text line old new before =
 pub text_fault : (wants : Config → Store → List ℕ → Type 0) (stands : Config → Store → Type 0) (text : List ℕ) (old new : Option (List ℕ)) (written : Type 0) (e : Fault)
     → MatchFault e
     (λ at kind. AtEach stands (λ config store. StopsAt config 1 store text at kind old new))
-    (λ at. AtEach stands (λ config store. LeavesBefore (wants config) config 1 store text at old new))
-    (λ at. AtEach stands (λ config store. LeavesBefore (IsSound config) config 1 store text at old new))
+    (λ at. AtEach stands (λ config store. LeavesBefore (Silently (wants config)) config 1 store text at old new))
+    (λ at. AtEach stands (λ config store. LeavesBefore (IsSoundSoFar config) config 1 store text at old new))
     ⊥ written
     → MatchFault e
     (λ at kind. AtEach stands (λ config store. Prints (outcome_from config 1 store (pieces text)) (Some (at, kind)) old new))
-    (λ at. AtEach stands (λ config store. LeavesBefore (wants config) config 1 store text at old new))
-    (λ at. AtEach stands (λ config store. LeavesBefore (IsSound config) config 1 store text at old new))
+    (λ at. AtEach stands (λ config store. LeavesBefore (Silently (wants config)) config 1 store text at old new))
+    (λ at. AtEach stands (λ config store. LeavesBefore (IsSoundSoFar config) config 1 store text at old new))
     ⊥ written
 text_fault wants stands text old new written (BadTrace at kind) facts = λ config store there. prints_stop config 1 store text at kind old new (facts config store there)
 text_fault wants stands text old new written (BadSchedule at kind) facts = facts

@@ -24,6 +24,12 @@ pub record StepsQuietly (stands : Config → Store → Type 0) (config : Config)
   pub steps : step ≡ Ok (next, [])
   pub stands' : stands config next
 
+-- something was written, and P holds of it
+pub record Writes (P : List ℕ → Type 0) (old new : Option (List ℕ)) : Type 0 where
+  pub written : List ℕ
+  pub held : Appends old new written
+  pub holds : P written
+
 -- the lines before the rest were carried out and printed, and the store then passes the test
 pub record CarriesOutTo (stands : Config → Store → Type 0) (config : Config) (number : ℕ) (store : Store) (text : List ℕ) (number' : ℕ) (rest : List ℕ) (old new : Option (List ℕ)) : Type 0 where
   pub next : Store

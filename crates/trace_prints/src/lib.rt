@@ -3,5 +3,5 @@
 
 mod printing;
 
-pub use printing::{census, collect, not_written, show_heap};
+pub use printing::{census, collect, make_room, show_heap};
 pub use trace_session::Session;

@@ -1,27 +1,30 @@
 //! The commands that print.
 ghost use Rattle.std.specs.Prelude.{◌≡◌, ◌+◌, ◌-◌, ◌^◌, ◌<◌, ◌≤◌, Some, Err, OnOk, IfErr, is_some};
+ghost use Rattle.std.specs.Io.KnownBytes.{Appends};
 ghost use Rattle.std.specs.List.{list_all};
 ghost use Rattle.model.specs.Graph.{root_at};
+ghost use Rattle.model.specs.Store.{collected};
 ghost use Rattle.model.specs.Commands as meant;
 ghost use Rattle.model.specs.Commands.{Collect, Census};
+ghost use Rattle.trace_lines.specs.CollectsFirst.{auto_line};
 ghost use Rattle.trace_lines.specs.Faults.{MatchFault};
 ghost use Rattle.trace_lines.specs.Outcome.{command_step};
 ghost use Rattle.trace_lines.specs.Sound.{IsSoundCommand};
 ghost use Rattle.trace_lines.specs.Stepped.{AtEach, StepsTo};
-ghost use Rattle.trace_session.specs.Refusals.{CommandMayBeFull};
+ghost use Rattle.trace_session.specs.Refusals.{CommandMayBeFull, IsShortFor};
 ghost use Rattle.trace_session.specs.Session.{Stands};
 
-use byte_streams::Sink;
+use byte_streams::{Sink, WriteFailed};
 use collector::{CollectError, collect_one};
 use heap::Heap;
-use heap_text::{Name, WriteError, write_census, write_collection, write_heap};
+use heap_text::{Cause, Name, WriteError, write_census, write_collection, write_heap};
 use model::Kind;
 use std::alloc::Allocator;
 use trace_lines::Fault;
 use trace_session::Session;
 
 /// The fault of a text that was not written in a line.
-pub fn not_written(number: u128, error: WriteError) -> Fault
+fn not_written(number: u128, error: WriteError) -> Fault
     ensures { MatchFault result (λ _ _. ⊥) (λ _. ⊥) (λ at. (at ≡ Some number) × (error ≡ WriteError.NoMemory)) ⊥ (error ≡ WriteError.WriteFailed) }
 {
     match error {
@@ -81,18 +84,50 @@ pub fn collect<A: Allocator + Clone, W: Sink>(
     let Ok(alloc) = session.alloc.clone() else {
         return Err(Fault::NoMemory(Some(number)));
     };
-    let Ok(text_alloc) = session.alloc.clone() else {
-        return Err(Fault::NoMemory(Some(number)));
-    };
     let report = match collect_one(alloc, &mut session.heap, generation) {
         Ok(report) => report,
         Err(CollectError::NoGeneration) => return Err(Fault::BadTrace(number, Kind::NoGeneration)),
         Err(CollectError::HeapFull) => return Err(Fault::HeapFull(Some(number))),
         Err(CollectError::NoMemory) => return Err(Fault::NoMemory(Some(number))),
     };
-    match write_collection(text_alloc, generation, report.kept, report.freed, writer) {
+    let (kept, freed) = (report.kept, report.freed);
+    match write_collection(Cause::Command, generation, kept, freed, writer) {
         Ok(()) => Ok(()),
-        Err(error) => Err(not_written(number, error)),
+        Err(WriteFailed) => Err(Fault::WriteFailed),
+    }
+}
+
+/// Makes room in the nurseries for a new object: collects generation 0, and writes how many objects were kept and freed.
+/// The only error after the collection is that of a write.
+pub fn make_room<A: Allocator + Clone, W: Sink>(
+    session: &mut Session<A>,
+    number: u128,
+    writer: &mut W,
+) -> Result<(), Fault>
+    requires { W.failed_writes writer.old < 2 ^ 64 - 1 }
+    ensures ok { OnOk result (AtEach (Stands session.old)
+        (λ config store. Stands session.new config (collected config 0 store) × Appends (W.contents writer.old) (W.contents writer.new) (auto_line store))) }
+    ensures counts { OnOk result (W.failed_writes writer.new ≡ W.failed_writes writer.old) }
+    ensures rises { W.failed_writes writer.new ≤ W.failed_writes writer.old + 1 }
+    ensures err { IfErr result (λ e. MatchFault e (λ _ _. ⊥)
+        (λ at. (at ≡ Some number) × AtEach (Stands session.old) (λ config store. IsShortFor config store 0) × (session.new ≡ session.old) × (writer.new ≡ writer.old))
+        (λ at. (at ≡ Some number) × (session.new ≡ session.old) × (writer.new ≡ writer.old))
+        ⊥
+        (W.failed_writes writer.new ≡ W.failed_writes writer.old + 1)) }
+{
+    let _generations = session.heap.config().generations();
+    let Ok(alloc) = session.alloc.clone() else {
+        return Err(Fault::NoMemory(Some(number)));
+    };
+    let done = match collect_one(alloc, &mut session.heap, 0) {
+        Ok(done) => done,
+        Err(CollectError::NoGeneration) => unreachable!(),
+        Err(CollectError::HeapFull) => return Err(Fault::HeapFull(Some(number))),
+        Err(CollectError::NoMemory) => return Err(Fault::NoMemory(Some(number))),
+    };
+    match write_collection(Cause::FullNursery, 0, done.kept, done.freed, writer) {
+        Ok(()) => Ok(()),
+        Err(WriteFailed) => Err(Fault::WriteFailed),
     }
 }
 

@@ -25,14 +25,14 @@ use Rattle.schedules.specs.Collects.{Collects, setting_at, opening_at}
 use Rattle.schedules.specs.Together.{CollectsTogether}
 use Rattle.schedules.specs.Events.{IsShortOfBlocks}
 use Rattle.report_lines.specs.ReportText.{report_text}
-use Rattle.report_lines.specs.declared.cause.Cause.TheVariants.{Command}
+use Rattle.heap_text.specs.declared.cause.Cause.TheVariants.{Command}
 use Rattle.trace_text.specs.Grammar.{entry_of, ◌>>=◌}
 use Rattle.trace_text.specs.declared.schedule.ScheduleLine.{ScheduleLine}
 use Rattle.trace_text.specs.declared.schedule.ScheduleKind.{ScheduleKind}
 use Rattle.trace_text.specs.declared.schedule.ScheduleLine.TheVariants.{Nothing, Event, Finish, Commit}
 use Rattle.trace_lines.specs.declared.fault.Fault.{Fault}
 use Rattle.trace_lines.specs.declared.fault.Fault.TheVariants.{BadTrace, BadSchedule, HeapFull, NoMemory, ReadFailed, WriteFailed}
-use Rattle.trace_lines.specs.Faults.{MatchFault, MatchEachFault}
+use Rattle.trace_lines.specs.Faults.{MatchEachFault}
 use Rattle.trace_lines.specs.Pieces.{finished, pieces}
 use Rattle.trace_lines.specs.Outcome.{line_step, entry_step, command_step}
 use Rattle.trace_lines.specs.Sound.{IsSoundCommand}
@@ -42,7 +42,7 @@ use Rattle.trace_step.specs.Stands.{StandsFor}
 use Rattle.trace_step.proofs.StandsCollected.{stands_collected, kept_same, freed_same}
 use Rattle.schedules.specs.Runs.{Brings, LinesRun, stay, go}
 use Rattle.schedules.specs.Stops.{IsUnreadable, IsRefusedBlocks, IsSoundLine, OfLine, StopsAt, StopsWith}
-use Rattle.schedules.specs.Brought.{BringsToCommit}
+use Rattle.schedules.specs.Brought.{IsBrought, BringsToCommit}
 use Rattle.trace_replay.specs.Replays.{State, HasCollected}
 use Rattle.trace_replay.specs.ReplayStops.{OpensSchedule, AfterCollect, HasTraceFault, HasScheduleFault, WantsBlocks, IsSoundAt, outside, inside}
 use Rattle.trace_replay.specs.ReplayStops as stops
@@ -89,12 +89,12 @@ module _ (heap : HeapValue) (names : List (List ℕ × ℕ)) (config : Config) (
     abbrev opens : (line : List ℕ) → entry_of line ≡ Ok (Some (Collect g)) → OpensSchedule config before (finished line ∷ pieces text)
     opens line asks = record { line = line; g = g; asks = asks; sound = collect_sound in_range; text = text; left_is = refl }
 
-    pub no_memory_at : AfterCollect g text (λ left. IsSoundAt config n before number left number)
-    no_memory_at = λ line asks. stops.outside {line = line} refl refl (ap is_ok (line_is config store line g asks) ∙ collect_sound in_range)
+    pub no_memory_at : AfterCollect g text (λ left. IsSoundAt config n before number left number [])
+    no_memory_at = λ line asks. stops.outside {line = line} refl refl (ap is_ok (line_is config store line g asks) ∙ collect_sound in_range, inl refl)
 
     -- memory is wanted in the schedule's last line
-    pub no_memory_in : (at : ℕ) → StopsAt (OfLine (IsSoundLine (setting_at heap g n))) (setting_at heap g n) (opening_at heap g n) (number + 1) text at → AfterCollect g text (λ left. IsSoundAt config n before number left at)
-    no_memory_in at stop = λ line asks. stops.inside (opens line asks) stop
+    pub no_memory_in : (at : ℕ) → StopsAt (OfLine (IsSoundLine (setting_at heap g n))) (setting_at heap g n) (opening_at heap g n) (number + 1) text at → AfterCollect g text (λ left. IsSoundAt config n before number left at [])
+    no_memory_in at stop = λ line asks. stops.inside (opens line asks) stop refl
 
     pub trace_fault_in : (kind : Kind) (at : ℕ) → StopsAt (IsUnreadable kind) (setting_at heap g n) (opening_at heap g n) (number + 1) text at → AfterCollect g text (λ left. HasTraceFault config n kind before number left at)
     trace_fault_in kind at stop = λ line asks. inside (opens line asks) stop
@@ -118,39 +118,31 @@ module _ (heap : HeapValue) (names : List (List ℕ × ℕ)) (g n number : ℕ) 
       (λ at kind. AtEach (StandsFor heap names) (λ config store. AfterCollect g text (λ left. HasTraceFault config n kind (record { heap = heap; names = names; store = store }) number left at)) × (new ≡ old))
       (λ at kind. AtEach (StandsFor heap names) (λ config store. AfterCollect g text (λ left. HasScheduleFault config n kind (record { heap = heap; names = names; store = store }) number left at)) × (new ≡ old))
       (λ at. MatchOption at ⊥ (λ line. AtEach (StandsFor heap names) (λ config store. AfterCollect g text (λ left. WantsBlocks config n (record { heap = heap; names = names; store = store }) number left line))) × (new ≡ old))
-      (λ at. MatchOption at ⊥ (λ line. AtEach (StandsFor heap names) (λ config store. AfterCollect g text (λ left. IsSoundAt config n (record { heap = heap; names = names; store = store }) number left line))) × (new ≡ old))
+      (λ at. MatchOption at ⊥ (λ line. AtEach (StandsFor heap names) (λ config store. AfterCollect g text (λ left. IsSoundAt config n (record { heap = heap; names = names; store = store }) number left line []))) × (new ≡ old))
       ⊥ written
   fault_of_schedule same (BadTrace at kind) f = (λ config store stands. trace_fault_in heap names config store stands g in_range n number text kind at f, same)
   fault_of_schedule same (BadSchedule at kind) f = (λ config store stands. schedule_fault_in heap names config store stands g in_range n number text kind at f, same)
   fault_of_schedule same (HeapFull None) f = absurd f
   fault_of_schedule same (HeapFull (Some at)) f = (λ config store stands. blocks_wanted_in heap names config store stands g in_range n number text at f.0 f.1, same)
   fault_of_schedule same (NoMemory None) f = absurd f
-  fault_of_schedule same (NoMemory (Some at)) (inl is) = (λ config store stands. subst (λ k. AfterCollect g text (λ left. IsSoundAt config n (record { heap = heap; names = names; store = store }) number left k)) (sym is) (no_memory_at heap names config store stands g in_range n number text), same)
+  fault_of_schedule same (NoMemory (Some at)) (inl is) = (λ config store stands. subst (λ k. AfterCollect g text (λ left. IsSoundAt config n (record { heap = heap; names = names; store = store }) number left k [])) (sym is) (no_memory_at heap names config store stands g in_range n number text), same)
   fault_of_schedule same (NoMemory (Some at)) (inr f) = (λ config store stands. no_memory_in heap names config store stands g in_range n number text at f, same)
   fault_of_schedule same ReadFailed f = absurd f
   fault_of_schedule same WriteFailed f = absurd f
 
-  -- what a report's text was refused, where all have ended
-  pub fault_of_writing : (line : ℕ) → StopsAt (OfLine (IsSoundLine (setting_at heap g n))) (setting_at heap g n) (opening_at heap g n) (number + 1) text line
-      → (none failed : Type 0) → (none → new ≡ old) → (failed → written) → (e : Fault)
-      → MatchFault e (λ _ _. ⊥) (λ _. ⊥) (λ at. (at ≡ Some line) × none) ⊥ failed
-      → MatchEachFault e
-      (λ at kind. AtEach (StandsFor heap names) (λ config store. AfterCollect g text (λ left. HasTraceFault config n kind (record { heap = heap; names = names; store = store }) number left at)) × (new ≡ old))
-      (λ at kind. AtEach (StandsFor heap names) (λ config store. AfterCollect g text (λ left. HasScheduleFault config n kind (record { heap = heap; names = names; store = store }) number left at)) × (new ≡ old))
-      (λ at. MatchOption at ⊥ (λ line. AtEach (StandsFor heap names) (λ config store. AfterCollect g text (λ left. WantsBlocks config n (record { heap = heap; names = names; store = store }) number left line))) × (new ≡ old))
-      (λ at. MatchOption at ⊥ (λ line. AtEach (StandsFor heap names) (λ config store. AfterCollect g text (λ left. IsSoundAt config n (record { heap = heap; names = names; store = store }) number left line))) × (new ≡ old))
-      ⊥ written
-  fault_of_writing line stop none failed same told (BadTrace at kind) f = absurd f
-  fault_of_writing line stop none failed same told (BadSchedule at kind) f = absurd f
-  fault_of_writing line stop none failed same told (HeapFull at) f = absurd f
-  fault_of_writing line stop none failed same told (NoMemory None) f = absurd (let is = f.0 in cc)
-  fault_of_writing line stop none failed same told (NoMemory (Some at)) f =
-      let is : line ≡ at = let e = f.0 in cc in
-      (λ config store stands. no_memory_in heap names config store stands g in_range n number text at (subst (λ k. StopsAt (OfLine (IsSoundLine (setting_at heap g n))) (setting_at heap g n) (opening_at heap g n) (number + 1) text k) is stop), same f.1)
-  fault_of_writing line stop none failed same told ReadFailed f = absurd f
-  fault_of_writing line stop none failed same told WriteFailed f = told f
-
 -- what was brought is committed
+pub is_collected : (heap : HeapValue) (g : ℕ) (last : System) (collection : CollectionValue) (places : List (Option Place)) (blocks : List BlockValue) (workers : List WorkerLists) (deliveries : List Delivery) → IsBrought heap g last collection places blocks workers deliveries
+    → (kept freed : ℕ) (heap' : HeapValue) → CollectedHeap heap collection.generation (renaming_of (young_names heap.graph collection.generation) (all_won workers)) heap'
+    → LiveCount heap.graph collection.generation kept → kept ≡ sum_by (λ (w : WorkerLists). length w.won) workers → kept + freed ≡ length (young_names heap.graph collection.generation) → Collects heap g kept freed workers heap'
+is_collected heap g last collection places blocks workers deliveries b kept freed heap' moves live sum count = record {
+  heap = subst (λ k. CollectedHeap heap k (renaming_of (young_names heap.graph k) (all_won workers)) heap') b.generation_is moves;
+  kept_is = subst (λ k. LiveCount heap.graph k kept) b.generation_is live;
+  kept_sum = sum;
+  freed_is = subst (λ k. kept + freed ≡ length (young_names heap.graph k)) b.generation_is count;
+  once = b.once;
+}
+
+-- where a schedule brought it
 module _ (heap : HeapValue) (g n number : ℕ) (text : List ℕ) (commit : ℕ) (rest : List ℕ) (collection : CollectionValue) (places : List (Option Place)) (blocks : List BlockValue) (workers : List WorkerLists) (deliveries : List Delivery) (b : BringsToCommit heap g n number text commit rest collection places blocks workers deliveries) where
   pub at_commit : StopsAt (OfLine (IsSoundLine (setting_at heap g n))) (setting_at heap g n) (opening_at heap g n) (number + 1) text commit
   at_commit = record {
@@ -161,24 +153,18 @@ module _ (heap : HeapValue) (g n number : ℕ) (text : List ℕ) (commit : ℕ) 
     more = pieces rest;
     pieces_are = b.schedule.pieces_are;
     number_is = b.schedule.number_is;
-    holds = record { said = Commit; says = b.schedule.commits; may = b.reports_are.ended };
+    holds = record { said = Commit; says = b.schedule.commits; may = b.brought.reports_are.ended };
   }
 
   module _ (kept freed : ℕ) (heap' : HeapValue) (moves : CollectedHeap heap collection.generation (renaming_of (young_names heap.graph collection.generation) (all_won workers)) heap')
       (live : LiveCount heap.graph collection.generation kept) (sum : kept ≡ sum_by (λ (w : WorkerLists). length w.won) workers) (count : kept + freed ≡ length (young_names heap.graph collection.generation)) where
     collects : Collects heap g kept freed workers heap'
-    collects = record {
-      heap = subst (λ k. CollectedHeap heap k (renaming_of (young_names heap.graph k) (all_won workers)) heap') b.generation_is moves;
-      kept_is = subst (λ k. LiveCount heap.graph k kept) b.generation_is live;
-      kept_sum = sum;
-      freed_is = subst (λ k. kept + freed ≡ length (young_names heap.graph k)) b.generation_is count;
-      once = b.once;
-    }
+    collects = is_collected heap g b.last collection places blocks workers deliveries b.brought kept freed heap' moves live sum count
 
     together : CollectsTogether heap g n kept freed workers deliveries heap'
     together =
         let run = lines_run (setting_at heap g n) b.schedule.run in
-        record { collects = collects; runs = record { last = b.last; events = run.0; run = run.1; reports_are = b.reports_are } }
+        record { collects = collects; runs = record { last = b.last; events = run.0; run = run.1; reports_are = b.brought.reports_are } }
 
     pub collected_to : (names : List (List ℕ × ℕ)) (config : Config) (store : Store) (stands : StandsFor heap names config store) → g < heap.config.shape.generations
         → (printed printed' : Option (List ℕ)) → Appends printed printed' (report_text Command g kept freed workers deliveries)
@@ -196,7 +182,7 @@ module _ (heap : HeapValue) (g n number : ℕ) (text : List ℕ) (commit : ℕ) 
         collects = collects;
         last = b.last;
         run = b.schedule.run;
-        reports_are = b.reports_are;
+        reports_are = b.brought.reports_are;
         out_is =
             ap (λ k. report_text Command g k freed workers deliveries) (kept_same heap names config store stands g kept freed workers heap' collects)
             ∙ ap (λ f. report_text Command g (kept_count store g) f workers deliveries) (freed_same heap names config store stands g kept freed workers heap' collects);

@@ -1,6 +1,7 @@
 -- A replay goes on by one line, and stops at one.
-use Rattle.std.proofs.Common.{◌≡◌, ℕ, ◌+◌, ◌<◌, ◌≤◌, true, false, List, [], ◌∷◌, ◌++◌, length, length-append, map, Option, Some, None, Result, Ok, Err, refl, sym, ap, subst, ◌∙◌, append_assoc, append-nil, arith, rules}
+use Rattle.std.proofs.Common.{◌≡◌, ℕ, ◌+◌, ◌<◌, ◌≤◌, true, false, List, [], ◌∷◌, ◌++◌, length, length-append, map, Option, Some, None, Result, Ok, Err, refl, sym, ap, subst, ◌∙◌, append_assoc, append-nil, arith, rules, ◌⊎◌, inl, inr}
 use Rattle.std.specs.Prelude.{nat_lt, MatchOption, IfOk, IfErr}
+use Rattle.std.specs.Io.KnownBytes.{Appends}
 use Rattle.std.proofs.KnownBytes.{Appends-nil, Appends-trans}
 use Rattle.std.proofs.lemmas.List.{length-map}
 use Rattle.model.specs.declared.kind.Kind.TheVariants.{LineTooLong, UnfinishedLine}
@@ -13,14 +14,12 @@ use Rattle.trace_lines.specs.declared.fault.Fault.TheVariants.{BadTrace, BadSche
 use Rattle.trace_lines.specs.Faults.{MatchFault, MatchEachFault}
 use Rattle.trace_lines.specs.Pieces.{HasNoFeed, Piece, finished, unfinished, pieces}
 use Rattle.trace_lines.specs.Outcome.{line_step}
-use Rattle.trace_lines.specs.Sound.{IsSound}
-use Rattle.trace_lines.specs.Stepped.{AtEach, StepsTo}
+use Rattle.trace_lines.specs.Stepped.{AtEach, Writes}
 use Rattle.trace_lines.proofs.PieceLemmas.{pieces_line, pieces_last}
 use Rattle.trace_step.specs.SessionType.{Session}
-use Rattle.trace_step.specs.Refusals.{MayBeFull}
 use Rattle.trace_step.specs.Session.{Stands}
-use Rattle.trace_replay.specs.Replays.{State, state_of, IsNoCollection, Replays, stay, step, collection, CollectsTo, ReplaysTo, ReplaysAll}
-use Rattle.trace_replay.specs.ReplayStops.{AfterCollect, HasTraceFault, HasScheduleFault, WantsBlocks, IsSoundAt, StopsIn, outside}
+use Rattle.trace_replay.specs.Replays.{State, state_of, Steps, StepsWithRoom, Replays, stay, step, with_room, collection, CollectsTo, LineReplayed, ReplaysTo, ReplaysAll}
+use Rattle.trace_replay.specs.ReplayStops.{AfterCollect, HasTraceFault, HasScheduleFault, WantsRoom, WantsBlocks, IsLineSoFar, IsSoundAt, Quietly, StopsIn, outside}
 use Rattle.trace_replay.specs.ReplayStops as stops
 
 -- what follows for each answer
@@ -37,22 +36,28 @@ module _ (config : Config) (n : ℕ) where
   replays_append stay then = then
   replays_append {s} {last = last} {b = b} {more = more} (step {line = line} {out = out} {more = rest_out} {rest = rest} steps rest_is) then =
       subst (λ o. Replays config n s (finished line ∷ (rest ++ b)) o last) (sym (append_assoc out rest_out more)) (step steps (replays_append rest_is then))
+  replays_append {s} {last = last} {b = b} {more = more} (with_room {line = line} {out = out} {more = rest_out} {rest = rest} steps rest_is) then =
+      subst (λ o. Replays config n s (finished line ∷ (rest ++ b)) o last) (sym (append_assoc out rest_out more)) (with_room steps (replays_append rest_is then))
   replays_append {s} {last = last} {b = b} {more = more} (collection {line = line} {out = out} {more = rest_out} {lines = lines} {rest = rest} ends asks collects commits rest_is) then =
       subst (λ ps. Replays config n s (finished line ∷ ps) ((out ++ rest_out) ++ more) last) (sym (append_assoc (map finished lines) (finished ends ∷ rest) b))
       (subst (λ o. Replays config n s (finished line ∷ (map finished lines ++ finished ends ∷ (rest ++ b))) o last) (sym (append_assoc out rest_out more)) (collection ends asks collects commits (replays_append rest_is then)))
 
   module _ {A : Type 0} (session : Session A) (old : State) (number : ℕ) where
-    pub goes_by_line : (line after : List ℕ) (printed printed' : Option (List ℕ)) → IsNoCollection (entry_of line) → StepsTo (Stands session) config (line_step config old.store line) printed printed'
+    one_line : {new : State} (line : List ℕ) (out : List ℕ) → Steps config old line out new ⊎ StepsWithRoom config n old line out new → Replays config n old (finished line ∷ []) (out ++ []) new
+    one_line line out (inl steps) = step steps stay
+    one_line line out (inr steps) = with_room steps stay
+
+    pub goes_by_line : (line after : List ℕ) (printed printed' : Option (List ℕ)) → LineReplayed session config n old line printed printed'
         → ReplaysTo session config n old number (finished line ∷ pieces after) (number + 1) after printed printed'
-    goes_by_line line after printed printed' plain steps = record {
-      store' = steps.next;
-      stands' = steps.stands';
+    goes_by_line line after printed printed' done = record {
+      store' = done.store';
+      stands' = done.stands';
       lines = finished line ∷ [];
-      out = steps.out ++ [];
-      replays = step (record { plain = plain; steps = steps.steps; holds = steps.stands' }) stay;
+      out = done.out ++ [];
+      replays = one_line line done.out done.steps;
       left_is = refl;
       number_is = refl;
-      held = rw (append-nil steps.out) steps.held;
+      held = rw (append-nil done.out) done.held;
     }
 
     pub goes_by_schedule : (g : ℕ) (line text : List ℕ) (number' : ℕ) (rest : List ℕ) (printed printed' : Option (List ℕ)) → entry_of line ≡ Ok (Some (Collect g)) → CollectsTo session config n g old number text number' rest printed printed'
@@ -84,17 +89,22 @@ module _ (config : Config) (n : ℕ) where
       held = Appends-trans printed printed' printed'' so_far.out next.out so_far.held next.held;
     }
 
-    pub stops_here : (P : State → ℕ → List Piece → ℕ → Type 0) (left' : List Piece) (at : ℕ) → pieces rest ≡ left' → P (state_of mid so_far.store') number' left' at → StopsIn P config n old number left at printed printed'
-    stops_here P left' at is holds = record {
+    pub stops_here : (P : State → ℕ → List Piece → ℕ → List ℕ → Type 0) (left' : List Piece) (at : ℕ) (printed'' : Option (List ℕ)) → pieces rest ≡ left' → Writes (P (state_of mid so_far.store') number' left' at) printed' printed'' → StopsIn P config n old number left at printed printed''
+    stops_here P left' at printed'' is own = record {
       lines = so_far.lines;
       out = so_far.out;
       mid = state_of mid so_far.store';
       replays = so_far.replays;
       left = left';
       all_are = so_far.left_is ∙ ap (λ ps. so_far.lines ++ ps) is;
-      held = so_far.held;
-      holds = subst (λ k. P (state_of mid so_far.store') k left' at) so_far.number_is holds;
+      written = own.written;
+      held = Appends-trans printed printed' printed'' so_far.out own.written so_far.held own.held;
+      holds = subst (λ k. P (state_of mid so_far.store') k left' at own.written) so_far.number_is own.holds;
     }
+
+    -- at a line that has written nothing
+    pub stops_quietly : (P : State → ℕ → List Piece → ℕ → Type 0) (left' : List Piece) (at : ℕ) → pieces rest ≡ left' → P (state_of mid so_far.store') number' left' at → StopsIn (Quietly P) config n old number left at printed printed'
+    stops_quietly P left' at is holds = stops_here (Quietly P) left' at printed' is (record { written = []; held = Appends-nil printed'; holds = (holds, refl) })
 
     no_pieces : (text : List ℕ) → length text ≡ 0 → pieces text ≡ []
     unfolding pieces
@@ -113,60 +123,60 @@ module _ (config : Config) (n : ℕ) where
       held = so_far.held;
     }
 
-    pub ends_long : HasNoFeed rest → 4096 < length rest → StopsIn (HasTraceFault config n LineTooLong) config n old number left number' printed printed'
+    pub ends_long : HasNoFeed rest → 4096 < length rest → StopsIn (Quietly (HasTraceFault config n LineTooLong)) config n old number left number' printed printed'
     ends_long free long =
         let too_long : nat_lt 4096 (length rest) ≡ true = search rules in
-        stops_here (HasTraceFault config n LineTooLong) _ number' (one_piece rest free (omega (arith, long))) (outside {p = unfinished rest} refl refl (rw too_long refl))
+        stops_quietly (HasTraceFault config n LineTooLong) _ number' (one_piece rest free (omega (arith, long))) (outside {p = unfinished rest} refl refl (rw too_long refl))
 
-    pub ends_unfinished : HasNoFeed rest → 0 < length rest → length rest ≤ 4096 → StopsIn (HasTraceFault config n UnfinishedLine) config n old number left number' printed printed'
+    pub ends_unfinished : HasNoFeed rest → 0 < length rest → length rest ≤ 4096 → StopsIn (Quietly (HasTraceFault config n UnfinishedLine)) config n old number left number' printed printed'
     ends_unfinished free some short =
         let fits : nat_lt 4096 (length rest) ≡ false = search rules in
-        stops_here (HasTraceFault config n UnfinishedLine) _ number' (one_piece rest free some) (outside {p = unfinished rest} refl refl (rw fits refl))
+        stops_quietly (HasTraceFault config n UnfinishedLine) _ number' (one_piece rest free some) (outside {p = unfinished rest} refl refl (rw fits refl))
 
 -- the fault of a line outside schedules
-module _ {A : Type 0} (session : Session A) (n number : ℕ) (line after : List ℕ) (plain : IsNoCollection (entry_of line)) {W : Type 0} (old new : W) (written : Type 0) where
+module _ {A : Type 0} (session : Session A) (n number : ℕ) (line after : List ℕ) {W : Type 0} (contents : W → Option (List ℕ)) (old new : W) (written : Type 0) where
   pub fault_of_line : (e : Fault)
       → MatchFault e
-      (λ at kind. (at ≡ number) × AtEach (Stands session) (λ config store. line_step config store line ≡ Err kind) × (new ≡ old))
-      (λ at. (at ≡ Some number) × AtEach (Stands session) (λ config store. MayBeFull config store line) × (new ≡ old))
-      (λ at. (at ≡ Some number) × AtEach (Stands session) (λ config store. IsSound config store line) × (new ≡ old))
+      (λ at kind. (at ≡ number) × AtEach (Stands session) (λ config store. (line_step config store line ≡ Err kind) × (new ≡ old)))
+      (λ at. (at ≡ Some number) × AtEach (Stands session) (λ config store. WantsRoom config n (state_of session store) line × (new ≡ old)))
+      (λ at. (at ≡ Some number) × AtEach (Stands session) (λ config store. Writes (IsLineSoFar config n (state_of session store) line) (contents old) (contents new)))
       ⊥ written
       → MatchEachFault e
-      (λ at kind. AtEach (Stands session) (λ config store. HasTraceFault config n kind (state_of session store) number (finished line ∷ pieces after) at) × (new ≡ old))
-      (λ at kind. AtEach (Stands session) (λ config store. HasScheduleFault config n kind (state_of session store) number (finished line ∷ pieces after) at) × (new ≡ old))
-      (λ at. MatchOption at ⊥ (λ k. AtEach (Stands session) (λ config store. WantsBlocks config n (state_of session store) number (finished line ∷ pieces after) k)) × (new ≡ old))
-      (λ at. MatchOption at ⊥ (λ k. AtEach (Stands session) (λ config store. IsSoundAt config n (state_of session store) number (finished line ∷ pieces after) k)) × (new ≡ old))
+      (λ at kind. AtEach (Stands session) (λ config store. HasTraceFault config n kind (state_of session store) number (finished line ∷ pieces after) at × (new ≡ old)))
+      (λ at kind. AtEach (Stands session) (λ config store. HasScheduleFault config n kind (state_of session store) number (finished line ∷ pieces after) at × (new ≡ old)))
+      (λ at. MatchOption at ⊥ (λ k. AtEach (Stands session) (λ config store. WantsBlocks config n (state_of session store) number (finished line ∷ pieces after) k × (new ≡ old))))
+      (λ at. MatchOption at ⊥ (λ k. AtEach (Stands session) (λ config store. Writes (IsSoundAt config n (state_of session store) number (finished line ∷ pieces after) k) (contents old) (contents new))))
       ⊥ written
-  fault_of_line (BadTrace at kind) f = (λ config store stands. outside {p = finished line} refl f.0 (f.1 config store stands), f.2)
+  fault_of_line (BadTrace at kind) f = λ config store stands. let fault = f.1 config store stands in (outside {p = finished line} refl f.0 fault.0, fault.1)
   fault_of_line (BadSchedule at kind) f = absurd f
   fault_of_line (HeapFull None) f = absurd (let is = f.0 in cc)
-  fault_of_line (HeapFull (Some at)) f = (λ config store stands. stops.outside {line = line} refl (let is = f.0 in cc) plain (f.1 config store stands), f.2)
+  fault_of_line (HeapFull (Some at)) f = λ config store stands. let fault = f.1 config store stands in (stops.outside {line = line} refl (let is = f.0 in cc) fault.0, fault.1)
   fault_of_line (NoMemory None) f = absurd (let is = f.0 in cc)
-  fault_of_line (NoMemory (Some at)) f = (λ config store stands. stops.outside {line = line} refl (let is = f.0 in cc) (f.1 config store stands), f.2)
+  fault_of_line (NoMemory (Some at)) f = λ config store stands. let own = f.1 config store stands in record { written = own.written; held = own.held; holds = stops.outside {line = line} refl (let is = f.0 in cc) own.holds }
   fault_of_line ReadFailed f = f
   fault_of_line WriteFailed f = f
 
 -- that of a line with its schedule
-module _ {A : Type 0} (session : Session A) (n g number : ℕ) (line after : List ℕ) (asks : entry_of line ≡ Ok (Some (Collect g))) {W : Type 0} (old new : W) (written : Type 0) where
+module _ {A : Type 0} (session : Session A) (n g number : ℕ) (line after : List ℕ) (asks : entry_of line ≡ Ok (Some (Collect g))) {W : Type 0} (contents : W → Option (List ℕ)) (old new : W) (written : Type 0) where
   pub fault_of_schedule : (e : Fault)
       → MatchEachFault e
       (λ at kind. AtEach (Stands session) (λ config store. AfterCollect g after (λ left. HasTraceFault config n kind (state_of session store) number left at)) × (new ≡ old))
       (λ at kind. AtEach (Stands session) (λ config store. AfterCollect g after (λ left. HasScheduleFault config n kind (state_of session store) number left at)) × (new ≡ old))
       (λ at. MatchOption at ⊥ (λ k. AtEach (Stands session) (λ config store. AfterCollect g after (λ left. WantsBlocks config n (state_of session store) number left k))) × (new ≡ old))
-      (λ at. MatchOption at ⊥ (λ k. AtEach (Stands session) (λ config store. AfterCollect g after (λ left. IsSoundAt config n (state_of session store) number left k))) × (new ≡ old))
+      (λ at. MatchOption at ⊥ (λ k. AtEach (Stands session) (λ config store. AfterCollect g after (λ left. IsSoundAt config n (state_of session store) number left k []))) × (new ≡ old))
       ⊥ written
       → MatchEachFault e
-      (λ at kind. AtEach (Stands session) (λ config store. HasTraceFault config n kind (state_of session store) number (finished line ∷ pieces after) at) × (new ≡ old))
-      (λ at kind. AtEach (Stands session) (λ config store. HasScheduleFault config n kind (state_of session store) number (finished line ∷ pieces after) at) × (new ≡ old))
-      (λ at. MatchOption at ⊥ (λ k. AtEach (Stands session) (λ config store. WantsBlocks config n (state_of session store) number (finished line ∷ pieces after) k)) × (new ≡ old))
-      (λ at. MatchOption at ⊥ (λ k. AtEach (Stands session) (λ config store. IsSoundAt config n (state_of session store) number (finished line ∷ pieces after) k)) × (new ≡ old))
+      (λ at kind. AtEach (Stands session) (λ config store. HasTraceFault config n kind (state_of session store) number (finished line ∷ pieces after) at × (new ≡ old)))
+      (λ at kind. AtEach (Stands session) (λ config store. HasScheduleFault config n kind (state_of session store) number (finished line ∷ pieces after) at × (new ≡ old)))
+      (λ at. MatchOption at ⊥ (λ k. AtEach (Stands session) (λ config store. WantsBlocks config n (state_of session store) number (finished line ∷ pieces after) k × (new ≡ old))))
+      (λ at. MatchOption at ⊥ (λ k. AtEach (Stands session) (λ config store. Writes (IsSoundAt config n (state_of session store) number (finished line ∷ pieces after) k) (contents old) (contents new))))
       ⊥ written
-  fault_of_schedule (BadTrace at kind) f = (λ config store stands. f.0 config store stands line asks, f.1)
-  fault_of_schedule (BadSchedule at kind) f = (λ config store stands. f.0 config store stands line asks, f.1)
+  fault_of_schedule (BadTrace at kind) f = λ config store stands. (f.0 config store stands line asks, f.1)
+  fault_of_schedule (BadSchedule at kind) f = λ config store stands. (f.0 config store stands line asks, f.1)
   fault_of_schedule (HeapFull None) f = absurd f.0
-  fault_of_schedule (HeapFull (Some at)) f = (λ config store stands. f.0 config store stands line asks, f.1)
+  fault_of_schedule (HeapFull (Some at)) f = λ config store stands. (f.0 config store stands line asks, f.1)
   fault_of_schedule (NoMemory None) f = absurd f.0
-  fault_of_schedule (NoMemory (Some at)) f = (λ config store stands. f.0 config store stands line asks, f.1)
+  fault_of_schedule (NoMemory (Some at)) f = λ config store stands. record { written = []; held = subst (λ w. Appends (contents old) (contents w) []) (sym f.1) (Appends-nil (contents old)); holds = f.0 config store stands line asks }
   fault_of_schedule ReadFailed f = f
   fault_of_schedule WriteFailed f = f
 
@@ -187,31 +197,36 @@ module _ {A : Type 0} (old mid : Session A) (n number : ℕ) (text : List ℕ) (
       let here = so_far config store stands in
       joins config n mid (state_of old store) number (pieces text) number' rest printed (contents before) here new _ number'' rest' printed'' pieces_is (next config here.store' here.stands')
 
-  stops_somewhere : (P : Config → State → ℕ → List Piece → ℕ → Type 0) (at : ℕ) (after_it : W) → after_it ≡ before → AtEach (Stands mid) (λ config store. P config (state_of mid store) number' (finished line ∷ pieces after) at)
-      → AtEach (Stands old) (λ config store. StopsIn (P config) config n (state_of old store) number (pieces text) at printed (contents after_it))
-  stops_somewhere P at after_it same holds = λ config store stands.
+  stops_somewhere : (P : Config → State → ℕ → List Piece → ℕ → List ℕ → Type 0) (at : ℕ) (printed'' : Option (List ℕ)) → AtEach (Stands mid) (λ config store. Writes (P config (state_of mid store) number' (finished line ∷ pieces after) at) (contents before) printed'')
+      → AtEach (Stands old) (λ config store. StopsIn (P config) config n (state_of old store) number (pieces text) at printed printed'')
+  stops_somewhere P at printed'' own = λ config store stands.
       let here = so_far config store stands in
-      subst (λ w. StopsIn (P config) config n (state_of old store) number (pieces text) at printed (contents w)) (sym same)
-      (stops_here config n mid (state_of old store) number (pieces text) number' rest printed (contents before) here (P config) _ at pieces_is (holds config here.store' here.stands'))
+      stops_here config n mid (state_of old store) number (pieces text) number' rest printed (contents before) here (P config) _ at printed'' pieces_is (own config here.store' here.stands')
+
+  stops_silently : (P : Config → State → ℕ → List Piece → ℕ → Type 0) (at : ℕ) (new : W) → AtEach (Stands mid) (λ config store. P config (state_of mid store) number' (finished line ∷ pieces after) at × (new ≡ before))
+      → AtEach (Stands old) (λ config store. StopsIn (Quietly (P config)) config n (state_of old store) number (pieces text) at printed (contents new))
+  stops_silently P at new holds = stops_somewhere (λ config. Quietly (P config)) at (contents new) (λ config store stands.
+      let fault = holds config store stands in
+      record { written = []; held = subst (λ w. Appends (contents before) (contents w) []) (sym fault.1) (Appends-nil (contents before)); holds = (fault.0, refl) })
 
   pub fault_of_next : (new : W) (written written' : Type 0) → (written → written') → (e : Fault)
       → MatchEachFault e
-      (λ at kind. AtEach (Stands mid) (λ config store. HasTraceFault config n kind (state_of mid store) number' (finished line ∷ pieces after) at) × (new ≡ before))
-      (λ at kind. AtEach (Stands mid) (λ config store. HasScheduleFault config n kind (state_of mid store) number' (finished line ∷ pieces after) at) × (new ≡ before))
-      (λ at. MatchOption at ⊥ (λ k. AtEach (Stands mid) (λ config store. WantsBlocks config n (state_of mid store) number' (finished line ∷ pieces after) k)) × (new ≡ before))
-      (λ at. MatchOption at ⊥ (λ k. AtEach (Stands mid) (λ config store. IsSoundAt config n (state_of mid store) number' (finished line ∷ pieces after) k)) × (new ≡ before))
+      (λ at kind. AtEach (Stands mid) (λ config store. HasTraceFault config n kind (state_of mid store) number' (finished line ∷ pieces after) at × (new ≡ before)))
+      (λ at kind. AtEach (Stands mid) (λ config store. HasScheduleFault config n kind (state_of mid store) number' (finished line ∷ pieces after) at × (new ≡ before)))
+      (λ at. MatchOption at ⊥ (λ k. AtEach (Stands mid) (λ config store. WantsBlocks config n (state_of mid store) number' (finished line ∷ pieces after) k × (new ≡ before))))
+      (λ at. MatchOption at ⊥ (λ k. AtEach (Stands mid) (λ config store. Writes (IsSoundAt config n (state_of mid store) number' (finished line ∷ pieces after) k) (contents before) (contents new))))
       ⊥ written
       → MatchEachFault e
-      (λ at kind. AtEach (Stands old) (λ config store. StopsIn (HasTraceFault config n kind) config n (state_of old store) number (pieces text) at printed (contents new)))
-      (λ at kind. AtEach (Stands old) (λ config store. StopsIn (HasScheduleFault config n kind) config n (state_of old store) number (pieces text) at printed (contents new)))
-      (λ at. MatchOption at ⊥ (λ k. AtEach (Stands old) (λ config store. StopsIn (WantsBlocks config n) config n (state_of old store) number (pieces text) k printed (contents new))))
+      (λ at kind. AtEach (Stands old) (λ config store. StopsIn (Quietly (HasTraceFault config n kind)) config n (state_of old store) number (pieces text) at printed (contents new)))
+      (λ at kind. AtEach (Stands old) (λ config store. StopsIn (Quietly (HasScheduleFault config n kind)) config n (state_of old store) number (pieces text) at printed (contents new)))
+      (λ at. MatchOption at ⊥ (λ k. AtEach (Stands old) (λ config store. StopsIn (Quietly (WantsBlocks config n)) config n (state_of old store) number (pieces text) k printed (contents new))))
       (λ at. MatchOption at ⊥ (λ k. AtEach (Stands old) (λ config store. StopsIn (IsSoundAt config n) config n (state_of old store) number (pieces text) k printed (contents new))))
       ⊥ written'
-  fault_of_next new written written' told (BadTrace at kind) f = stops_somewhere (λ config. HasTraceFault config n kind) at new f.1 f.0
-  fault_of_next new written written' told (BadSchedule at kind) f = stops_somewhere (λ config. HasScheduleFault config n kind) at new f.1 f.0
-  fault_of_next new written written' told (HeapFull None) f = f.0
-  fault_of_next new written written' told (HeapFull (Some at)) f = stops_somewhere (λ config. WantsBlocks config n) at new f.1 f.0
-  fault_of_next new written written' told (NoMemory None) f = f.0
-  fault_of_next new written written' told (NoMemory (Some at)) f = stops_somewhere (λ config. IsSoundAt config n) at new f.1 f.0
+  fault_of_next new written written' told (BadTrace at kind) f = stops_silently (λ config. HasTraceFault config n kind) at new f
+  fault_of_next new written written' told (BadSchedule at kind) f = stops_silently (λ config. HasScheduleFault config n kind) at new f
+  fault_of_next new written written' told (HeapFull None) f = f
+  fault_of_next new written written' told (HeapFull (Some at)) f = stops_silently (λ config. WantsBlocks config n) at new f
+  fault_of_next new written written' told (NoMemory None) f = f
+  fault_of_next new written written' told (NoMemory (Some at)) f = stops_somewhere (λ config. IsSoundAt config n) at (contents new) f
   fault_of_next new written written' told ReadFailed f = f
   fault_of_next new written written' told WriteFailed f = told f

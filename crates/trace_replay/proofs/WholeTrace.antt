@@ -11,7 +11,7 @@ use Rattle.trace_lines.specs.Stepped.{AtEach}
 use Rattle.trace_step.specs.SessionType.{Session}
 use Rattle.trace_step.specs.Session.{Stands}
 use Rattle.trace_replay.specs.Replays.{State, state_of, ReplaysAll, IsReplayed}
-use Rattle.trace_replay.specs.ReplayStops.{HasTraceFault, HasScheduleFault, WantsBlocks, IsSoundAt, StopsIn, Stops}
+use Rattle.trace_replay.specs.ReplayStops.{HasTraceFault, HasScheduleFault, WantsBlocks, IsSoundAt, Quietly, StopsIn, Stops}
 
 module _ {A : Type 0} (session : Session A) (config : Config) (stands : Stands session config (empty_store config)) (n : ℕ) (text : List ℕ) (printed printed' : Option (List ℕ)) where
   pub whole_trace : (input : Option (List ℕ)) → IfSome input (λ xs. text ≡ xs) → AtEach (Stands session) (λ config store. ReplaysAll config n (state_of session store) (pieces text) printed printed') → IfSome input (IsReplayed config n printed printed')
@@ -23,7 +23,7 @@ module _ {A : Type 0} (session : Session A) (config : Config) (stands : Stands s
     replays = subst (λ xs. ReplaysAll config n (state_of session (empty_store config)) (pieces xs) printed printed') is (all config (empty_store config) stands);
   }
 
-  stops_somewhere : (P : Config → State → ℕ → List Piece → ℕ → Type 0) (at : ℕ) (input : Option (List ℕ)) → IfSome input (λ xs. text ≡ xs)
+  stops_somewhere : (P : Config → State → ℕ → List Piece → ℕ → List ℕ → Type 0) (at : ℕ) (input : Option (List ℕ)) → IfSome input (λ xs. text ≡ xs)
       → AtEach (Stands session) (λ config store. StopsIn (P config) config n (state_of session store) 1 (pieces text) at printed printed') → IfSome input (Stops (P config) config n at printed printed')
   stops_somewhere P at None is stops = tt
   stops_somewhere P at (Some input) is stops = record {
@@ -35,21 +35,21 @@ module _ {A : Type 0} (session : Session A) (config : Config) (stands : Stands s
 
   pub fault_of_trace : (input : Option (List ℕ)) → IfSome input (λ xs. text ≡ xs) → (full memory read written : Type 0) → (e : Fault)
       → MatchEachFault e
-      (λ at kind. AtEach (Stands session) (λ config store. StopsIn (HasTraceFault config n kind) config n (state_of session store) 1 (pieces text) at printed printed'))
-      (λ at kind. AtEach (Stands session) (λ config store. StopsIn (HasScheduleFault config n kind) config n (state_of session store) 1 (pieces text) at printed printed'))
-      (λ at. MatchOption at ⊥ (λ line. AtEach (Stands session) (λ config store. StopsIn (WantsBlocks config n) config n (state_of session store) 1 (pieces text) line printed printed')))
+      (λ at kind. AtEach (Stands session) (λ config store. StopsIn (Quietly (HasTraceFault config n kind)) config n (state_of session store) 1 (pieces text) at printed printed'))
+      (λ at kind. AtEach (Stands session) (λ config store. StopsIn (Quietly (HasScheduleFault config n kind)) config n (state_of session store) 1 (pieces text) at printed printed'))
+      (λ at. MatchOption at ⊥ (λ line. AtEach (Stands session) (λ config store. StopsIn (Quietly (WantsBlocks config n)) config n (state_of session store) 1 (pieces text) line printed printed')))
       (λ at. MatchOption at ⊥ (λ line. AtEach (Stands session) (λ config store. StopsIn (IsSoundAt config n) config n (state_of session store) 1 (pieces text) line printed printed')))
       ⊥ written
       → MatchEachFault e
-      (λ at kind. IfSome input (Stops (HasTraceFault config n kind) config n at printed printed'))
-      (λ at kind. IfSome input (Stops (HasScheduleFault config n kind) config n at printed printed'))
-      (λ at. MatchOption at full (λ line. IfSome input (Stops (WantsBlocks config n) config n line printed printed')))
+      (λ at kind. IfSome input (Stops (Quietly (HasTraceFault config n kind)) config n at printed printed'))
+      (λ at kind. IfSome input (Stops (Quietly (HasScheduleFault config n kind)) config n at printed printed'))
+      (λ at. MatchOption at full (λ line. IfSome input (Stops (Quietly (WantsBlocks config n)) config n line printed printed')))
       (λ at. MatchOption at memory (λ line. IfSome input (Stops (IsSoundAt config n) config n line printed printed')))
       read written
-  fault_of_trace input is full memory read written (BadTrace at kind) f = stops_somewhere (λ config. HasTraceFault config n kind) at input is f
-  fault_of_trace input is full memory read written (BadSchedule at kind) f = stops_somewhere (λ config. HasScheduleFault config n kind) at input is f
+  fault_of_trace input is full memory read written (BadTrace at kind) f = stops_somewhere (λ config. Quietly (HasTraceFault config n kind)) at input is f
+  fault_of_trace input is full memory read written (BadSchedule at kind) f = stops_somewhere (λ config. Quietly (HasScheduleFault config n kind)) at input is f
   fault_of_trace input is full memory read written (HeapFull None) f = absurd f
-  fault_of_trace input is full memory read written (HeapFull (Some at)) f = stops_somewhere (λ config. WantsBlocks config n) at input is f
+  fault_of_trace input is full memory read written (HeapFull (Some at)) f = stops_somewhere (λ config. Quietly (WantsBlocks config n)) at input is f
   fault_of_trace input is full memory read written (NoMemory None) f = absurd f
   fault_of_trace input is full memory read written (NoMemory (Some at)) f = stops_somewhere (λ config. IsSoundAt config n) at input is f
   fault_of_trace input is full memory read written ReadFailed f = absurd f
@@ -62,15 +62,15 @@ module _ {A : Type 0} (session : Session A) (config : Config) (stands : Stands s
 
   pub fault_if_err : (input : Option (List ℕ)) → IfSome input (λ xs. text ≡ xs) → (full memory read written : Type 0) → {T : Type 0} (r : Result T Fault)
       → IfErr r (λ e. MatchEachFault e
-      (λ at kind. AtEach (Stands session) (λ config store. StopsIn (HasTraceFault config n kind) config n (state_of session store) 1 (pieces text) at printed printed'))
-      (λ at kind. AtEach (Stands session) (λ config store. StopsIn (HasScheduleFault config n kind) config n (state_of session store) 1 (pieces text) at printed printed'))
-      (λ at. MatchOption at ⊥ (λ line. AtEach (Stands session) (λ config store. StopsIn (WantsBlocks config n) config n (state_of session store) 1 (pieces text) line printed printed')))
+      (λ at kind. AtEach (Stands session) (λ config store. StopsIn (Quietly (HasTraceFault config n kind)) config n (state_of session store) 1 (pieces text) at printed printed'))
+      (λ at kind. AtEach (Stands session) (λ config store. StopsIn (Quietly (HasScheduleFault config n kind)) config n (state_of session store) 1 (pieces text) at printed printed'))
+      (λ at. MatchOption at ⊥ (λ line. AtEach (Stands session) (λ config store. StopsIn (Quietly (WantsBlocks config n)) config n (state_of session store) 1 (pieces text) line printed printed')))
       (λ at. MatchOption at ⊥ (λ line. AtEach (Stands session) (λ config store. StopsIn (IsSoundAt config n) config n (state_of session store) 1 (pieces text) line printed printed')))
       ⊥ written)
       → IfErr r (λ e. MatchEachFault e
-      (λ at kind. IfSome input (Stops (HasTraceFault config n kind) config n at printed printed'))
-      (λ at kind. IfSome input (Stops (HasScheduleFault config n kind) config n at printed printed'))
-      (λ at. MatchOption at full (λ line. IfSome input (Stops (WantsBlocks config n) config n line printed printed')))
+      (λ at kind. IfSome input (Stops (Quietly (HasTraceFault config n kind)) config n at printed printed'))
+      (λ at kind. IfSome input (Stops (Quietly (HasScheduleFault config n kind)) config n at printed printed'))
+      (λ at. MatchOption at full (λ line. IfSome input (Stops (Quietly (WantsBlocks config n)) config n line printed printed')))
       (λ at. MatchOption at memory (λ line. IfSome input (Stops (IsSoundAt config n) config n line printed printed')))
       read written)
   fault_if_err input is full memory read written (Ok x) f = tt

@@ -1,5 +1,5 @@
 -- Where the replay of a trace stops.
-use Rattle.std.specs.Prelude.{◌≡◌, ℕ, ◌+◌, List, ◌∷◌, ◌++◌, length, Option, Some, Ok, Err}
+use Rattle.std.specs.Prelude.{◌≡◌, ℕ, ◌+◌, ◌⊎◌, List, [], ◌∷◌, ◌++◌, length, Option, Some, Ok, Err}
 use Rattle.std.specs.Io.KnownBytes.{Appends}
 use Rattle.model.specs.Config.{Config}
 use Rattle.model.specs.Store.{empty_store}
@@ -12,9 +12,9 @@ use Rattle.trace_text.specs.declared.schedule.ScheduleKind.{ScheduleKind}
 use Rattle.trace_lines.specs.Pieces.{Piece, finished, pieces}
 use Rattle.trace_lines.specs.Outcome.{piece_step}
 use Rattle.trace_lines.specs.Sound.{IsSound, IsSoundCommand}
-use Rattle.trace_step.specs.Refusals.{MayBeFull}
+use Rattle.trace_lines.specs.CollectsFirst.{LineCollectsFirst}
 use Rattle.schedules.specs.Stops.{IsUnreadable, IsRefusedBlocks, IsSoundLine, OfLine, StopsAt, StopsWith}
-use Rattle.trace_replay.specs.Replays.{State, Holds, IsNoCollection, Replays}
+use Rattle.trace_replay.specs.Replays.{State, Holds, HasMadeRoom, Replays}
 
 -- a `collect` line without a fault, and the text after it
 pub record OpensSchedule (config : Config) (s : State) (left : List Piece) : Type 0 where
@@ -39,29 +39,44 @@ pub record HasScheduleFault (config : Config) (n : ℕ) (kind : ScheduleKind) (s
   pub opens : OpensSchedule config s left
   pub stops : StopsWith (setting_at s.heap opens.g n) (opening_at s.heap opens.g n) number opens.text at kind
 
--- it has no fault, and blocks are wanting in it
+-- a new object without a fault for which there is no room, and too few blocks for n workers to collect generation 0
+pub record WantsRoom (config : Config) (n : ℕ) (s : State) (line : List ℕ) : Type 0 where
+  pub sound : IsSound config s.store line
+  pub first : LineCollectsFirst config s.store line
+  pub short : IsShortOfBlocks s.heap 0 n
+
+-- the line has no fault, and blocks are wanting in it
 pub data WantsBlocks (config : Config) (n : ℕ) (s : State) (number : ℕ) (left : List Piece) (at : ℕ) : Type 0 where
-  outside : {line : List ℕ} {rest : List Piece} → left ≡ finished line ∷ rest → at ≡ number → IsNoCollection (entry_of line) → MayBeFull config s.store line → WantsBlocks config n s number left at
+  outside : {line : List ℕ} {rest : List Piece} → left ≡ finished line ∷ rest → at ≡ number → WantsRoom config n s line → WantsBlocks config n s number left at
   inside : (opens : OpensSchedule config s left) → StopsAt (OfLine (IsRefusedBlocks (setting_at s.heap opens.g n))) (setting_at s.heap opens.g n) (opening_at s.heap opens.g n) (number + 1) opens.text at → IsShortOfBlocks s.heap opens.g n → WantsBlocks config n s number left at
 
--- it has no fault
-pub data IsSoundAt (config : Config) (n : ℕ) (s : State) (number : ℕ) (left : List Piece) (at : ℕ) : Type 0 where
-  outside : {line : List ℕ} {rest : List Piece} → left ≡ finished line ∷ rest → at ≡ number → IsSound config s.store line → IsSoundAt config n s number left at
-  inside : (opens : OpensSchedule config s left) → StopsAt (OfLine (IsSoundLine (setting_at s.heap opens.g n))) (setting_at s.heap opens.g n) (opening_at s.heap opens.g n) (number + 1) opens.text at → IsSoundAt config n s number left at
+-- a line without a fault, so far as it was carried out: it has written nothing yet, or of the collection that came first
+abbrev pub IsLineSoFar : Config → ℕ → State → List ℕ → (written : List ℕ) → Type 0
+IsLineSoFar config n s line written = IsSound config s.store line × ((written ≡ []) ⊎ (LineCollectsFirst config s.store line × HasMadeRoom n s written))
 
--- from line `number` on lines were carried out and printed, and P holds of where they lead, of the number of the next line, of all pieces that are left, and of line `at`
-pub record StopsIn (P : State → ℕ → List Piece → ℕ → Type 0) (config : Config) (n : ℕ) (old : State) (number : ℕ) (all : List Piece) (at : ℕ) (printed printed' : Option (List ℕ)) : Type 0 where
+-- it has no fault, and has written so much
+pub data IsSoundAt (config : Config) (n : ℕ) (s : State) (number : ℕ) (left : List Piece) (at : ℕ) (written : List ℕ) : Type 0 where
+  outside : {line : List ℕ} {rest : List Piece} → left ≡ finished line ∷ rest → at ≡ number → IsLineSoFar config n s line written → IsSoundAt config n s number left at written
+  inside : (opens : OpensSchedule config s left) → StopsAt (OfLine (IsSoundLine (setting_at s.heap opens.g n))) (setting_at s.heap opens.g n) (opening_at s.heap opens.g n) (number + 1) opens.text at → written ≡ [] → IsSoundAt config n s number left at written
+
+-- P of a line that has written nothing
+abbrev pub Quietly : (State → ℕ → List Piece → ℕ → Type 0) → State → ℕ → List Piece → ℕ → (written : List ℕ) → Type 0
+Quietly P s number left at written = P s number left at × (written ≡ [])
+
+-- from line `number` on lines were carried out and printed, and then what line `at` has written; P holds of where they lead, of the number of the next line, of all pieces that are left, of line `at` and of what it has written
+pub record StopsIn (P : State → ℕ → List Piece → ℕ → List ℕ → Type 0) (config : Config) (n : ℕ) (old : State) (number : ℕ) (all : List Piece) (at : ℕ) (printed printed' : Option (List ℕ)) : Type 0 where
   pub lines : List Piece
   pub out : List ℕ
   pub mid : State
   pub replays : Replays config n old lines out mid
   pub left : List Piece
   pub all_are : all ≡ lines ++ left
-  pub held : Appends printed printed' out
-  pub holds : P mid (number + length lines) left at
+  pub written : List ℕ
+  pub held : Appends printed printed' (out ++ written)
+  pub holds : P mid (number + length lines) left at written
 
 -- the same of a whole text, from a heap without objects on
-pub record Stops (P : State → ℕ → List Piece → ℕ → Type 0) (config : Config) (n : ℕ) (at : ℕ) (printed printed' : Option (List ℕ)) (text : List ℕ) : Type 0 where
+pub record Stops (P : State → ℕ → List Piece → ℕ → List ℕ → Type 0) (config : Config) (n : ℕ) (at : ℕ) (printed printed' : Option (List ℕ)) (text : List ℕ) : Type 0 where
   pub first : State
   pub begins : first.store ≡ empty_store config
   pub holds : Holds config first

@@ -1,5 +1,5 @@
 -- What the lines of a trace print where each collection has a schedule.
-use Rattle.std.specs.Prelude.{◌≡◌, ℕ, ◌+◌, List, [], ◌∷◌, ◌++◌, length, map, Option, Some, Result, Ok}
+use Rattle.std.specs.Prelude.{◌≡◌, ℕ, ◌+◌, ◌⊎◌, List, [], ◌∷◌, ◌++◌, length, map, Option, Some, Result, Ok}
 use Rattle.std.specs.Io.KnownBytes.{Appends}
 use Rattle.model.specs.Config.{Config}
 use Rattle.model.specs.Store.{Store, empty_store}
@@ -16,10 +16,11 @@ use Rattle.trace_text.specs.Grammar.{entry_of}
 use Rattle.trace_text.specs.ScheduleGrammar.{schedule_line_of}
 use Rattle.trace_text.specs.declared.schedule.ScheduleLine.TheVariants.{Commit}
 use Rattle.trace_lines.specs.Pieces.{Piece, finished, pieces}
+use Rattle.trace_lines.specs.CollectsFirst.{LineCollectsFirst, auto_line}
 use Rattle.trace_lines.specs.Outcome.{line_step, command_step}
 use Rattle.trace_step.specs.Stands.{StandsFor}
 use Rattle.trace_step.specs.SessionType.{Session}
-use Rattle.schedules.specs.Runs.{LinesRun}
+use Rattle.schedules.specs.Runs.{Finishes, LinesRun}
 
 -- a heap with its named roots, and the store that they stand for
 pub record State : Type 0 where
@@ -38,10 +39,33 @@ abbrev pub IsNoCollection : Result (Option Command) Kind → Type 0
 IsNoCollection (Ok (Some (Collect g))) = ⊥
 IsNoCollection _ = Unit {0}
 
--- a line outside schedules does what it does in any run
+-- a line outside schedules that needs no collection does what it does in any run
 pub record Steps (config : Config) (old : State) (line out : List ℕ) (new : State) : Type 0 where
   pub plain : IsNoCollection (entry_of line)
+  pub has_room : ¬ LineCollectsFirst config old.store line
   pub steps : line_step config old.store line ≡ Ok (new.store, out)
+  pub holds : Holds config new
+
+-- n workers collect generation 0 for a new object, each event the one that comes next by itself, and leave this heap; what is written tells of the collection, and then of what they did in the heap as it then was
+pub record MakesRoom (n : ℕ) (old : State) (written : List ℕ) (new : HeapValue) : Type 0 where
+  pub kept : ℕ
+  pub freed : ℕ
+  pub workers : List WorkerLists
+  pub deliveries : List Delivery
+  pub collects : Collects old.heap 0 kept freed workers new
+  pub last : System
+  pub finishes : Finishes (setting_at old.heap 0 n) (opening_at old.heap 0 n) last
+  pub reports_are : Reports old.heap 0 last workers deliveries
+  pub written_is : written ≡ auto_line old.store ++ workers_text workers deliveries
+
+abbrev pub HasMadeRoom : ℕ → State → (written : List ℕ) → Type 0
+HasMadeRoom n old written = (between : HeapValue) × MakesRoom n old written between
+
+-- a new object for which there is no room: the store is that of any run
+pub record StepsWithRoom (config : Config) (n : ℕ) (old : State) (line out : List ℕ) (new : State) : Type 0 where
+  pub first : LineCollectsFirst config old.store line
+  pub makes_room : HasMadeRoom n old out
+  pub steps : line_step config old.store line ≡ Ok (new.store, auto_line old.store)
   pub holds : Holds config new
 
 -- a collection of the generations 0 to g by n workers, and the lines of its schedule: the store and the collection's line are those of any run, and the lines after that one tell of what the schedule's events brought the workers to, in the heap as it then was
@@ -64,6 +88,7 @@ pub record Collection (config : Config) (n g : ℕ) (old : State) (lines : List 
 pub data Replays (config : Config) (n : ℕ) : State → List Piece → List ℕ → State → Type 0 where
   stay : {s : State} → Replays config n s [] [] s
   step : {s mid last : State} {line out more : List ℕ} {rest : List Piece} → Steps config s line out mid → Replays config n mid rest more last → Replays config n s (finished line ∷ rest) (out ++ more) last
+  with_room : {s mid last : State} {line out more : List ℕ} {rest : List Piece} → StepsWithRoom config n s line out mid → Replays config n mid rest more last → Replays config n s (finished line ∷ rest) (out ++ more) last
   collection : {g : ℕ} {s mid last : State} {line out more : List ℕ} {lines : List (List ℕ)} {rest : List Piece} (ends : List ℕ) → entry_of line ≡ Ok (Some (Collect g)) → Collection config n g s lines out mid → schedule_line_of ends ≡ Ok Commit → Replays config n mid rest more last → Replays config n s (finished line ∷ (map finished lines ++ finished ends ∷ rest)) (out ++ more) last
 
 -- after a `collect` line with this number its schedule was carried out and printed, and leaves the rest of the text, from line number' on
@@ -81,6 +106,14 @@ pub record HasCollected (config : Config) (n g : ℕ) (old : State) (number : �
 pub record CollectsTo {A : Type 0} (session : Session A) (config : Config) (n g : ℕ) (old : State) (number : ℕ) (text : List ℕ) (number' : ℕ) (rest : List ℕ) (printed printed' : Option (List ℕ)) : Type 0 where
   pub store' : Store
   pub collected : HasCollected config n g old number text number' rest printed printed' (state_of session store')
+
+-- a line outside schedules was carried out and printed, and leads to a store for which the session stands
+pub record LineReplayed {A : Type 0} (session : Session A) (config : Config) (n : ℕ) (old : State) (line : List ℕ) (printed printed' : Option (List ℕ)) : Type 0 where
+  pub store' : Store
+  pub stands' : Holds config (state_of session store')
+  pub out : List ℕ
+  pub steps : Steps config old line out (state_of session store') ⊎ StepsWithRoom config n old line out (state_of session store')
+  pub held : Appends printed printed' out
 
 -- of the pieces that are left from line `number` on some were carried out and printed, and leave this text, from line number' on, and a store for which the session stands
 pub record ReplaysTo {A : Type 0} (session : Session A) (config : Config) (n : ℕ) (old : State) (number : ℕ) (left : List Piece) (number' : ℕ) (rest : List ℕ) (printed printed' : Option (List ℕ)) : Type 0 where

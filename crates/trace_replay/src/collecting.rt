@@ -1,18 +1,20 @@
-//! A collection and its schedule.
-ghost use Rattle.std.specs.Prelude.{◌≡◌, ◌+◌, ◌-◌, ◌^◌, ◌<◌, ◌≤◌, length, MatchOption, IfOk, OnOk, IfErr};
-ghost use Rattle.trace_lines.specs.Faults.{MatchEachFault};
-ghost use Rattle.trace_lines.specs.Stepped.{AtEach};
+//! Collections by several workers in turn: by a schedule, and by themselves.
+ghost use Rattle.std.specs.Prelude.{◌≡◌, ◌+◌, ◌-◌, ◌^◌, ◌<◌, ◌≤◌, [], Some, length, MatchOption, IfOk, OnOk, IfErr};
+ghost use Rattle.model.specs.Store.{collected};
+ghost use Rattle.schedules.specs.Events.{IsShortOfBlocks};
+ghost use Rattle.trace_lines.specs.Faults.{MatchFault, MatchEachFault};
+ghost use Rattle.trace_lines.specs.Stepped.{AtEach, Writes};
 ghost use Rattle.trace_step.specs.Session.{Stands};
-ghost use Rattle.trace_replay.specs.Replays.{CollectsTo, state_of};
+ghost use Rattle.trace_replay.specs.Replays.{CollectsTo, MakesRoom, state_of};
 ghost use Rattle.trace_replay.specs.ReplayStops.{AfterCollect, HasTraceFault, HasScheduleFault, WantsBlocks, IsSoundAt};
 
-use byte_streams::Sink;
+use byte_streams::{Sink, WriteFailed};
 use model::Kind;
-use report_lines::{Cause, write_report};
-use schedules::settled_by_schedule;
+use report_lines::{Cause, workers_text, write_report};
+use schedules::{settled_by_itself, settled_by_schedule};
 use std::alloc::Allocator;
 use trace_lines::Fault;
-use trace_step::{Session, not_written};
+use trace_step::Session;
 
 /// Collects the generations 0 to `generation` by so many workers, 1 to 16, as the schedule says that follows line
 /// `number`, and writes what was kept and freed and what each worker did. It gives the number of the line after the
@@ -39,7 +41,7 @@ pub(crate) fn collect<'t, A: Allocator + Clone, W: Sink>(
         (λ at kind. AtEach (Stands session.old) (λ config store. AfterCollect generation text.now (λ left. HasTraceFault config workers kind (state_of session.old store) number left at)) × (writer.new ≡ writer.old))
         (λ at kind. AtEach (Stands session.old) (λ config store. AfterCollect generation text.now (λ left. HasScheduleFault config workers kind (state_of session.old store) number left at)) × (writer.new ≡ writer.old))
         (λ at. MatchOption at ⊥ (λ line. AtEach (Stands session.old) (λ config store. AfterCollect generation text.now (λ left. WantsBlocks config workers (state_of session.old store) number left line))) × (writer.new ≡ writer.old))
-        (λ at. MatchOption at ⊥ (λ line. AtEach (Stands session.old) (λ config store. AfterCollect generation text.now (λ left. IsSoundAt config workers (state_of session.old store) number left line))) × (writer.new ≡ writer.old))
+        (λ at. MatchOption at ⊥ (λ line. AtEach (Stands session.old) (λ config store. AfterCollect generation text.now (λ left. IsSoundAt config workers (state_of session.old store) number left line []))) × (writer.new ≡ writer.old))
         ⊥
         (W.failed_writes writer.new ≡ W.failed_writes writer.old + 1)) }
 {
@@ -66,11 +68,66 @@ pub(crate) fn collect<'t, A: Allocator + Clone, W: Sink>(
         Ok(found) => found,
         Err(fault) => return Err(fault),
     };
+    let (won, taken) = (settled.workers.as_slice(), settled.deliveries.as_slice());
+    let Ok(lines) = workers_text(text_alloc, won, taken) else {
+        return Err(Fault::NoMemory(Some(commit)));
+    };
     let Ok(report) = session.heap.commit(commit_alloc, settled) else {
         return Err(Fault::NoMemory(Some(commit)));
     };
-    match write_report(text_alloc, Cause::Command, generation, &report, writer) {
+    let (kept, freed) = (report.kept, report.freed);
+    match write_report(Cause::Command, generation, kept, freed, lines.as_str(), writer) {
         Ok(()) => Ok((commit + 1, rest)),
-        Err(error) => Err(not_written(commit, error)),
+        Err(WriteFailed) => Err(Fault::WriteFailed),
+    }
+}
+
+/// Makes room in the nurseries for a new object in line `number`: so many workers, 1 to 16, collect generation 0, each event
+/// the one that comes next by itself. It writes what was kept and freed and what each worker did. The only error after the
+/// collection is that of a write.
+pub(crate) fn make_room<A: Allocator + Clone, W: Sink>(
+    session: &mut Session<A>,
+    workers: u32,
+    number: u128,
+    writer: &mut W,
+) -> Result<(), Fault>
+    requires some { 0 < workers }
+    requires most { workers ≤ 16 }
+    requires countable { W.failed_writes writer.old < 2 ^ 64 - 1 }
+    ensures ok { OnOk result (AtEach (Stands session.old) (λ config store. Stands session.new config (collected config 0 store)
+        × Writes (λ written. MakesRoom workers (state_of session.old store) written session.new.heap) (W.contents writer.old) (W.contents writer.new))) }
+    ensures counts { OnOk result (W.failed_writes writer.new ≡ W.failed_writes writer.old) }
+    ensures rises { W.failed_writes writer.new ≤ W.failed_writes writer.old + 1 }
+    ensures err { IfErr result (λ e. MatchFault e (λ _ _. ⊥)
+        (λ at. (at ≡ Some number) × IsShortOfBlocks session.old.heap 0 workers × (session.new ≡ session.old) × (writer.new ≡ writer.old))
+        (λ at. (at ≡ Some number) × (session.new ≡ session.old) × (writer.new ≡ writer.old))
+        ⊥
+        (W.failed_writes writer.new ≡ W.failed_writes writer.old + 1)) }
+{
+    let _generations = session.heap.config().generations();
+    let Ok(alloc) = session.alloc.clone() else {
+        return Err(Fault::NoMemory(Some(number)));
+    };
+    let Ok(commit_alloc) = session.alloc.clone() else {
+        return Err(Fault::NoMemory(Some(number)));
+    };
+    let Ok(text_alloc) = session.alloc.clone() else {
+        return Err(Fault::NoMemory(Some(number)));
+    };
+    let settled = match settled_by_itself(alloc, &session.heap, 0, workers, number) {
+        Ok(settled) => settled,
+        Err(fault) => return Err(fault),
+    };
+    let (won, taken) = (settled.workers.as_slice(), settled.deliveries.as_slice());
+    let Ok(lines) = workers_text(text_alloc, won, taken) else {
+        return Err(Fault::NoMemory(Some(number)));
+    };
+    let Ok(report) = session.heap.commit(commit_alloc, settled) else {
+        return Err(Fault::NoMemory(Some(number)));
+    };
+    let (kept, freed) = (report.kept, report.freed);
+    match write_report(Cause::FullNursery, 0, kept, freed, lines.as_str(), writer) {
+        Ok(()) => Ok(()),
+        Err(WriteFailed) => Err(Fault::WriteFailed),
     }
 }

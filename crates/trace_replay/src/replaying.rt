@@ -1,21 +1,22 @@
 //! A whole trace.
-ghost use Rattle.std.specs.Prelude.{◌≡◌, ◌+◌, ◌-◌, ◌^◌, ◌*◌, ◌<◌, ◌≤◌, ◌⊎◌, ◌∷◌, Some, Ok, length, MatchOption, IfSome, IfNone, IfOk, OnOk, IfErr};
+ghost use Rattle.std.specs.Prelude.{◌≡◌, ◌+◌, ◌-◌, ◌^◌, ◌*◌, ◌<◌, ◌≤◌, ◌⊎◌, ◌∷◌, Some, Ok, Err, length, MatchOption, IfSome, IfNone, IfOk, OnOk, IfErr};
 ghost use Rattle.model.specs.Commands.{Collect};
 ghost use Rattle.trace_text.specs.Grammar.{entry_of};
-ghost use Rattle.trace_lines.specs.Faults.{MatchEachFault};
+ghost use Rattle.trace_lines.specs.Faults.{MatchFault, MatchEachFault};
+ghost use Rattle.trace_lines.specs.Outcome.{line_step};
 ghost use Rattle.trace_lines.specs.Pieces.{HasNoFeed, finished, pieces};
-ghost use Rattle.trace_lines.specs.Stepped.{AtEach};
+ghost use Rattle.trace_lines.specs.Stepped.{AtEach, Writes};
 ghost use Rattle.trace_step.specs.Session.{Stands};
-ghost use Rattle.trace_replay.specs.Replays.{IsNoCollection, IsReplayed, ReplaysAll, ReplaysTo, state_of};
-ghost use Rattle.trace_replay.specs.ReplayStops.{HasTraceFault, HasScheduleFault, WantsBlocks, IsSoundAt, StopsIn, Stops};
+ghost use Rattle.trace_replay.specs.Replays.{IsNoCollection, IsReplayed, LineReplayed, ReplaysAll, ReplaysTo, state_of};
+ghost use Rattle.trace_replay.specs.ReplayStops.{HasTraceFault, HasScheduleFault, WantsRoom, WantsBlocks, IsLineSoFar, IsSoundAt, Quietly, StopsIn, Stops};
 
-use crate::collecting::collect;
+use crate::collecting::{collect, make_room};
 use byte_streams::{Sink, Source};
 use heap::Config;
 use model::Kind;
 use std::alloc::Allocator;
-use trace_lines::{Fault, read_all, split_line};
-use trace_step::{Session, carry_out};
+use trace_lines::{Attempt, Fault, read_all, split_line};
+use trace_step::{Session, attempt};
 use trace_text::{Command, Line, parse};
 
 /// The most bytes that a line has before its line feed.
@@ -29,6 +30,47 @@ fn collected(line: &[u8]) -> Option<u64>
     match parse(line) {
         Ok(Line::Command(Command::Collect { generation })) => Some(generation),
         _ => None,
+    }
+}
+
+/// Carries out line `number`, which has no schedule. Where a new object has no room in its nursery, so many workers collect
+/// generation 0 first.
+fn carry_out_line<A: Allocator + Clone, W: Sink>(
+    session: &mut Session<A>,
+    workers: u32,
+    number: u128,
+    line: &[u8],
+    writer: &mut W,
+) -> Result<(), Fault>
+    requires some { 0 < workers }
+    requires most { workers ≤ 16 }
+    requires plain { IsNoCollection (entry_of line.now) }
+    requires countable { W.failed_writes writer.old < 2 ^ 64 - 1 }
+    ensures ok { OnOk result (AtEach (Stands session.old) (λ config store.
+        LineReplayed session.new config workers (state_of session.old store) line.now (W.contents writer.old) (W.contents writer.new))) }
+    ensures counts { OnOk result (W.failed_writes writer.new ≡ W.failed_writes writer.old) }
+    ensures rises { W.failed_writes writer.new ≤ W.failed_writes writer.old + 1 }
+    ensures err { IfErr result (λ e. MatchFault e
+        (λ at kind. (at ≡ number) × AtEach (Stands session.old) (λ config store. (line_step config store line.now ≡ Err kind) × (writer.new ≡ writer.old)))
+        (λ at. (at ≡ Some number) × AtEach (Stands session.old) (λ config store. WantsRoom config workers (state_of session.old store) line.now × (writer.new ≡ writer.old)))
+        (λ at. (at ≡ Some number) × AtEach (Stands session.old) (λ config store. Writes (IsLineSoFar config workers (state_of session.old store) line.now) (W.contents writer.old) (W.contents writer.new)))
+        ⊥
+        (W.failed_writes writer.new ≡ W.failed_writes writer.old + 1)) }
+{
+    match attempt(session, number, line, writer) {
+        Ok(Attempt::Done) => return Ok(()),
+        Ok(Attempt::NurseryFull) => {}
+        Err(fault) => return Err(fault),
+    }
+    match make_room(session, workers, number, writer) {
+        Ok(()) => {}
+        Err(fault) => return Err(fault),
+    }
+    match attempt(session, number, line, writer) {
+        Ok(Attempt::Done) => Ok(()),
+        // A collection leaves each nursery with room.
+        Ok(Attempt::NurseryFull) => Err(Fault::HeapFull(Some(number))),
+        Err(fault) => Err(fault),
     }
 }
 
@@ -53,17 +95,17 @@ fn carry_out_first<'t, A: Allocator + Clone, W: Sink>(
     ensures counts { OnOk result (W.failed_writes writer.new ≡ W.failed_writes writer.old) }
     ensures rises { W.failed_writes writer.new ≤ W.failed_writes writer.old + 1 }
     ensures err { IfErr result (λ e. MatchEachFault e
-        (λ at kind. AtEach (Stands session.old) (λ config store. HasTraceFault config workers kind (state_of session.old store) number (finished line.now ∷ pieces after.now) at) × (writer.new ≡ writer.old))
-        (λ at kind. AtEach (Stands session.old) (λ config store. HasScheduleFault config workers kind (state_of session.old store) number (finished line.now ∷ pieces after.now) at) × (writer.new ≡ writer.old))
-        (λ at. MatchOption at ⊥ (λ k. AtEach (Stands session.old) (λ config store. WantsBlocks config workers (state_of session.old store) number (finished line.now ∷ pieces after.now) k)) × (writer.new ≡ writer.old))
-        (λ at. MatchOption at ⊥ (λ k. AtEach (Stands session.old) (λ config store. IsSoundAt config workers (state_of session.old store) number (finished line.now ∷ pieces after.now) k)) × (writer.new ≡ writer.old))
+        (λ at kind. AtEach (Stands session.old) (λ config store. HasTraceFault config workers kind (state_of session.old store) number (finished line.now ∷ pieces after.now) at × (writer.new ≡ writer.old)))
+        (λ at kind. AtEach (Stands session.old) (λ config store. HasScheduleFault config workers kind (state_of session.old store) number (finished line.now ∷ pieces after.now) at × (writer.new ≡ writer.old)))
+        (λ at. MatchOption at ⊥ (λ k. AtEach (Stands session.old) (λ config store. WantsBlocks config workers (state_of session.old store) number (finished line.now ∷ pieces after.now) k × (writer.new ≡ writer.old))))
+        (λ at. MatchOption at ⊥ (λ k. AtEach (Stands session.old) (λ config store. Writes (IsSoundAt config workers (state_of session.old store) number (finished line.now ∷ pieces after.now) k) (W.contents writer.old) (W.contents writer.new))))
         ⊥
         (W.failed_writes writer.new ≡ W.failed_writes writer.old + 1)) }
 {
     if let Some(generation) = collected(line) {
         return collect(session, workers, number, generation, after, writer);
     }
-    match carry_out(session, number, line, writer) {
+    match carry_out_line(session, workers, number, line, writer) {
         Ok(()) => Ok((number + 1, after)),
         Err(fault) => Err(fault),
     }
@@ -86,9 +128,9 @@ fn carry_out_lines<'t, A: Allocator + Clone, W: Sink>(
     ensures counts { OnOk result (W.failed_writes writer.new ≡ W.failed_writes writer.old) }
     ensures rises { W.failed_writes writer.new ≤ W.failed_writes writer.old + 1 }
     ensures err { IfErr result (λ e. MatchEachFault e
-        (λ at kind. AtEach (Stands session.old) (λ config store. StopsIn (HasTraceFault config workers kind) config workers (state_of session.old store) 1 (pieces text.now) at (W.contents writer.old) (W.contents writer.new)))
-        (λ at kind. AtEach (Stands session.old) (λ config store. StopsIn (HasScheduleFault config workers kind) config workers (state_of session.old store) 1 (pieces text.now) at (W.contents writer.old) (W.contents writer.new)))
-        (λ at. MatchOption at ⊥ (λ line. AtEach (Stands session.old) (λ config store. StopsIn (WantsBlocks config workers) config workers (state_of session.old store) 1 (pieces text.now) line (W.contents writer.old) (W.contents writer.new))))
+        (λ at kind. AtEach (Stands session.old) (λ config store. StopsIn (Quietly (HasTraceFault config workers kind)) config workers (state_of session.old store) 1 (pieces text.now) at (W.contents writer.old) (W.contents writer.new)))
+        (λ at kind. AtEach (Stands session.old) (λ config store. StopsIn (Quietly (HasScheduleFault config workers kind)) config workers (state_of session.old store) 1 (pieces text.now) at (W.contents writer.old) (W.contents writer.new)))
+        (λ at. MatchOption at ⊥ (λ line. AtEach (Stands session.old) (λ config store. StopsIn (Quietly (WantsBlocks config workers)) config workers (state_of session.old store) 1 (pieces text.now) line (W.contents writer.old) (W.contents writer.new))))
         (λ at. MatchOption at ⊥ (λ line. AtEach (Stands session.old) (λ config store. StopsIn (IsSoundAt config workers) config workers (state_of session.old store) 1 (pieces text.now) line (W.contents writer.old) (W.contents writer.new))))
         ⊥
         (W.failed_writes writer.new ≡ W.failed_writes writer.old + 1)) }
@@ -118,9 +160,9 @@ fn carry_out_text<A: Allocator + Clone, W: Sink>(
     ensures ok { OnOk result (AtEach (Stands session.old) (λ config store. ReplaysAll config workers (state_of session.old store) (pieces text.now) (W.contents writer.old) (W.contents writer.new))) }
     ensures rises { W.failed_writes writer.new ≤ W.failed_writes writer.old + 1 }
     ensures err { IfErr result (λ e. MatchEachFault e
-        (λ at kind. AtEach (Stands session.old) (λ config store. StopsIn (HasTraceFault config workers kind) config workers (state_of session.old store) 1 (pieces text.now) at (W.contents writer.old) (W.contents writer.new)))
-        (λ at kind. AtEach (Stands session.old) (λ config store. StopsIn (HasScheduleFault config workers kind) config workers (state_of session.old store) 1 (pieces text.now) at (W.contents writer.old) (W.contents writer.new)))
-        (λ at. MatchOption at ⊥ (λ line. AtEach (Stands session.old) (λ config store. StopsIn (WantsBlocks config workers) config workers (state_of session.old store) 1 (pieces text.now) line (W.contents writer.old) (W.contents writer.new))))
+        (λ at kind. AtEach (Stands session.old) (λ config store. StopsIn (Quietly (HasTraceFault config workers kind)) config workers (state_of session.old store) 1 (pieces text.now) at (W.contents writer.old) (W.contents writer.new)))
+        (λ at kind. AtEach (Stands session.old) (λ config store. StopsIn (Quietly (HasScheduleFault config workers kind)) config workers (state_of session.old store) 1 (pieces text.now) at (W.contents writer.old) (W.contents writer.new)))
+        (λ at. MatchOption at ⊥ (λ line. AtEach (Stands session.old) (λ config store. StopsIn (Quietly (WantsBlocks config workers)) config workers (state_of session.old store) 1 (pieces text.now) line (W.contents writer.old) (W.contents writer.new))))
         (λ at. MatchOption at ⊥ (λ line. AtEach (Stands session.old) (λ config store. StopsIn (IsSoundAt config workers) config workers (state_of session.old store) 1 (pieces text.now) line (W.contents writer.old) (W.contents writer.new))))
         ⊥
         (W.failed_writes writer.new ≡ W.failed_writes writer.old + 1)) }
@@ -153,11 +195,11 @@ pub fn replay<A: Allocator + Clone, S: Source, W: Sink>(
     requires writable { W.failed_writes writer.old < 2 ^ 64 - 1 }
     ensures ok { OnOk result (IfSome (S.remaining reader.old) (IsReplayed config workers (W.contents writer.old) (W.contents writer.new))) }
     ensures err { IfErr result (λ e. MatchEachFault e
-        (λ at kind. IfSome (S.remaining reader.old) (Stops (HasTraceFault config workers kind) config workers at (W.contents writer.old) (W.contents writer.new)))
-        (λ at kind. IfSome (S.remaining reader.old) (Stops (HasScheduleFault config workers kind) config workers at (W.contents writer.old) (W.contents writer.new)))
+        (λ at kind. IfSome (S.remaining reader.old) (Stops (Quietly (HasTraceFault config workers kind)) config workers at (W.contents writer.old) (W.contents writer.new)))
+        (λ at kind. IfSome (S.remaining reader.old) (Stops (Quietly (HasScheduleFault config workers kind)) config workers at (W.contents writer.old) (W.contents writer.new)))
         (λ at. MatchOption at
         ((config.blocks < config.mutators * config.nursery_blocks) × (writer.new ≡ writer.old) × (reader.new ≡ reader.old))
-        (λ line. IfSome (S.remaining reader.old) (Stops (WantsBlocks config workers) config workers line (W.contents writer.old) (W.contents writer.new))))
+        (λ line. IfSome (S.remaining reader.old) (Stops (Quietly (WantsBlocks config workers)) config workers line (W.contents writer.old) (W.contents writer.new))))
         (λ at. MatchOption at
         (writer.new ≡ writer.old)
         (λ line. IfSome (S.remaining reader.old) (Stops (IsSoundAt config workers) config workers line (W.contents writer.old) (W.contents writer.new))))

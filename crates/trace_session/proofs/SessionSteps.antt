@@ -1,10 +1,10 @@
 -- What a new object and a dropped name do to a session that stands for a store.
 use Rattle.std.proofs.Common.{◌≡◌, ℕ, ◌+◌, ◌<◌, Bool, true, false, ◌||◌, List, [], length, Option, Some, None, Ok, Err, refl, sym, ap, subst}
-use Rattle.std.specs.Prelude.{nat_lt, is_some, slice_set}
+use Rattle.std.specs.Prelude.{nat_lt, not, is_some, slice_set}
 use Rattle.std.specs.Option.{option_map}
 use Rattle.std.specs.Ordering.{nat_cmp}
 use Rattle.std.specs.FinMap.{get-empty, len-empty}
-use Rattle.std.proofs.lemmas.Bool.{true≢false, lt-ltb}
+use Rattle.std.proofs.lemmas.Bool.{true≢false, lt-ltb, and_parts}
 use Rattle.model.specs.declared.kind.Kind.TheVariants.{NameInUse}
 use Rattle.model.specs.Graph.{Graph, root_at, without_root}
 use Rattle.model.specs.Config.{Config}
@@ -15,6 +15,7 @@ use Rattle.heap.specs.HeapValue.{HeapValue, empty_heap}
 use Rattle.heap.specs.Commands.{Allocates}
 use Rattle.heap.specs.Commands as commands
 use Rattle.heap_data.specs.declared.root_id.RootId.{RootId}
+use Rattle.trace_lines.specs.CollectsFirst.{CollectsFirst}
 use Rattle.trace_lines.specs.Outcome.{command_step}
 use Rattle.trace_lines.specs.Stepped.{StepsQuietly}
 use Rattle.trace_names.specs.NamesView.{named}
@@ -123,6 +124,13 @@ module _ (heap : HeapValue) (names : List (List ℕ × ℕ)) (config : Config) (
       or_right_false : (a b : Bool) → (a || b) ≡ false → b ≡ false
       or_right_false true b e = absurd (true≢false e)
       or_right_false false b e = e
+
+  -- what was allocated had room
+  pub had_room : (text : List ℕ) (m p q root : ℕ) (heap' : HeapValue) → Allocates heap m p q root heap' → ¬ CollectsFirst config store (New text m p q)
+  had_room text m p q root heap' allocates first =
+      let has_room : room_in config m (1 + p + q) store ≡ Some allocates.room = rw (← stands.config_is, ← stands.rooms_are) allocates.has_room in
+      let none : not (is_some (room_in config m (1 + p + q) store)) ≡ true = (and_parts (not (is_large_size config (1 + p + q))) (not (is_some (room_in config m (1 + p + q) store))) first).1 in
+      true≢false (sym (rw has_room at none))
 
   pub steps_drop : (text : List ℕ) (root : ℕ) (heap' : HeapValue) (names' : List (List ℕ × ℕ)) → named names text ≡ Some root → heap' ≡ record heap { graph = without_root heap.graph root } → names' ≡ dropped names text → StepsQuietly (StandsFor heap' names') config (command_step config store (Drop text))
   steps_drop text root heap' names' used heap_is names_are =

@@ -1,13 +1,14 @@
 -- Where the heap's own refusals can come.
-use Rattle.std.specs.Prelude.{ℕ, ◌+◌, Bool, not, ◌&&◌, List, Option, Some, Result, Ok, IsTrue, is_some}
+use Rattle.std.specs.Prelude.{ℕ, List, Option, Some, Result, Ok}
 use Rattle.model.specs.declared.kind.Kind.{Kind}
 use Rattle.model.specs.Config.{Config}
 use Rattle.model.specs.Store.{Store}
-use Rattle.model.specs.Commands.{Command, New, Collect, room_in, is_large_size}
+use Rattle.model.specs.Commands.{Command, New, Collect}
 use Rattle.heap.specs.HeapValue.{HeapValue}
 use Rattle.store_places.specs.Collects.{IsShortOfBlocks}
 use Rattle.trace_text.specs.Grammar.{entry_of}
 use Rattle.trace_lines.specs.Sound.{IsSound, IsSoundCommand}
+use Rattle.trace_lines.specs.CollectsFirst.{CollectsFirst}
 use Rattle.store_places.specs.Stands.{StandsFor}
 
 -- in a heap that stands for the store fewer blocks are free than the space bound of what is live in it, for one worker
@@ -17,14 +18,10 @@ pub record IsShortFor (config : Config) (store : Store) (g : ℕ) : Type 0 where
   pub stands : StandsFor heap names config store
   pub short : IsShortOfBlocks heap g
 
--- a small object, for which the mutator's nursery has no room
-abbrev pub has_no_room : Config → Store → (mutator size : ℕ) → Bool
-has_no_room config store mutator size = not (is_large_size config size) && not (is_some (room_in config mutator size store))
-
--- a collection for which the heap is short, or a small object without room
+-- a collection for which the heap is short, or a small object without room and a heap that is short for the collection of generation 0
 abbrev pub WantsBlocks : Config → Store → Command → Type 0
 WantsBlocks config store (Collect g) = IsShortFor config store g
-WantsBlocks config store (New text mutator p q) = IsTrue (has_no_room config store mutator (1 + p + q))
+WantsBlocks config store (New text mutator p q) = CollectsFirst config store (New text mutator p q) × IsShortFor config store 0
 WantsBlocks config store _ = ⊥
 
 abbrev pub ReadWantsBlocks : Config → Store → Result (Option Command) Kind → Type 0

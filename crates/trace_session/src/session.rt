@@ -1,17 +1,18 @@
 //! What a run keeps between lines.
-ghost use Rattle.std.specs.Prelude.{◌≡◌, ◌+◌, ◌*◌, ◌<◌, ◌≤◌, ◌++◌, [], Some, None, Err, IfOk, OnOk, IfErr};
+ghost use Rattle.std.specs.Prelude.{◌≡◌, ◌+◌, ◌*◌, ◌<◌, ◌≤◌, ◌++◌, [], Some, None, Ok, Err, IfOk, OnOk, IfErr};
 ghost use Rattle.model.specs.Store.{empty_store};
 ghost use Rattle.model.specs.Commands.{New, Drop};
+ghost use Rattle.trace_lines.specs.Attempts.{MatchAttempt};
+ghost use Rattle.trace_lines.specs.CollectsFirst.{CollectsFirst};
 ghost use Rattle.trace_lines.specs.Faults.{MatchFault};
 ghost use Rattle.trace_lines.specs.Outcome.{command_step};
 ghost use Rattle.trace_lines.specs.Sound.{IsSoundCommand};
 ghost use Rattle.trace_lines.specs.Stepped.{AtEach, StepsQuietly};
-ghost use Rattle.trace_session.specs.Refusals.{CommandMayBeFull};
 
 use heap::{AllocateError, Config, Heap, MakeError};
 use model::Kind;
 use std::alloc::{Allocator, Global};
-use trace_lines::Fault;
+use trace_lines::{Attempt, Fault};
 use trace_names::Names;
 
 /// A heap, and the names that lead into it. It isn't used again after a fault.
@@ -50,7 +51,7 @@ impl<A: Allocator + Clone> Session<A> {
         Ok(Session { heap, names, alloc })
     }
 
-    /// A new object, to which a free name leads.
+    /// A new object, to which a free name leads. Where its nursery has no room, nothing has changed.
     pub fn add(
         &mut self,
         number: u128,
@@ -58,12 +59,14 @@ impl<A: Allocator + Clone> Session<A> {
         mutator: u64,
         pointers: u64,
         plain: u64,
-    ) -> Result<(), Fault>
-        ensures ok { OnOk result (AtEach (Stands self.old) (λ config store.
-            StepsQuietly (Stands self.new) config (command_step config store (New name.now mutator pointers plain)))) }
+    ) -> Result<Attempt, Fault>
+        ensures ok { IfOk result (λ attempt. AtEach (Stands self.old) (λ config store. MatchAttempt attempt
+            (StepsQuietly (Stands self.new) config (command_step config store (New name.now mutator pointers plain)) × ¬ CollectsFirst config store (New name.now mutator pointers plain))
+            (IsSoundCommand config store (New name.now mutator pointers plain) × CollectsFirst config store (New name.now mutator pointers plain)))) }
+        ensures full { result ≡ Ok Attempt.NurseryFull → self.new ≡ self.old }
         ensures err { IfErr result (λ e. MatchFault e
             (λ at kind. (at ≡ number) × AtEach (Stands self.old) (λ config store. command_step config store (New name.now mutator pointers plain) ≡ Err kind))
-            (λ at. (at ≡ Some number) × AtEach (Stands self.old) (λ config store. CommandMayBeFull config store (New name.now mutator pointers plain)))
+            (λ _. ⊥)
             (λ at. (at ≡ Some number) × AtEach (Stands self.old) (λ config store. IsSoundCommand config store (New name.now mutator pointers plain)))
             ⊥ ⊥) }
     {
@@ -74,14 +77,14 @@ impl<A: Allocator + Clone> Session<A> {
             Ok(root) => root,
             Err(AllocateError::NoMutator) => return Err(Fault::BadTrace(number, Kind::NoMutator)),
             Err(AllocateError::TooBig) => return Err(Fault::BadTrace(number, Kind::TooBig)),
-            Err(AllocateError::NurseryFull) => return Err(Fault::HeapFull(Some(number))),
+            Err(AllocateError::NurseryFull) => return Ok(Attempt::NurseryFull),
             Err(AllocateError::NoMemory) => return Err(Fault::NoMemory(Some(number))),
         };
         let Ok(alloc) = self.alloc.clone() else {
             return Err(Fault::NoMemory(Some(number)));
         };
         match self.names.insert(alloc, name, root) {
-            Ok(()) => Ok(()),
+            Ok(()) => Ok(Attempt::Done),
             Err(_) => Err(Fault::NoMemory(Some(number))),
         }
     }

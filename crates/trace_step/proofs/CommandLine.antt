@@ -1,18 +1,24 @@
 -- A line that is a command does what the command does.
-use Rattle.std.proofs.Common.{◌≡◌, ℕ, List, Option, Some, Result, Ok, Err, sym, subst, ap, ◌∙◌}
-use Rattle.std.specs.Prelude.{IfErr, is_ok}
+use Rattle.std.proofs.Common.{◌≡◌, ℕ, List, [], Option, None, Some, Result, Ok, Err, sym, subst, ap, ◌∙◌}
+use Rattle.std.specs.Prelude.{IfOk, is_ok}
+use Rattle.std.proofs.KnownBytes.{Appends-nil}
 use Rattle.model.specs.declared.kind.Kind.{Kind}
 use Rattle.model.specs.Config.{Config}
 use Rattle.model.specs.Store.{Store}
-use Rattle.model.specs.Commands.{Command}
+use Rattle.model.specs.Commands.{Command, New, Set, Put, Get, Drop, Collect, Census, Heap}
 use Rattle.trace_text.specs.Grammar.{entry_of, ◌>>=◌}
 use Rattle.trace_lines.specs.declared.fault.Fault.{Fault}
 use Rattle.trace_lines.specs.declared.fault.Fault.TheVariants.{BadTrace, BadSchedule, HeapFull, NoMemory, ReadFailed, WriteFailed}
+use Rattle.trace_lines.specs.declared.attempt.Attempt.{Attempt}
+use Rattle.trace_lines.specs.declared.attempt.Attempt.TheVariants.{Done, NurseryFull}
+use Rattle.trace_lines.specs.Attempts.{MatchAttempt}
+use Rattle.trace_lines.specs.CollectsFirst.{CollectsFirst, ReadCollectsFirst, LineCollectsFirst}
 use Rattle.trace_lines.specs.Faults.{MatchFault}
 use Rattle.trace_lines.specs.Outcome.{line_step, entry_step, command_step}
 use Rattle.trace_lines.specs.Sound.{IsSound, IsSoundCommand}
-use Rattle.trace_lines.specs.Stepped.{AtEach}
+use Rattle.trace_lines.specs.Stepped.{AtEach, StepsTo, StepsQuietly}
 use Rattle.trace_prints.specs.Refusals.{MayBeFull, CommandMayBeFull, ReadWantsBlocks}
+use Rattle.trace_step.specs.Commands.{MakesNone}
 
 line_is : (config : Config) (store : Store) (line : List ℕ) (command : Command) → entry_of line ≡ Ok (Some command) → line_step config store line ≡ command_step config store command
 unfolding line_step
@@ -27,35 +33,44 @@ line_full config store line command says may = record {
   wants = subst (ReadWantsBlocks config store) (sym says) may.wants;
 }
 
+-- a command that makes no object collects nothing first
+makes_none : (config : Config) (store : Store) (command : Command) → MakesNone command → ¬ CollectsFirst config store command
+makes_none config store (New text m p q) none = absurd none
+makes_none config store (Set text i target) none = λ first. first
+makes_none config store (Put text i value) none = λ first. first
+makes_none config store (Get new_text text i) none = λ first. first
+makes_none config store (Drop text) none = λ first. first
+makes_none config store (Collect g) none = λ first. first
+makes_none config store Census none = λ first. first
+makes_none config store Heap none = λ first. first
+
+-- a line that is a new object
+pub new_line : (stands stands' : Config → Store → Type 0) (line : List ℕ) (command : Command) → entry_of line ≡ Ok (Some command) → (held : Option (List ℕ)) (r : Result Attempt Fault)
+    → IfOk r (λ a. AtEach stands (λ config store. MatchAttempt a (StepsQuietly stands' config (command_step config store command) × ¬ CollectsFirst config store command) (IsSoundCommand config store command × CollectsFirst config store command)))
+    → IfOk r (λ a. AtEach stands (λ config store. MatchAttempt a (StepsTo stands' config (line_step config store line) held held × ¬ LineCollectsFirst config store line) (IsSound config store line × LineCollectsFirst config store line)))
+new_line stands stands' line command says held (Ok Done) steps = λ config store there.
+    let done = steps config store there in
+    (record { next = done.0.next; out = []; steps = line_is config store line command says ∙ done.0.steps; stands' = done.0.stands'; held = Appends-nil held }, λ first. done.1 (subst (ReadCollectsFirst config store) says first))
+new_line stands stands' line command says held (Ok NurseryFull) full = λ config store there.
+    let f = full config store there in
+    (line_sound config store line command says f.0, subst (ReadCollectsFirst config store) (sym says) f.1)
+new_line stands stands' line command says held (Err e) f = tt
+
 module _ (stands : Config → Store → Type 0) (number : ℕ) (line : List ℕ) (command : Command) (says : entry_of line ≡ Ok (Some command)) {W : Type 0} (old new : W) (written : Type 0) where
-  line_fault : (e : Fault)
+  pub line_fault : (e : Fault)
       → MatchFault e
       (λ at kind. (at ≡ number) × AtEach stands (λ config store. command_step config store command ≡ Err kind) × (new ≡ old))
-      (λ at. (at ≡ Some number) × AtEach stands (λ config store. CommandMayBeFull config store command) × (new ≡ old))
+      (λ at. (at ≡ Some number) × MakesNone command × AtEach stands (λ config store. CommandMayBeFull config store command) × (new ≡ old))
       (λ at. (at ≡ Some number) × AtEach stands (λ config store. IsSoundCommand config store command) × (new ≡ old))
       ⊥ written
       → MatchFault e
       (λ at kind. (at ≡ number) × AtEach stands (λ config store. line_step config store line ≡ Err kind) × (new ≡ old))
-      (λ at. (at ≡ Some number) × AtEach stands (λ config store. MayBeFull config store line) × (new ≡ old))
+      (λ at. (at ≡ Some number) × AtEach stands (λ config store. MayBeFull config store line × ¬ LineCollectsFirst config store line) × (new ≡ old))
       (λ at. (at ≡ Some number) × AtEach stands (λ config store. IsSound config store line) × (new ≡ old))
       ⊥ written
   line_fault (BadTrace at kind) facts = (facts.0, λ config store there. line_is config store line command says ∙ facts.1 config store there, facts.2)
   line_fault (BadSchedule at kind) facts = absurd facts
-  line_fault (HeapFull at) facts = (facts.0, λ config store there. line_full config store line command says (facts.1 config store there), facts.2)
+  line_fault (HeapFull at) facts = (facts.0, λ config store there. (line_full config store line command says (facts.2 config store there), λ first. makes_none config store command facts.1 (subst (ReadCollectsFirst config store) says first)), facts.3)
   line_fault (NoMemory at) facts = (facts.0, λ config store there. line_sound config store line command says (facts.1 config store there), facts.2)
   line_fault ReadFailed facts = facts
   line_fault WriteFailed facts = facts
-
-  pub line_faults : {X : Type 0} (r : Result X Fault)
-      → IfErr r (λ e. MatchFault e
-      (λ at kind. (at ≡ number) × AtEach stands (λ config store. command_step config store command ≡ Err kind) × (new ≡ old))
-      (λ at. (at ≡ Some number) × AtEach stands (λ config store. CommandMayBeFull config store command) × (new ≡ old))
-      (λ at. (at ≡ Some number) × AtEach stands (λ config store. IsSoundCommand config store command) × (new ≡ old))
-      ⊥ written)
-      → IfErr r (λ e. MatchFault e
-      (λ at kind. (at ≡ number) × AtEach stands (λ config store. line_step config store line ≡ Err kind) × (new ≡ old))
-      (λ at. (at ≡ Some number) × AtEach stands (λ config store. MayBeFull config store line) × (new ≡ old))
-      (λ at. (at ≡ Some number) × AtEach stands (λ config store. IsSound config store line) × (new ≡ old))
-      ⊥ written)
-  line_faults (Ok x) facts = tt
-  line_faults (Err e) facts = line_fault e facts

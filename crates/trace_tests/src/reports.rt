@@ -1,7 +1,7 @@
 use heap::{Delivery, Report, Won, WorkerReport};
-use heap_text::{Counted, WriteError};
+use heap_text::Counted;
 use layout::Place;
-use report_lines::{Cause, write_report};
+use report_lines::{Cause, workers_text, write_report};
 use std::alloc::{AllocError, Global};
 use std::test::Fail;
 
@@ -17,12 +17,15 @@ fn lists_of(alloc: Global, won_count: u32, scanned_count: u32) -> Result<WorkerR
 }
 
 /// What is written of a collection of generation 0.
-fn written(alloc: Global, cause: Cause, report: &Report) -> Result<Vec<u8>, WriteError> {
+fn written(alloc: Global, cause: Cause, report: &Report) -> Result<Vec<u8>, Fail> {
     let mut writer = Counted {
         inner: Vec::new(alloc),
         failed_writes: 0,
     };
-    write_report(alloc, cause, 0, report, &mut writer)?;
+    let workers = report.workers.as_slice();
+    let lines = workers_text(alloc, workers, report.deliveries.as_slice())?;
+    let (kept, freed) = (report.kept, report.freed);
+    write_report(cause, 0, kept, freed, lines.as_str(), &mut writer)?;
     Ok(writer.inner)
 }
 

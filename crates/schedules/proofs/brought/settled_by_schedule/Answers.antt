@@ -1,6 +1,10 @@
 use Rattle.std.proofs.Common.{Err, inr, ap}
-use Rattle.schedules.proofs.FromMachine.{not_all_ended, no_memory}
+use Rattle.schedules.proofs.FromMachine.{brings, not_all_ended, no_memory}
 use Rattle.schedules.proofs.brought.settled_by_schedule.Goals as goal
+
+pub returns-in-Ok-settle-clause-ok : goal.returns-in-Ok-settle-clause-ok
+returns-in-Ok-settle-clause-ok g c =
+    brings c.args.heap.now c.args.generation c.args.workers _ c.in-Ok.ensures.ok _ c.in-Ok-carry_out_schedule.ensures.same c.args.start c.args.text.now _ _ c.in-Ok-carry_out_schedule.ensures.ok _ _ _ _ _ c.in-Ok-settle.ensures.ok
 
 pub returns-in-Err-NotEnded-clause-err : goal.returns-in-Err-NotEnded-clause-err
 returns-in-Err-NotEnded-clause-err g c =

@@ -1,9 +1,10 @@
-use Rattle.std.proofs.Common.{◌≡◌, Err, refl, ap, subst, arith}
+use Rattle.std.proofs.Common.{◌≡◌, ◌++◌, refl, ap, subst, ◌∙◌, arith}
 use Rattle.std.specs.Io.KnownBytes.{Appends}
-use Rattle.heap_text.specs.declared.error.WriteError.TheVariants as texts
-use Rattle.report_lines.specs.ReportText.{report_text}
-use Rattle.report_lines.specs.declared.cause.Cause.TheVariants.{Command}
-use Rattle.trace_replay.proofs.BySchedule.{no_generation, no_memory_at, fault_of_schedule, at_commit, no_memory_in, fault_of_writing, collected_to}
+use Rattle.model.specs.Text.{collection_line}
+use Rattle.report_lines.specs.ReportText.{workers_text}
+use Rattle.heap_text.specs.CollectionLine.{cause_word}
+use Rattle.heap_text.specs.declared.cause.Cause.TheVariants.{Command}
+use Rattle.trace_replay.proofs.BySchedule.{no_generation, no_memory_at, fault_of_schedule, at_commit, no_memory_in, collected_to}
 use Rattle.trace_replay.proofs.collecting.collect.Goals as goal
 
 pub returns-then-generation-generations-clause-err : goal.returns-then-generation-generations-clause-err
@@ -39,6 +40,14 @@ returns-in-Err-clause-err g c =
     fault_of_schedule c.args.session.now.heap c.args.session.now.names c.args.generation c.args.workers c.args.number c.args.text.now
     (omega (arith, c.if-generation-generations.false, c.generations.ensures.value, ap (λ x. x.shape.generations) c.config.ensures)) _ _ _ refl c.in-Err.fault c.in-Err.ensures.err
 
+pub returns-in_default-workers_text-clause-err : goal.returns-in_default-workers_text-clause-err
+returns-in_default-workers_text-clause-err g c = (
+  λ config store stands. no_memory_in _ _ config store stands c.args.generation
+      (omega (arith, c.if-generation-generations.false, c.generations.ensures.value, ap (λ x. x.shape.generations) c.config.ensures)) c.args.workers c.args.number c.args.text.now _
+      (at_commit _ _ _ _ _ _ _ _ _ _ _ _ c.in-Ok-settled_by_schedule.ensures.ok),
+  refl,
+)
+
 pub returns-in_default-commit-clause-err : goal.returns-in_default-commit-clause-err
 returns-in_default-commit-clause-err g c = (
   λ config store stands. no_memory_in _ _ config store stands c.args.generation
@@ -56,17 +65,8 @@ returns-in-Ok-write_report-clause-ok g c = λ config store stands.
       collected =
           collected_to _ _ _ _ _ _ _ _ _ _ _ _ c.in-Ok-settled_by_schedule.ensures.ok report.kept report.freed c.commit.new.self c.in-Ok-commit.ensures.ok c.in-Ok-commit.ensures.kept c.in-Ok-commit.ensures.won c.in-Ok-commit.ensures.freed
           _ config store stands (omega (arith, c.if-generation-generations.false, c.generations.ensures.value, ap (λ x. x.shape.generations) c.config.ensures)) _ _
-          (subst (λ workers. Appends (g.W.Sink.contents c.args.writer.now) (g.W.Sink.contents c.write_report.new.writer) (report_text Command c.args.generation report.kept report.freed workers.items found.deliveries.items)) c.in-Ok-commit.ensures.workers
-          (subst (λ deliveries. Appends (g.W.Sink.contents c.args.writer.now) (g.W.Sink.contents c.write_report.new.writer) (report_text Command c.args.generation report.kept report.freed report.workers.items deliveries.items)) c.in-Ok-commit.ensures.deliveries
-          c.in-Ok-write_report.ensures.bytes));
+          (subst (λ lines. Appends (g.W.Sink.contents c.args.writer.now) (g.W.Sink.contents c.write_report.new.writer) (collection_line (cause_word Command) c.args.generation report.kept report.freed ++ lines)) (c.as_str.ensures.value ∙ c.in-Ok-workers_text.ensures ∙ ap (λ ws. workers_text ws c.as_slice-taken.result.now) c.as_slice-won.ensures.value ∙ ap (λ ds. workers_text found.workers.items ds) c.as_slice-taken.ensures.value) c.in-Ok-write_report.ensures.bytes);
     }
-
-pub returns-clause-err : goal.returns-clause-err
-returns-clause-err g c =
-    fault_of_writing c.args.session.now.heap c.args.session.now.names c.args.generation c.args.workers c.args.number c.args.text.now
-    (omega (arith, c.if-generation-generations.false, c.generations.ensures.value, ap (λ x. x.shape.generations) c.config.ensures)) _ _ _
-    _ (at_commit _ _ _ _ _ _ _ _ _ _ _ _ c.in-Ok-settled_by_schedule.ensures.ok) (c.in-Err-write_report.error ≡ texts.NoMemory) (c.in-Err-write_report.error ≡ texts.WriteFailed)
-    (λ is. c.in-Err-write_report.ensures.memory (ap (λ e. Err e) is)) (λ is. c.in-Err-write_report.ensures.failed (ap (λ e. Err e) is)) c.not_written.result c.not_written.ensures
 
 pub returns-in-Ok-write_report-clause-later : goal.returns-in-Ok-write_report-clause-later
 returns-in-Ok-write_report-clause-later g c = omega (arith, c.in-Ok-settled_by_schedule.ensures.ok.schedule.number_is)

@@ -1,6 +1,6 @@
 //! What starts a collection.
-ghost use Rattle.std.specs.Prelude.{◌≡◌};
-ghost use Rattle.report_lines.specs.ReportText.{cause_word};
+ghost use Rattle.std.specs.Prelude.{◌≡◌, ◌≤◌, length};
+ghost use Rattle.heap_text.specs.CollectionLine.{cause_word};
 
 /// What starts a collection.
 #[derive(Clone, Copy, Debug, PartialEq, Eq)]
@@ -14,7 +14,8 @@ pub enum Cause {
 impl Cause {
     /// The first word of the collection's line.
     pub fn word(self) -> &'static str
-        ensures { result.now ≡ cause_word self }
+        ensures value { result.now ≡ cause_word self }
+        ensures short { length result.now ≤ 9 }
     {
         match self {
             Cause::Command => "collected",

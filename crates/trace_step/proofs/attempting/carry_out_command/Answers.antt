@@ -2,7 +2,7 @@ use Rattle.std.proofs.Common.{refl}
 use Rattle.model.specs.Commands.{Set, target_of}
 use Rattle.trace_lines.specs.Outcome.{command_step}
 use Rattle.trace_lines.proofs.CommandFaults.{quiet_steps, quiet_faults, never_full}
-use Rattle.trace_step.proofs.step.carry_out_command.Goals as goal
+use Rattle.trace_step.proofs.attempting.carry_out_command.Goals as goal
 
 pub returns-in-Set-clause-ok : goal.returns-in-Set-clause-ok
 returns-in-Set-clause-ok g c =

@@ -1,0 +1,16 @@
+use Rattle.std.proofs.Common.{Err, refl, ap}
+use Rattle.trace_prints.proofs.PrintedSteps.{room_made}
+use Rattle.trace_prints.proofs.printing.make_room.Goals as goal
+
+pub returns-in-Ok-write_collection-clause-ok : goal.returns-in-Ok-write_collection-clause-ok
+returns-in-Ok-write_collection-clause-ok g c = λ config store stands.
+    room_made _ _ config store stands _ _ _ _ _ _ _ c.in-Ok-collect_one.ensures.ok c.in-Ok-write_collection.ensures.bytes
+
+pub returns-in-Err-HeapFull-clause-err : goal.returns-in-Err-HeapFull-clause-err
+returns-in-Err-HeapFull-clause-err g c = (
+  refl,
+  λ config store stands.
+      record { heap = c.args.session.now.heap; names = c.args.session.now.names; stands = stands; short = c.in-Err-HeapFull.ensures.full (ap (λ e. Err e) c.in-Err-HeapFull.field-0-is) },
+  ap (λ h. record c.args.session.now { heap = h }) c.in-Err-HeapFull.ensures.err,
+  refl,
+)

@@ -1,0 +1,84 @@
+-- A line of a replay that is carried out once room was made for it.
+use Rattle.std.proofs.Common.{◌≡◌, ℕ, List, Option, Some, None, Result, Ok, Err, subst, inl, inr}
+use Rattle.std.specs.Io.KnownBytes.{Appends}
+use Rattle.model.specs.declared.kind.Kind.{Kind}
+use Rattle.model.specs.Config.{Config}
+use Rattle.model.specs.Store.{Store, collected}
+use Rattle.model.specs.Commands.{Command, New, Set, Put, Get, Drop, Collect, Census, Heap}
+use Rattle.trace_text.specs.Grammar.{entry_of}
+use Rattle.trace_lines.specs.declared.fault.Fault.{Fault}
+use Rattle.trace_lines.specs.declared.fault.Fault.TheVariants.{BadTrace, BadSchedule, HeapFull, NoMemory, ReadFailed, WriteFailed}
+use Rattle.trace_lines.specs.CollectsFirst.{ReadCollectsFirst, LineCollectsFirst, auto_line}
+use Rattle.trace_lines.specs.Faults.{MatchFault}
+use Rattle.trace_lines.specs.Outcome.{line_step}
+use Rattle.trace_lines.specs.Stepped.{AtEach, StepsTo, Writes}
+use Rattle.trace_step.specs.Refusals.{MayBeFull, ReadWantsBlocks}
+use Rattle.trace_step.specs.SessionType.{Session}
+use Rattle.trace_step.specs.Session.{Stands}
+use Rattle.trace_replay.specs.Replays.{state_of, IsNoCollection, MakesRoom, HasMadeRoom, LineReplayed}
+
+read_full_never : (config : Config) (store : Store) (read : Result (Option Command) Kind) → IsNoCollection read → ReadWantsBlocks config store read → ReadCollectsFirst config store read
+read_full_never config store (Err kind) plain wants = wants
+read_full_never config store (Ok None) plain wants = wants
+read_full_never config store (Ok (Some (New text m p q))) plain wants = wants.0
+read_full_never config store (Ok (Some (Set text i target))) plain wants = wants
+read_full_never config store (Ok (Some (Put text i value))) plain wants = wants
+read_full_never config store (Ok (Some (Get new_text text i))) plain wants = wants
+read_full_never config store (Ok (Some (Drop text))) plain wants = wants
+read_full_never config store (Ok (Some (Collect g))) plain wants = absurd plain
+read_full_never config store (Ok (Some Census)) plain wants = wants
+read_full_never config store (Ok (Some Heap)) plain wants = wants
+
+-- a line that collects nothing wants no blocks
+pub full_never : (config : Config) (store : Store) (line : List ℕ) → IsNoCollection (entry_of line) → MayBeFull config store line → ¬ (¬ LineCollectsFirst config store line)
+full_never config store line plain may not = not (read_full_never config store (entry_of line) plain may.wants)
+
+-- where blocks are wanting at any store
+pub each_short : (stands : Config → Store → Type 0) (number : ℕ) {S W : Type 0} (session session' : S) (writer writer' : W) (failed Short : Type 0) (e : Fault)
+    → MatchFault e (λ _ _. ⊥)
+    (λ at. (at ≡ Some number) × Short × (session' ≡ session) × (writer' ≡ writer))
+    (λ at. (at ≡ Some number) × (session' ≡ session) × (writer' ≡ writer))
+    ⊥ failed
+    → MatchFault e (λ _ _. ⊥)
+    (λ at. (at ≡ Some number) × AtEach stands (λ _ _. Short) × (session' ≡ session) × (writer' ≡ writer))
+    (λ at. (at ≡ Some number) × (session' ≡ session) × (writer' ≡ writer))
+    ⊥ failed
+each_short stands number session session' writer writer' failed Short (BadTrace at kind) f = f
+each_short stands number session session' writer writer' failed Short (BadSchedule at kind) f = f
+each_short stands number session session' writer writer' failed Short (HeapFull at) f = (f.0, λ config store there. f.1, f.2, f.3)
+each_short stands number session session' writer writer' failed Short (NoMemory at) f = f
+each_short stands number session session' writer writer' failed Short ReadFailed f = f
+each_short stands number session session' writer writer' failed Short WriteFailed f = f
+
+-- a line that needed no room
+pub plain_steps : {A : Type 0} (old new : Session A) (config : Config) (n : ℕ) (store : Store) (line : List ℕ) (printed printed' : Option (List ℕ)) → IsNoCollection (entry_of line) → ¬ LineCollectsFirst config store line
+    → StepsTo (Stands new) config (line_step config store line) printed printed' → LineReplayed new config n (state_of old store) line printed printed'
+plain_steps old new config n store line printed printed' plain has_room done = record {
+  store' = done.next;
+  stands' = done.stands';
+  out = done.out;
+  steps = inl (record { plain = plain; has_room = has_room; steps = done.steps; holds = done.stands' });
+  held = done.held;
+}
+
+-- a line for which room was made
+pub with_room_steps : {A : Type 0} (old new : Session A) (config : Config) (n : ℕ) (store : Store) (line : List ℕ) (printed printed' : Option (List ℕ)) → LineCollectsFirst config store line
+    → (next : Store) × ((line_step config store line ≡ Ok (next, auto_line store)) × Stands new config next × Writes (HasMadeRoom n (state_of old store)) printed printed') → LineReplayed new config n (state_of old store) line printed printed'
+with_room_steps old new config n store line printed printed' first done =
+    let own = done.1.2 in
+    record {
+      store' = done.0;
+      stands' = done.1.1;
+      out = own.written;
+      steps = inr (record { first = first; makes_room = own.holds; steps = done.1.0; holds = done.1.1 });
+      held = own.held;
+    }
+
+-- nothing had changed before room was made
+pub made_at_first : {A : Type 0} (n : ℕ) (first before after : Session A) → before ≡ first → {W : Type 0} (contents : W → Option (List ℕ)) (old between new : W) → between ≡ old
+    → AtEach (Stands before) (λ config store. Stands after config (collected config 0 store) × Writes (λ written. MakesRoom n (state_of before store) written after.heap) (contents between) (contents new))
+    → AtEach (Stands first) (λ config store. Stands after config (collected config 0 store) × Writes (HasMadeRoom n (state_of first store)) (contents old) (contents new))
+made_at_first n first before after same contents old between new same_writer made = λ config store there.
+    let at = subst (λ s. AtEach (Stands s) (λ config store. Stands after config (collected config 0 store) × Writes (λ written. MakesRoom n (state_of s store) written after.heap) (contents old) (contents new))) same
+    (subst (λ w. AtEach (Stands before) (λ config store. Stands after config (collected config 0 store) × Writes (λ written. MakesRoom n (state_of before store) written after.heap) (contents w) (contents new))) same_writer made) config store there in
+    (at.0, record { written = at.1.written; held = at.1.held; holds = (after.heap, at.1.holds) })
