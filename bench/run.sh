@@ -1,10 +1,12 @@
 #!/usr/bin/env bash
 # Measures gctrace on one processor, beside a plain collector of the same traces (plain.rs, which rustc builds): objects
 # copied a second, by traces that are collected again and again, and on a large live tree beside GHC's collector too
-# (live_tree.hs, which ghc builds); and lines carried out a second, beside what `wc -l` reads of the same file. It builds
-# gctrace first, or takes the program that GCTRACE names. Not part of the tests.
-#   run.sh               all of it, which takes some minutes
-#   run.sh live [NODES]  the large live tree alone
+# (live_tree.hs, which ghc builds); what a collection costs that finds nothing, and one of ten young objects without and with
+# many old ones; and lines carried out a second, beside what `wc -l` reads of the same file. It builds gctrace first, or
+# takes the program that GCTRACE names. Not part of the tests.
+#   run.sh                  all of it, which takes some minutes
+#   run.sh live [NODES]     the large live tree alone
+#   run.sh young [OBJECTS]  the collections of little alone
 set -eu
 here=$(cd "$(dirname "$0")" && pwd)
 work=$(mktemp -d)
@@ -16,6 +18,7 @@ if [ -z "$program" ]; then
   program=$(find "$here/../crates/gctrace/out" -type f -name gctrace -perm -u+x | head -n 1)
 fi
 blocks=40000
+generations=1
 plain=''
 if command -v rustc > /dev/null; then
   rustc --edition 2021 -O -o "$work/plain" "$here/plain.rs"
@@ -27,22 +30,25 @@ if command -v ghc > /dev/null; then
   ghc=$work/live_tree
 fi
 
-# seconds COMMAND.. : wall time of the fastest of five runs
+# seconds COMMAND.. : wall time of the fastest of five runs, of more while they have taken less than two seconds, or of fewer
+# once they have taken forty
 seconds() {
-  local best='' start end
-  for _ in 1 2 3 4 5; do
+  local best='' start end runs=0 all=0
+  while [ "$all" -lt 40000000000 ] && { [ "$runs" -lt 5 ] || [ "$all" -lt 2000000000 ]; }; do
     start=$(date +%s%N)
     taskset -c 0 "$@" > /dev/null
     end=$(date +%s%N)
     if [ -z "$best" ] || [ $((end - start)) -lt "$best" ]; then best=$((end - start)); fi
+    runs=$((runs + 1))
+    all=$((all + end - start))
   done
   awk -v n="$best" 'BEGIN { printf "%.4f", n / 1e9 }'
 }
 
-gctrace() { "$program" run --generations 1 --nursery 64 --blocks "$blocks" < "$1"; }
-beside() { "$plain" "$blocks" < "$1"; }
+gctrace() { "$program" run --generations "$generations" --nursery 64 --blocks "$blocks" < "$1"; }
+beside() { "$plain" "$blocks" "$generations" < "$1"; }
 export -f gctrace beside
-export program plain blocks
+export program plain blocks generations
 
 measure() { seconds bash -c "$1 \"\$1\"" measure "$2"; }
 
@@ -92,16 +98,57 @@ live() {
     print "" }'
 }
 
-if [ "${1:-}" = live ]; then
-  live "${2:-2000000}" 20
-  exit
-fi
+# each PROGRAM COLLECTIONS: microseconds for a collection, by the time that the collections add
+each() {
+  awk -v made="$(measure "$1" "$work/made")" -v all="$(measure "$1" "$work/all")" -v collections="$2" 'BEGIN {
+    printf "%.2f", (all - made) / collections * 1e6 }'
+}
+
+# little TEXT COLLECTIONS: how long each collection takes by which the one trace is longer than the other
+little() {
+  local own other=''
+  own=$(each gctrace "$2")
+  [ -n "$plain" ] && other=$(each beside "$2")
+  awk -v text="$1" -v own="$own" -v other="$other" 'BEGIN {
+    printf "%s: %.2f microseconds a collection", text, own
+    if (other != "") printf "; plain %.2f, so %.1f times that", other, own / other
+    print "" }'
+}
+
+# empty BLOCKS
+empty() {
+  "$here/traces.sh" empty 0 > "$work/made"
+  "$here/traces.sh" empty 20000 > "$work/all"
+  generations=2 blocks=$1 little "nothing, in $1 blocks" 20000
+}
+
+# young TEXT OBJECTS [gone]
+young() {
+  "$here/traces.sh" young "$2" 0 "${3:-}" > "$work/made"
+  "$here/traces.sh" young "$2" 20000 "${3:-}" > "$work/all"
+  generations=2 blocks=4096 little "ten young objects with their lines, $1" 20000
+}
+
+# collections_of_little OBJECTS
+collections_of_little() {
+  empty 4096
+  empty 65535
+  young "no old ones" 0
+  young "$1 old ones gone" "$1" gone
+  young "$1 old ones" "$1"
+}
+
+case "${1:-}" in
+  live) live "${2:-2000000}" 20; exit ;;
+  young) collections_of_little "${2:-100000}"; exit ;;
+esac
 
 copies graph 8000 1000
 copies tree 80000 100
 copies tree 800000 10
 copies mixed 80000 100
 live 2000000 20
+collections_of_little 100000
 
 "$here/traces.sh" commands 100 > "$work/commands"
 lines=$(wc -l < "$work/commands")

@@ -3,6 +3,9 @@
 #   traces.sh graph [OBJECTS] [COLLECTIONS]   objects of 4 words that share and form cycles, all reached from one name, collected again and again
 #   traces.sh tree [NODES] [COLLECTIONS]      a binary tree of such objects, reached from its root
 #   traces.sh mixed [NODES] [COLLECTIONS]     the same tree, laid out in random order by a name for each node, in that order
+#   traces.sh young [OBJECTS] [COLLECTIONS] [gone]   such a tree in random order, which has become old, reached from one name (gone: freed then);
+#                                             and ten objects made before each collection of the young and dropped after it
+#   traces.sh empty [COLLECTIONS]             collections of a heap without objects
 #   traces.sh commands [BATCHES]              batches of 10,000 commands: new, put, set and drop of 2,500 names, and a collection after each
 # The nursery has to hold 8,000 objects of 4 words.
 set -eu
@@ -47,6 +50,36 @@ mixed() {
   }'
 }
 
+young() {
+  awk -v objects="$1" -v collections="$2" -v gone="$3" 'BEGIN {
+    srand(1)
+    for (i = 0; i < objects; i++) order[i] = i
+    for (i = objects - 1; i > 0; i--) { j = int(rand() * (i + 1)); it = order[i]; order[i] = order[j]; order[j] = it }
+    for (i = 0; i < objects; i++) {
+      if (i > 0 && i % 8000 == 0) print "collect 0"
+      printf "new n%d 0 2 1\n", order[i]
+    }
+    for (i = 1; i < objects; i++) printf "set n%d %d n%d\n", int((i - 1) / 2), (i + 1) % 2, i
+    for (i = 1; i < objects; i++) printf "drop n%d\n", i
+    print "collect 0\ncollect 0"
+    if (gone != "") print "drop n0\ncollect 1"
+    print "census"
+    for (i = 0; i < collections; i++) {
+      for (j = 0; j < 10; j++) printf "new y%d 0 2 1\n", j
+      print "collect 0"
+      for (j = 0; j < 10; j++) printf "drop y%d\n", j
+    }
+    print "census"
+  }'
+}
+
+empty() {
+  awk -v collections="$1" 'BEGIN {
+    for (i = 0; i < collections; i++) print "collect 0"
+    print "census"
+  }'
+}
+
 commands() {
   awk -v batches="$1" 'BEGIN {
     print "new root 0 1 0"
@@ -62,6 +95,8 @@ case "${1:-}" in
   graph) graph "${2:-8000}" "${3:-1000}" ;;
   tree) tree "${2:-80000}" "${3:-100}" ;;
   mixed) mixed "${2:-80000}" "${3:-100}" ;;
+  young) young "${2:-100000}" "${3:-20000}" "${4:-}" ;;
+  empty) empty "${2:-20000}" ;;
   commands) commands "${2:-100}" ;;
-  *) sed -n '2,7s/^# //p' "$0" >&2; exit 2 ;;
+  *) sed -n '2,10s/^# //p' "$0" >&2; exit 2 ;;
 esac

@@ -131,8 +131,9 @@ const SMALL_NURSERY: [&str; 8] = [
     "3",
 ];
 
+/// The tenth object finds the nursery full, and the collection wants two blocks where one is free.
 #[test]
-fn heap_full_without_collection(rt: HostRuntime) {
+fn heap_full_at_an_object_and_at_the_start(rt: HostRuntime) {
     let input = b"new a 0 0 3\nnew b 0 0 3\nnew c 0 0 3\nnew d 0 0 3\ncollect 0\nnew e 0 0 3
 new f 0 0 3\nnew g 0 0 3\nnew h 0 0 2\nnew i 0 0 0\nnew j 0 0 0\ncensus\n";
     assert_run(

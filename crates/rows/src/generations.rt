@@ -16,8 +16,6 @@ const TWO_MUTATORS: [&str; 8] = [
     "1",
 ];
 
-const TWO_BLOCKS: [&str; 6] = ["gctrace", "run", "--block-words", "64", "--nursery", "2"];
-
 const THREE_GENERATIONS: [&str; 6] = ["gctrace", "run", "--generations", "3", "--steps", "1"];
 
 /// A run that ends well.
@@ -177,17 +175,17 @@ remembered: 0
             errors: b"gctrace: line 11: no such mutator\n",
             status: 2,
         },
-        refused(
+        done(
             &TWO_MUTATORS,
-            b"new a 0 0 3\nnew b 0 0 3\nnew c 0 0 3\nnew d 0 0 3\nnew e 1 0 3\nnew f 0 0 3\n",
-            b"gctrace: line 6: heap full\n",
-            1,
-        ),
-        refused(
-            &TWO_BLOCKS,
-            b"new a 0 0 15\nnew b 0 0 15\nnew c 0 0 15\nnew d 0 0 14\nnew e 0 0 15\nnew f 0 0 15\nnew g 0 0 15\nnew h 0 0 15\nnew i 0 0 0\n",
-            b"gctrace: line 9: heap full\n",
-            1,
+            b"new a 0 0 3\nnew b 0 0 3\nnew c 0 0 3\nnew d 0 0 3\nnew e 1 0 3\nnew f 0 0 3\ncensus\n",
+            b"auto 0: 5 kept, 0 freed
+gen 0 step 0: 1 objects 4 words
+gen 0 step 1: 5 objects 20 words
+gen 1 step 0: 0 objects 0 words
+large: 0 objects 0 words
+roots: 6
+remembered: 0
+",
         ),
     ];
     assert_eq!(rt; first_other(rt.alloc(), &rows), None);

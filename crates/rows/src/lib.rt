@@ -8,6 +8,10 @@ pub use fronts::is_front_in_lines;
 #[cfg(test)]
 mod at_size;
 #[cfg(test)]
+mod automatic;
+#[cfg(test)]
+mod automatic_replays;
+#[cfg(test)]
 mod faults;
 #[cfg(test)]
 mod generations;
@@ -20,9 +24,13 @@ mod program;
 #[cfg(test)]
 mod reads_and_writes;
 #[cfg(test)]
+mod refused_generations;
+#[cfg(test)]
 mod refused_replays;
 #[cfg(test)]
 mod replays;
+#[cfg(test)]
+mod streams;
 #[cfg(test)]
 mod texts;
 #[cfg(test)]
