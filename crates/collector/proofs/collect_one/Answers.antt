@@ -1,4 +1,5 @@
-use Rattle.std.proofs.Common.{◌≡◌, refl, sym, ap, subst, ◌∙◌}
+use Rattle.std.proofs.Common.{◌≡◌, refl, sym, ap, subst, ◌∙◌, arith}
+use Rattle.model.specs.Config.{Config}
 use Rattle.heap_data.specs.CollectionValue.{CollectionValue}
 use Rattle.heap_data.specs.ReportValue.{WorkerLists}
 use Rattle.collector.specs.Collects.{ScansAlone, ScansOnce}
@@ -14,3 +15,9 @@ returns-clause-ok g c =
     (subst (λ n. ScansAlone c.args.heap.now n c.in_ok-settled.settled.workers.items c.in_ok-settled.settled.deliveries.items) (sym generation) c.in_ok-settled.ensures.scanned)
     (subst (λ n. ScansOnce c.args.heap.now n c.in_ok-settled.settled.workers.items) (sym generation) c.in_ok-settled.ensures.once)
     (rw c.in_ok-commit.ensures.workers refl) (rw c.in_ok-commit.ensures.deliveries refl) c.in_ok-commit.ensures.ok c.in_ok-commit.ensures.kept c.in_ok-commit.ensures.won c.in_ok-commit.ensures.freed
+
+pub returns-then-g-generations-clause-no_generation : goal.returns-then-g-generations-clause-no_generation
+returns-then-g-generations-clause-no_generation g c = (λ e. omega (arith, c.if-g-generations.true, c.generations.ensures.value, ap (λ (k : Config). k.shape.generations) c.config.ensures), λ h. refl)
+
+pub returns-then-g-generations-clause-full : goal.returns-then-g-generations-clause-full
+returns-then-g-generations-clause-full g c = λ e. absurd (cc)
