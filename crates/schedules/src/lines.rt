@@ -51,7 +51,10 @@ fn come<A: Allocator + Clone>(
 }
 
 /// What comes next by itself comes, until all have ended.
-pub(crate) fn finish<A: Allocator + Clone>(machine: &mut Machine<'_, A>, number: u128) -> Result<(), Fault>
+pub(crate) fn finish<A: Allocator + Clone>(
+    machine: &mut Machine<'_, A>,
+    number: u128,
+) -> Result<(), Fault>
     ensures ok { OnOk result (Finished machine.old machine.new) }
     ensures err { IfErr result (λ e. MatchEachFault e
         (λ _ _. ⊥) (λ _ _. ⊥)

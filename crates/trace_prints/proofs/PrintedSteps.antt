@@ -59,7 +59,8 @@ module _ (heap : HeapValue) (names : List (List ℕ × ℕ)) (config : Config) (
   -- generation 0 is collected for a new object
   pub room_made : (kept freed : ℕ) (workers : List WorkerLists) (deliveries : List Delivery) (heap' : HeapValue) (old new : Option (List ℕ)) → CollectsAlone heap 0 kept freed workers deliveries heap' → Appends old new (collection_line (codes "auto") 0 kept freed) → StandsFor heap' names config (collected config 0 store) × Appends old new (auto_line store)
   room_made kept freed workers deliveries heap' old new alone held =
-      let collects = alone.collects in
-      (stands_collected heap names config store stands 0 kept freed workers heap' collects (made_by.collected 0 kept freed workers deliveries stands.made alone),
-      subst (λ k. Appends old new (collection_line (codes "auto") 0 k (freed_count store 0))) (kept_same heap names config store stands 0 kept freed workers heap' collects)
-      (subst (λ f. Appends old new (collection_line (codes "auto") 0 kept f)) (freed_same heap names config store stands 0 kept freed workers heap' collects) held))
+      let collects = alone.collects in (
+        stands_collected heap names config store stands 0 kept freed workers heap' collects (made_by.collected 0 kept freed workers deliveries stands.made alone),
+        subst (λ k. Appends old new (collection_line (codes "auto") 0 k (freed_count store 0))) (kept_same heap names config store stands 0 kept freed workers heap' collects)
+            (subst (λ f. Appends old new (collection_line (codes "auto") 0 kept f)) (freed_same heap names config store stands 0 kept freed workers heap' collects) held),
+      )

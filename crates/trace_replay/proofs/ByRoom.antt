@@ -57,4 +57,5 @@ module _ (heap : HeapValue) (n : ℕ) (collection : CollectionValue) (places : L
             ap (λ k. collection_line (codes "auto") 0 k freed ++ workers_text workers deliveries) (kept_same heap names config store stands 0 kept freed workers heap' collects)
             ∙ ap (λ f. collection_line (codes "auto") 0 (kept_count store 0) f ++ workers_text workers deliveries) (freed_same heap names config store stands 0 kept freed workers heap' collects);
       };
-    })
+    },
+  )

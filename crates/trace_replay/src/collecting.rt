@@ -76,7 +76,14 @@ pub(crate) fn collect<'t, A: Allocator + Clone, W: Sink>(
         return Err(Fault::NoMemory(Some(commit)));
     };
     let (kept, freed) = (report.kept, report.freed);
-    match write_report(Cause::Command, generation, kept, freed, lines.as_str(), writer) {
+    match write_report(
+        Cause::Command,
+        generation,
+        kept,
+        freed,
+        lines.as_str(),
+        writer,
+    ) {
         Ok(()) => Ok((commit + 1, rest)),
         Err(WriteFailed) => Err(Fault::WriteFailed),
     }

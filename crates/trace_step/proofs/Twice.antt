@@ -104,9 +104,12 @@ module _ (stands : Config → Store → Type 0) (number : ℕ) (line : List ℕ)
         ⊥ failed'
     room_fault stands' still before same Short full session session' new failed failed' told (BadTrace at kind) f = absurd f
     room_fault stands' still before same Short full session session' new failed failed' told (BadSchedule at kind) f = f
-    room_fault stands' still before same Short full session session' new failed failed' told (HeapFull at) f = (f.0, λ config store there.
-        let w = wants config store there in
-        (full config store w.0 w.1 (f.1 config store (still config store there)), f.3 ∙ same))
+    room_fault stands' still before same Short full session session' new failed failed' told (HeapFull at) f = (
+      f.0,
+      λ config store there.
+          let w = wants config store there in
+          (full config store w.0 w.1 (f.1 config store (still config store there)), f.3 ∙ same),
+    )
     room_fault stands' still before same Short full session session' new failed failed' told (NoMemory at) f = (f.0, λ config store there. silent config store new (f.2 ∙ same) (wants config store there).0)
     room_fault stands' still before same Short full session session' new failed failed' told ReadFailed f = f
     room_fault stands' still before same Short full session session' new failed failed' told WriteFailed f = told f
@@ -146,23 +149,32 @@ module _ (stands : Config → Store → Type 0) (number : ℕ) (line : List ℕ)
           (λ at. (at ≡ Some number) × AtEach stands (λ config store. Full config store × (new ≡ old)))
           (λ at. (at ≡ Some number) × AtEach stands (λ config store. Writes (SoFar config store) (contents old) (contents new)))
           ⊥ failed'
-      second_fault before new failed failed' same told (BadTrace at kind) f = (f.0, λ config store there.
-          let w = wants config store there in
-          let again = line_again config store line w.1 w.0 in
-          let both : Ok (again.next, []) ≡ Err kind = sym again.there_is ∙ f.1 config (collected config 0 store) (room config store there).0 in
-          absurd (cc))
+      second_fault before new failed failed' same told (BadTrace at kind) f = (
+        f.0,
+        λ config store there.
+            let w = wants config store there in
+            let again = line_again config store line w.1 w.0 in
+            let both : Ok (again.next, []) ≡ Err kind = sym again.there_is ∙ f.1 config (collected config 0 store) (room config store there).0 in
+            absurd (cc),
+      )
       second_fault before new failed failed' same told (BadSchedule at kind) f = f
-      second_fault before new failed failed' same told (HeapFull at) f = (f.0, λ config store there.
-          let w = wants config store there in
-          let may = f.1 config (collected config 0 store) (room config store there).0 in
-          absurd (may.1 (full_again config store (collected config 0 store) (entry_of line) w.1 may.0.wants)))
-      second_fault before new failed failed' same told (NoMemory at) f = (f.0, λ config store there.
-          let w = wants config store there in
-          let own = (room config store there).1 in
-          record {
-            written = own.written;
-            held = subst (λ v. Appends (contents old) (contents v) own.written) (sym f.2) (subst (λ c. Appends (contents old) c own.written) (sym same) own.held);
-            holds = (w.0, inr (w.1, own.holds));
-          })
+      second_fault before new failed failed' same told (HeapFull at) f = (
+        f.0,
+        λ config store there.
+            let w = wants config store there in
+            let may = f.1 config (collected config 0 store) (room config store there).0 in
+            absurd (may.1 (full_again config store (collected config 0 store) (entry_of line) w.1 may.0.wants)),
+      )
+      second_fault before new failed failed' same told (NoMemory at) f = (
+        f.0,
+        λ config store there.
+            let w = wants config store there in
+            let own = (room config store there).1 in
+            record {
+              written = own.written;
+              held = subst (λ v. Appends (contents old) (contents v) own.written) (sym f.2) (subst (λ c. Appends (contents old) c own.written) (sym same) own.held);
+              holds = (w.0, inr (w.1, own.holds));
+            },
+      )
       second_fault before new failed failed' same told ReadFailed f = f
       second_fault before new failed failed' same told WriteFailed f = told f

@@ -79,12 +79,16 @@ pub fn attempt<A: Allocator + Clone, W: Sink>(
     match parse(line) {
         Err(kind) => Err(Fault::BadTrace(number, kind)),
         Ok(Line::Nothing) => Ok(Attempt::Done),
-        Ok(Line::Command(Command::New {
-            name,
-            mutator,
-            pointers,
-            plain,
-        })) => session.add(number, name, mutator, pointers, plain),
+        Ok(
+            Line::Command(
+                Command::New {
+                    name,
+                    mutator,
+                    pointers,
+                    plain,
+                },
+            ),
+        ) => session.add(number, name, mutator, pointers, plain),
         Ok(Line::Command(command)) => match carry_out_command(session, number, command, writer) {
             Ok(()) => Ok(Attempt::Done),
             Err(fault) => Err(fault),

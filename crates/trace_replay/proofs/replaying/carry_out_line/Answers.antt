@@ -41,12 +41,13 @@ returns-in-Ok-Done-attempt-clause-ok g c = λ config store stands.
 pub returns-in-Ok-NurseryFull-attempt-clause-err : goal.returns-in-Ok-NurseryFull-attempt-clause-err
 returns-in-Ok-NurseryFull-attempt-clause-err g c =
     let same = c.in-Ok-NurseryFull.ensures.full (ap (λ a. Ok a) c.in-Ok-NurseryFull.field-0-is) in (
-    refl,
-    no_full_twice (Stands c.args.session.now) c.args.number c.args.line.now (λ config store. WantsRoom config c.args.workers (state_of c.args.session.now store) c.args.line.now) (λ config store. HasMadeRoom c.args.workers (state_of c.args.session.now store)) g.W.Sink.contents c.args.writer.now
-    (λ config store there. told _ _ c.in-Ok-NurseryFull.field-0 NurseryFull c.in-Ok-NurseryFull.field-0-is (c.in-Ok-NurseryFull.ensures.ok config store there)) (Stands c.make_room.new.session) (g.W.Sink.contents c.make_room.new.writer)
-    (made_at_first c.args.workers c.args.session.now c.attempt.new.session c.make_room.new.session same.0 g.W.Sink.contents c.args.writer.now c.attempt.new.writer c.make_room.new.writer same.1 c.in-Ok.ensures.ok)
-    (λ config store there. told _ _ c.in-Ok-NurseryFull-attempt.field-0 NurseryFull c.in-Ok-NurseryFull-attempt.field-0-is (c.in-Ok-NurseryFull-attempt.ensures.ok config store there))
-    (λ config store. WantsRoom config c.args.workers (state_of c.args.session.now store) c.args.line.now × (c.attempt-2.new.writer ≡ c.args.writer.now)))
+      refl,
+      no_full_twice (Stands c.args.session.now) c.args.number c.args.line.now (λ config store. WantsRoom config c.args.workers (state_of c.args.session.now store) c.args.line.now) (λ config store. HasMadeRoom c.args.workers (state_of c.args.session.now store)) g.W.Sink.contents c.args.writer.now
+          (λ config store there. told _ _ c.in-Ok-NurseryFull.field-0 NurseryFull c.in-Ok-NurseryFull.field-0-is (c.in-Ok-NurseryFull.ensures.ok config store there)) (Stands c.make_room.new.session) (g.W.Sink.contents c.make_room.new.writer)
+          (made_at_first c.args.workers c.args.session.now c.attempt.new.session c.make_room.new.session same.0 g.W.Sink.contents c.args.writer.now c.attempt.new.writer c.make_room.new.writer same.1 c.in-Ok.ensures.ok)
+          (λ config store there. told _ _ c.in-Ok-NurseryFull-attempt.field-0 NurseryFull c.in-Ok-NurseryFull-attempt.field-0-is (c.in-Ok-NurseryFull-attempt.ensures.ok config store there))
+          (λ config store. WantsRoom config c.args.workers (state_of c.args.session.now store) c.args.line.now × (c.attempt-2.new.writer ≡ c.args.writer.now)),
+    )
 
 pub returns-in-Err-attempt-clause-err : goal.returns-in-Err-attempt-clause-err
 returns-in-Err-attempt-clause-err g c =

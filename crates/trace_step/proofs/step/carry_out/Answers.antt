@@ -47,13 +47,14 @@ pub returns-in-Ok-NurseryFull-attempt-clause-err : goal.returns-in-Ok-NurseryFul
 returns-in-Ok-NurseryFull-attempt-clause-err g c =
     let line = c.args.line.now in
     let same = c.in-Ok-NurseryFull.ensures.full (ap (λ a. Ok a) c.in-Ok-NurseryFull.field-0-is) in (
-    refl,
-    no_full_twice (Stands c.args.session.now) c.args.number line (λ config store. MayBeFull config store line) (λ config store written. written ≡ auto_line store) g.W.Sink.contents c.args.writer.now
-    (λ config store there. told _ _ c.in-Ok-NurseryFull.field-0 NurseryFull c.in-Ok-NurseryFull.field-0-is (c.in-Ok-NurseryFull.ensures.ok config store there)) (Stands c.make_room.new.session) (g.W.Sink.contents c.make_room.new.writer)
-    (λ config store there.
-    let made = c.in-Ok.ensures.ok config store (subst (λ s. Stands s config store) (sym same.0) there) in
-    (made.0, record { written = auto_line store; held = subst (λ w. Appends (g.W.Sink.contents w) (g.W.Sink.contents c.make_room.new.writer) (auto_line store)) same.1 made.1; holds = refl }))
-    (λ config store there. told _ _ c.in-Ok-NurseryFull-attempt.field-0 NurseryFull c.in-Ok-NurseryFull-attempt.field-0-is (c.in-Ok-NurseryFull-attempt.ensures.ok config store there)) (λ config store. MayBeFull config store line × (c.attempt-2.new.writer ≡ c.args.writer.now)))
+      refl,
+      no_full_twice (Stands c.args.session.now) c.args.number line (λ config store. MayBeFull config store line) (λ config store written. written ≡ auto_line store) g.W.Sink.contents c.args.writer.now
+          (λ config store there. told _ _ c.in-Ok-NurseryFull.field-0 NurseryFull c.in-Ok-NurseryFull.field-0-is (c.in-Ok-NurseryFull.ensures.ok config store there)) (Stands c.make_room.new.session) (g.W.Sink.contents c.make_room.new.writer)
+          (λ config store there.
+          let made = c.in-Ok.ensures.ok config store (subst (λ s. Stands s config store) (sym same.0) there) in
+          (made.0, record { written = auto_line store; held = subst (λ w. Appends (g.W.Sink.contents w) (g.W.Sink.contents c.make_room.new.writer) (auto_line store)) same.1 made.1; holds = refl }))
+          (λ config store there. told _ _ c.in-Ok-NurseryFull-attempt.field-0 NurseryFull c.in-Ok-NurseryFull-attempt.field-0-is (c.in-Ok-NurseryFull-attempt.ensures.ok config store there)) (λ config store. MayBeFull config store line × (c.attempt-2.new.writer ≡ c.args.writer.now)),
+    )
 
 pub returns-in-Err-attempt-clause-err : goal.returns-in-Err-attempt-clause-err
 returns-in-Err-attempt-clause-err g c =

@@ -18,7 +18,8 @@ returns-in-Ok-insert-clause-ok g c =
     let small : is_too_big heap c.args.pointers c.args.plain ≡ false =
     ⊎_elim (λ big. let bad = c.in-Ok.ensures.too_big.1 (in_range, big) in absurd (cc)) (λ small. small) (cases_Bool (is_too_big heap c.args.pointers c.args.plain)) in
     λ config store stands. (
-    steps_new _ _ config store stands c.args.name.now c.args.mutator c.args.pointers c.args.plain c.in-Ok.root.number _ _
-    (root_unknown c.get.result c.args.self.now.names c.args.name.now c.get.ensures (sym c.is_some.ensures ∙ c.if-is_some.false))
-    c.in-Ok.ensures.ok c.in-Ok-insert.ensures.ok in_range small,
-    had_room _ _ config store stands c.args.name.now c.args.mutator c.args.pointers c.args.plain c.in-Ok.root.number _ c.in-Ok.ensures.ok)
+      steps_new _ _ config store stands c.args.name.now c.args.mutator c.args.pointers c.args.plain c.in-Ok.root.number _ _
+          (root_unknown c.get.result c.args.self.now.names c.args.name.now c.get.ensures (sym c.is_some.ensures ∙ c.if-is_some.false))
+          c.in-Ok.ensures.ok c.in-Ok-insert.ensures.ok in_range small,
+      had_room _ _ config store stands c.args.name.now c.args.mutator c.args.pointers c.args.plain c.in-Ok.root.number _ c.in-Ok.ensures.ok,
+    )
