@@ -1,6 +1,6 @@
 -- What a new object and a dropped name do to a session that stands for a store.
 use Rattle.std.proofs.Common.{◌≡◌, ℕ, ◌+◌, ◌<◌, Bool, true, false, ◌||◌, List, [], length, Option, Some, None, Ok, Err, refl, sym, ap, subst}
-use Rattle.std.specs.Prelude.{nat_lt, not, is_some, slice_set}
+use Rattle.std.specs.Prelude.{nat_lt, not, is_some, is_ok, slice_set}
 use Rattle.std.specs.Option.{option_map}
 use Rattle.std.specs.Ordering.{nat_cmp}
 use Rattle.std.specs.FinMap.{get-empty, len-empty}
@@ -17,6 +17,7 @@ use Rattle.heap.specs.Commands as commands
 use Rattle.heap_data.specs.declared.root_id.RootId.{RootId}
 use Rattle.trace_lines.specs.CollectsFirst.{CollectsFirst}
 use Rattle.trace_lines.specs.Outcome.{command_step}
+use Rattle.trace_lines.specs.Sound.{IsSoundCommand}
 use Rattle.trace_lines.specs.Stepped.{StepsQuietly}
 use Rattle.trace_names.specs.NamesView.{named}
 use Rattle.store_places.specs.Made.{MadeByCalls, made, allocated, released}
@@ -124,6 +125,10 @@ module _ (heap : HeapValue) (names : List (List ℕ × ℕ)) (config : Config) (
       or_right_false : (a b : Bool) → (a || b) ≡ false → b ≡ false
       or_right_false true b e = absurd (true≢false e)
       or_right_false false b e = e
+
+  -- what was allocated has no fault
+  pub new_sound : (text : List ℕ) (m p q root : ℕ) (heap' : HeapValue) → named names text ≡ None → Allocates heap m p q root heap' → m < heap.config.mutators → commands.is_too_big heap p q ≡ false → IsSoundCommand config store (New text m p q)
+  new_sound text m p q root heap' free allocates in_range small = ap is_ok (steps_new text m p q root heap' (added names text root) free allocates refl in_range small).steps
 
   -- what was allocated had room
   pub had_room : (text : List ℕ) (m p q root : ℕ) (heap' : HeapValue) → Allocates heap m p q root heap' → ¬ CollectsFirst config store (New text m p q)
