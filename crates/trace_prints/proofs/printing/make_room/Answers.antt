@@ -1,4 +1,4 @@
-use Rattle.std.proofs.Common.{Err, refl, ap}
+use Rattle.std.proofs.Common.{Err, refl, ap, arith}
 use Rattle.trace_prints.proofs.PrintedSteps.{room_made}
 use Rattle.trace_prints.proofs.printing.make_room.Goals as goal
 
@@ -14,3 +14,9 @@ returns-in-Err-HeapFull-clause-err g c = (
   ap (λ h. record c.args.session.now { heap = h }) c.in-Err-HeapFull.ensures.err,
   refl,
 )
+
+pub unreachable-requires : goal.unreachable-requires
+unreachable-requires g c =
+    let none = c.in-Err-NoGeneration.ensures.no_generation.0 (ap (λ e. Err e) c.in-Err-NoGeneration.field-0-is) in
+    let range = c.generations-generations.ensures.in_range in
+    omega (arith, none, range.some_generation, ap (λ x. x.shape.generations) c.config.ensures)
