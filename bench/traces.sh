@@ -35,8 +35,9 @@ tree() {
   }'
 }
 
-mixed() {
-  awk -v nodes="$1" -v collections="$2" 'BEGIN {
+# shuffled_tree NODES: a tree whose nodes are made in random order
+shuffled_tree() {
+  awk -v nodes="$1" 'BEGIN {
     srand(1)
     for (i = 0; i < nodes; i++) order[i] = i
     for (i = nodes - 1; i > 0; i--) { j = int(rand() * (i + 1)); it = order[i]; order[i] = order[j]; order[j] = it }
@@ -45,21 +46,20 @@ mixed() {
       printf "new n%d 0 2 1\n", order[i]
     }
     for (i = 1; i < nodes; i++) printf "set n%d %d n%d\n", int((i - 1) / 2), (i + 1) % 2, i
+  }'
+}
+
+mixed() {
+  shuffled_tree "$1"
+  awk -v collections="$2" 'BEGIN {
     for (i = 0; i < collections; i++) print "collect 0"
     print "census"
   }'
 }
 
 young() {
+  shuffled_tree "$1"
   awk -v objects="$1" -v collections="$2" -v gone="$3" 'BEGIN {
-    srand(1)
-    for (i = 0; i < objects; i++) order[i] = i
-    for (i = objects - 1; i > 0; i--) { j = int(rand() * (i + 1)); it = order[i]; order[i] = order[j]; order[j] = it }
-    for (i = 0; i < objects; i++) {
-      if (i > 0 && i % 8000 == 0) print "collect 0"
-      printf "new n%d 0 2 1\n", order[i]
-    }
-    for (i = 1; i < objects; i++) printf "set n%d %d n%d\n", int((i - 1) / 2), (i + 1) % 2, i
     for (i = 1; i < objects; i++) printf "drop n%d\n", i
     print "collect 0\ncollect 0"
     if (gone != "") print "drop n0\ncollect 1"
