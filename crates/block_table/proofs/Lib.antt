@@ -15,5 +15,7 @@ pub mod YoungBlocks
 pub mod StepBlocks
 pub mod Numbers
 pub mod GraphObjects
+pub mod Located
+pub mod Holders
 pub mod FieldSlots
 pub mod Remembering

@@ -1,10 +1,13 @@
 -- What the commands on a heap do.
-use Rattle.std.specs.Prelude.{◌≡◌, ℕ, ◌+◌, ◌/◌, ◌<◌, ◌||◌, Bool, length, Option, Some, None, IsSome, IsSomeAnd, nat_lt, slice_get, slice_set, option_and_then}
+use Rattle.std.specs.Prelude.{◌≡◌, ℕ, ◌+◌, ◌/◌, ◌<◌, ◌||◌, Bool, List, length, Option, Some, None, IsTrue, IsSome, IsSomeAnd, nat_lt, if◌then◌else◌, slice_get, slice_set, option_and_then}
 use Rattle.std.specs.FinMap.{values, len}
-use Rattle.model.specs.Graph.{Graph, Object, object_at, root_at, with_object, with_root, fresh_object}
+use Rattle.model.specs.Graph.{Graph, Object, object_at, root_at, with_object, with_root, with_pointer, fresh_object}
+use Rattle.model.specs.Reached.{has}
 use Rattle.model.specs.Room.{Room, room_after}
-use Rattle.model.specs.Census.{Census, census_of}
+use Rattle.model.specs.Census.{Census, census_of, points_to}
+use Rattle.remembered_set.specs.Sets.{noted}
 use Rattle.heap_data.specs.HeapValue.{HeapValue}
+use Rattle.heap_data.specs.Remembered.{members_at}
 
 -- today an object may take at most a quarter of a block
 abbrev pub is_too_big : HeapValue → ℕ → ℕ → Bool
@@ -56,3 +59,42 @@ pub record Changes (old : HeapValue) (root : ℕ) (change : Object → Object) (
   pub root_is : root_at old.graph root ≡ Some name
   pub there : object_at old.graph name ≡ Some object
   pub changed : new ≡ record old { graph = with_object old.graph name (change object) }
+
+-- the pointer would lead from this object to a younger one
+abbrev pub leads_younger : Graph → Object → Option ℕ → Bool
+leads_younger graph holder value = points_to (λ target. nat_lt target.generation holder.generation) (object_at graph) value
+
+-- the remembered sets with the holder among its generation's, where its new pointer leads to a younger object
+abbrev pub remembered_after : HeapValue → ℕ → Object → Option ℕ → List (List ℕ)
+remembered_after heap name holder value = if leads_younger heap.graph holder value then noted heap.remembered holder.generation name else heap.remembered
+
+-- pointer i of a root's object was stored, and the object noted where it has to be; nothing else changed
+pub record Stores (old : HeapValue) (root i : ℕ) (value : Option ℕ) (new : HeapValue) : Type 0 where
+  pub name : ℕ
+  pub object : Object
+  pub root_is : root_at old.graph root ≡ Some name
+  pub there : object_at old.graph name ≡ Some object
+  pub changed : new ≡ record old { graph = with_object old.graph name (with_pointer object i (value_at old.graph value)); remembered = remembered_after old name object (value_at old.graph value) }
+
+-- a store of the value has to note the root's object: its new pointer leads to a younger one, and it is no member yet
+pub record MustNote (heap : HeapValue) (root : ℕ) (value : Option ℕ) : Type 0 where
+  pub name : ℕ
+  pub object : Object
+  pub root_is : root_at heap.graph root ≡ Some name
+  pub there : object_at heap.graph name ≡ Some object
+  pub younger : IsTrue (leads_younger heap.graph object (value_at heap.graph value))
+  pub no_member : ¬ (IsTrue (has (members_at heap.remembered object.generation) name))
+
+-- what pointer i of a root's object holds
+abbrev pub pointer_of : Graph → ℕ → ℕ → Option (Option ℕ)
+pointer_of graph root i = option_and_then (λ o. slice_get o.pointers i) (rooted_object graph root)
+
+-- a new root to the object of that name
+pub record AddsRoot (old : HeapValue) (name root : ℕ) (new : HeapValue) : Type 0 where
+  pub new_root : root_at old.graph root ≡ None
+  pub change : new ≡ record old { graph = with_root old.graph root name }
+
+-- pointer i of a root's object is nil and nothing changed, or there is a new root to what it leads to
+abbrev pub Loads : HeapValue → ℕ → ℕ → Option ℕ → HeapValue → Type 0
+Loads old root i None new = (pointer_of old.graph root i ≡ Some None) × (new ≡ old)
+Loads old root i (Some new_root) new = (name : ℕ) × (pointer_of old.graph root i ≡ Some (Some name)) × AddsRoot old name new_root new

@@ -18,5 +18,6 @@ pub use Rattle.heap_data.specs.CollectionCode
 pub use Rattle.heap_data.specs.Plain
 pub use Rattle.heap_data.specs.ReportValue
 pub use Rattle.heap_data.specs.ReportView
+pub use Rattle.heap_data.specs.Remembered
 pub use Rattle.heap_data.specs.CollectedHeap
 pub use Rattle.heap_data.specs.SettledValue

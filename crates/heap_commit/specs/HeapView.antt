@@ -1,5 +1,5 @@
 -- The heap that blocks and roots make.
-use Rattle.std.specs.Prelude.{◌≡◌, ℕ, List, [], Option, Some, None, replicate, slice_index_or, IsSome, All}
+use Rattle.std.specs.Prelude.{◌≡◌, ℕ, List, [], Option, Some, None, slice_index_or, IsSome, All}
 use Rattle.std.specs.FinMap.{get, empty}
 use Rattle.layout.specs.declared.place.Place.{Place}
 use Rattle.layout.specs.Place.{place_word}
@@ -8,16 +8,21 @@ use Rattle.heap_data.specs.CollectionValue.{SlotValue, target_of_slot}
 use Rattle.heap_commit.specs.Roots.{roots_map}
 use Rattle.heap_space.specs.Space.{SpaceValue}
 
-abbrev pub heap_of : SpaceValue → List (Option Place) → HeapValue
-heap_of space slots =
+-- with the members of the remembered set of each generation
+abbrev pub heap_with : SpaceValue → List (Option Place) → List (List ℕ) → HeapValue
+heap_with space slots sets =
     record {
       config = space.config;
       graph = record { objects = space.objects; roots = roots_map slots };
       rooms = space.rooms;
       free = space.free;
       large_blocks = empty;
-      remembered = replicate space.config.shape.generations [];
+      remembered = sets;
     }
+
+-- blocks and roots alone
+abbrev pub heap_of : SpaceValue → List (Option Place) → HeapValue
+heap_of space slots = heap_with space slots []
 
 -- each root leads to an object
 abbrev pub LeadsToObjects : SpaceValue → List (Option Place) → Type 0

@@ -7,6 +7,7 @@ use Rattle.model.specs.Graph.{Object, IsClosed, object_at, size_of}
 use Rattle.model.specs.Reached.{has}
 use Rattle.steps.specs.ConfigRange.{IsInRange}
 use Rattle.heap_data.specs.HeapValue.{HeapValue}
+use Rattle.heap_data.specs.Remembered.{CoversYounger}
 use Rattle.heap_data.specs.CollectedHeap.{IsFreeBlock}
 use Rattle.heap_space.specs.Space.{IsRoom, IsPlace}
 
@@ -18,7 +19,7 @@ pub record IsHeapObject (config : Config) (o : Object) : Type 0 where
 -- pointers and roots lead to objects; each object may be one of a heap's, and stands at a small place of a block that
 -- exists; there are as many rooms as mutators, each within its nursery; a block is free exactly when it is one of the
 -- pool's and no object stands in it
-pub record IsHeap (heap : HeapValue) : Type 0 where
+pub record AreHeapObjects (heap : HeapValue) : Type 0 where
   pub range : IsInRange heap.config
   pub closed : IsClosed heap.graph
   pub objects : (name : ℕ) (o : Object) → object_at heap.graph name ≡ Some o → IsHeapObject heap.config o
@@ -27,3 +28,9 @@ pub record IsHeap (heap : HeapValue) : Type 0 where
   pub rooms : All (IsRoom heap.config) heap.rooms
   pub free : (block : ℕ) → IsTrue (has heap.free block) ↔ IsFreeBlock heap block
   pub rising : IsStrictlyIncreasing heap.free
+
+-- the same, and each generation has a remembered set, which has at least its objects with a pointer to a younger one
+pub record IsHeap (heap : HeapValue) : Type 0 where
+  pub blocks : AreHeapObjects heap
+  pub sets : length heap.remembered ≡ heap.config.shape.generations
+  pub remembered : CoversYounger heap.graph heap.remembered

@@ -5,3 +5,4 @@ pub mod HeapView
 pub mod IsHeap
 pub mod Moves
 pub mod Installed
+pub mod Ended

@@ -1,16 +1,15 @@
 -- What a commit leaves of a heap.
-use Rattle.std.specs.Prelude.{◌≡◌, ℕ, ◌<◌, ◌≤◌, ◌⊎◌, ◌↔◌, List, Some, IsTrue, slice_index_or, All, nat_eq, []}
-use Rattle.std.specs.List.{IsDistinct}
+use Rattle.std.specs.Prelude.{◌≡◌, ℕ, ◌<◌, ◌≤◌, ◌⊎◌, ◌↔◌, List, length, Some, IsTrue}
 use Rattle.std.specs.List.Sorted.{IsStrictlyIncreasing}
 use Rattle.std.specs.FinMap.{get}
 use Rattle.model.specs.Graph.{Graph, Object, object_at, is_large}
 use Rattle.model.specs.Live.{Live}
 use Rattle.model.specs.Reached.{has}
 use Rattle.model.specs.Collected.{Collected, IsKept, renamed}
-use Rattle.model.specs.Census.{points_younger}
 use Rattle.model.specs.Store.{full_rooms}
 use Rattle.layout.specs.Place.{small_word}
 use Rattle.heap_data.specs.HeapValue.{HeapValue, nursery_count}
+use Rattle.heap_data.specs.Remembered.{RemembersExactly}
 
 -- the place is in one of the blocks
 abbrev pub IsIn : List ℕ → ℕ → Type 0
@@ -30,16 +29,6 @@ pub record IsFreeBlock (heap : HeapValue) (block : ℕ) : Type 0 where
   pub holds_none : ¬ (HoldsObject heap.graph block)
   pub no_large : (name : ℕ) (blocks : List ℕ) → get heap.large_blocks name ≡ Some blocks → ¬ (IsTrue (has blocks block))
 
--- the members are the objects of this generation that point to a younger one
-pub record IsRemembered (graph : Graph) (generation : ℕ) (members : List ℕ) : Type 0 where
-  pub once : IsDistinct nat_eq members
-  pub exact : (name : ℕ) (o : Object) → object_at graph name ≡ Some o → IsTrue (has members name) ↔ ((o.generation ≡ generation) × IsTrue (points_younger (object_at graph) o))
-  pub there : All (λ name. (o : Object) × (object_at graph name ≡ Some o)) members
-
--- the remembered sets are those of the graph
-pub record HasRememberedSets (heap : HeapValue) : Type 0 where
-  pub remembered : (generation : ℕ) → generation < heap.config.shape.generations → IsRemembered heap.graph generation (slice_index_or heap.remembered generation [])
-
 -- new is what a collection of the generations 0 to g leaves of old, renamed by places
 pub record CollectedHeap (old : HeapValue) (g : ℕ) (places : List (ℕ × ℕ)) (new : HeapValue) : Type 0 where
   pub config : new.config ≡ old.config
@@ -51,3 +40,6 @@ pub record CollectedHeap (old : HeapValue) (g : ℕ) (places : List (ℕ × ℕ)
   pub rising : IsStrictlyIncreasing new.free
   -- the blocks of the large objects that are kept stay theirs
   pub large_blocks : (name : ℕ) (blocks : List ℕ) → (get new.large_blocks name ≡ Some blocks) ↔ (IsKept old.graph g name × (get old.large_blocks name ≡ Some blocks))
+  -- the remembered sets, one for each generation, are exactly those of the objects
+  pub sets : length new.remembered ≡ length old.remembered
+  pub remembered : RemembersExactly new.graph new.remembered

@@ -10,5 +10,6 @@ pub mod CollectionCode
 pub mod Plain
 pub mod ReportValue
 pub mod ReportView
+pub mod Remembered
 pub mod CollectedHeap
 pub mod SettledValue

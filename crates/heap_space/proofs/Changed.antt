@@ -20,7 +20,7 @@ use Rattle.block_table.specs.Table.{slot_at, slot_objects, slot_words, objects_m
 use Rattle.nursery.specs.NurseryValue.{NurseryValue, nursery_room, IsNursery}
 use Rattle.heap_space.specs.Space.{IsSoundSpace, SpaceValue, rooms_of, space_of}
 use Rattle.block_table.proofs.BlockFinds.{find-object}
-use Rattle.heap_space.proofs.Located.{Begins}
+use Rattle.block_table.proofs.Located.{Begins}
 use Rattle.heap_space.proofs.Sound.{sound_fits}
 use Rattle.block_table.proofs.TableSteps.{in_list}
 use Rattle.block_table.proofs.TableLemmas.{TableFits, IsWordOf, find-at, find-first, object_in, word_cases}

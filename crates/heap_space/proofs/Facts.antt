@@ -22,7 +22,7 @@ use Rattle.block_table.proofs.TableCensus.{table-sound}
 use Rattle.nursery.specs.NurseryValue.{NurseryValue, nursery_room}
 use Rattle.heap_space.specs.Space.{IsSoundSpace, IsSpace, IsRoom, rooms_of, space_of}
 use Rattle.heap_space.proofs.Sound.{sound_fits, sound_blocks, few_blocks}
-use Rattle.heap_space.proofs.Located.{no_block, at_word}
+use Rattle.block_table.proofs.Located.{no_block, at_word}
 use Rattle.heap_space.proofs.Places.{each_place}
 
 first_object : (number : ℕ) (block : BlockValue) → 0 < length block.objects → (o : Object) × (find nat_cmp (small_word number 0) (slot_objects number (Some block)) ≡ Some o)

@@ -22,7 +22,7 @@ use Rattle.nursery.specs.NurseryValue.{NurseryValue}
 use Rattle.heap_space.specs.Space.{IsSoundSpace, space_of, graph_in}
 use Rattle.heap_space.specs.Collecting.{AreBases, IsNumbered}
 use Rattle.heap_space.proofs.Sound.{sound_fits, few_blocks}
-use Rattle.heap_space.proofs.Located.{Begins, IsBeginning, begins_at, object_found, number_in_range}
+use Rattle.block_table.proofs.Located.{Begins, IsBeginning, begins_at, object_found, number_in_range}
 use Rattle.heap_space.proofs.YoungNumbers.{is_young_there, begins_among, begins_young, BeginsYoung, numbered, base_at, few_young, young_count}
 
 module _ (config : Config) (table : List (Option BlockValue)) (nurseries : List NurseryValue) (pool : PoolValue) (sound : IsSoundSpace config table nurseries pool) (number offset : ℕ) (lt : offset < 512)

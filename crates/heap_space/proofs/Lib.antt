@@ -3,7 +3,6 @@ pub mod Pushing
 pub mod Sound
 pub mod Shapes
 pub mod Filling
-pub mod Located
 pub mod YoungNumbers
 pub mod Finding
 pub mod ClosedBlocks

@@ -20,7 +20,7 @@ use Rattle.nursery.specs.NurseryValue.{NurseryValue}
 use Rattle.heap_space.specs.Space.{IsSoundSpace, space_of, graph_in}
 use Rattle.heap_space.specs.Collecting.{AreBases, IsNumbered}
 use Rattle.heap_space.proofs.Sound.{sound_fits, few_blocks}
-use Rattle.heap_space.proofs.Located.{Begins, IsBeginning, begins_at, object_found, rank_is, count_is, few_objects, number_in_range, number_names, covered}
+use Rattle.block_table.proofs.Located.{Begins, IsBeginning, begins_at, object_found, rank_is, count_is, few_objects, number_in_range, number_names, covered}
 
 module _ (config : Config) (table : List (Option BlockValue)) (nurseries : List NurseryValue) (pool : PoolValue) (sound : IsSoundSpace config table nurseries pool) (g : ℕ) where
   abbrev graph : Graph

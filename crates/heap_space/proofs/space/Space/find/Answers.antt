@@ -4,7 +4,7 @@ use Rattle.model.specs.Graph.{Object}
 use Rattle.std.proofs.Common.{Option, Some, None}
 use Rattle.block_table.specs.Begins.{HasObjectAt}
 use Rattle.heap_space.proofs.Sound.{sound_fits, few_blocks}
-use Rattle.heap_space.proofs.Located.{large_none, covered}
+use Rattle.block_table.proofs.Located.{large_none, covered}
 use Rattle.heap_space.proofs.Finding.{beginning, shown, at_step, not_young, young_here, numbered_here, sum_is, sum_few}
 use Rattle.heap_space.proofs.space.Space.find.Goals as goal
 

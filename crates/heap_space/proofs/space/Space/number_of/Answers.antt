@@ -1,7 +1,7 @@
 use Rattle.std.proofs.Common.{◌≡◌, ◌<◌, length, get_or, refl, sym, ap, ◌∙◌, arith}
 use Rattle.model.proofs.Options.{some_not_none}
 use Rattle.heap_space.proofs.Sound.{sound_fits, few_blocks}
-use Rattle.heap_space.proofs.Located.{large_none, covered}
+use Rattle.block_table.proofs.Located.{large_none, covered}
 use Rattle.heap_space.proofs.Finding.{number_is, number_few}
 use Rattle.heap_space.proofs.YoungNumbers.{base_at}
 use Rattle.heap_space.proofs.space.Space.number_of.Goals as goal

@@ -9,7 +9,7 @@ use Rattle.block_table.specs.Table.{slot_at, objects_map}
 use Rattle.block_table.proofs.TableLemmas.{TableFits}
 use Rattle.heap_data.specs.Words.{IsShownAs}
 use Rattle.heap_space.proofs.Sound.{sound_fits, few_blocks}
-use Rattle.heap_space.proofs.Located.{object_found, object_none, large_none}
+use Rattle.block_table.proofs.Located.{object_found, object_none, large_none}
 use Rattle.heap_space.proofs.space.Space.object.Goals as goal
 
 shown : (table : List (Option BlockValue)) → TableFits table → length table ≤ 65535 → (number offset : ℕ) → offset < 512 → (o : Option ObjectRef)

@@ -2,7 +2,7 @@ use Rattle.std.proofs.Common.{◌<◌, arith, length, refl, sym, ◌∙◌}
 use Rattle.model.specs.Graph.{Object}
 use Rattle.heap_space.proofs.FieldWrites.{some_and, pointer_written}
 use Rattle.heap_space.proofs.Sound.{sound_fits, few_blocks}
-use Rattle.heap_space.proofs.Located.{covered, large_none}
+use Rattle.block_table.proofs.Located.{covered, large_none}
 use Rattle.block_table.proofs.TableSteps.{with_whole}
 use Rattle.model.proofs.Options.{some_is, some_not_none}
 use Rattle.heap_space.proofs.space.Space.set_pointer.Goals as goal

@@ -3,7 +3,7 @@ use Rattle.std.specs.Option.{option_map}
 use Rattle.steps.specs.StepPairs.{stands_at}
 use Rattle.layout.specs.ObjectRef.{raw_of}
 use Rattle.heap_space.proofs.Sound.{sound_fits, few_blocks}
-use Rattle.heap_space.proofs.Located.{object_found, object_none, large_none}
+use Rattle.block_table.proofs.Located.{object_found, object_none, large_none}
 use Rattle.heap_space.proofs.space.Space.step_of.Goals as goal
 
 pub returns-in_default : goal.returns-in_default
