@@ -2,20 +2,17 @@
 use Rattle.std.proofs.Common.{◌≡◌, ℕ, zero, suc, ◌+◌, ◌<◌, Bool, true, false, cond, List, [], ◌∷◌, ◌++◌, map, length, take, get_or, Option, Some, None, refl, sym, ap, ◌∙◌, arith, append_assoc}
 use Rattle.std.proofs.lemmas.List.{append-nil, map-append, take_more, length-map, length-take}
 use Rattle.std.proofs.lemmas.List.Sums.{sum_by-cons}
-use Rattle.std.proofs.lemmas.List.Elements.{filter-append}
 use Rattle.std.proofs.lemmas.Grind.{flat_map-append}
-use Rattle.std.specs.Prelude.{filter, flat_map, nat_eq, slice_get}
+use Rattle.std.specs.Prelude.{filter, flat_map, slice_get}
 use Rattle.model.specs.Graph.{Graph, Object}
 use Rattle.model.specs.Destination.{numbers_from}
 use Rattle.model.specs.OldSlots.{Slot, is_young_name, slots_of_fields, slots_of_generation}
 use Rattle.layout.specs.Object.{Raw, raw_size}
-use Rattle.layout.specs.Place.{small_word}
 use Rattle.block_pool.specs.BlockValue.{BlockValue, offset_of}
 use Rattle.heap_data.specs.CollectionValue.{SlotValue, field_slot, field_slot_of}
 use Rattle.heap_data.specs.Words.{target_of_word}
-use Rattle.heap_data.specs.BlockObjects.{object_of, objects_from, block_objects}
+use Rattle.heap_data.specs.BlockObjects.{object_of, objects_from}
 use Rattle.block_table.specs.Table.{slot_objects, table_objects}
-use Rattle.block_table.specs.TableGraph.{slots_of_objects}
 
 abbrev slot_of : ℕ → ℕ → ℕ → Slot
 slot_of holder i target = record { holder = holder; field = i; target = target }
@@ -88,18 +85,6 @@ entry_is word g s (r ∷ raws) (suc k) raw d is =
     let next : word + raw_size r + offset_of raws k ≡ word + offset_of (r ∷ raws) (suc k) = omega (arith, sum_by-cons raw_size r (take k raws)) in
     entry_is (word + raw_size r) g s raws k raw d is ∙ (λ i. (next i, object_of g s raw))
 
--- one more object of a block
-pub objects-more : (graph : Graph) (g number : ℕ) (block : BlockValue) (k : ℕ) (raw : Raw) → slice_get block.objects k ≡ Some raw → k < length block.objects
-    → slots_of_objects graph g (take (k + 1) (block_objects number block)) ≡ slots_of_objects graph g (take k (block_objects number block)) ++ slots_of_fields graph g (small_word number 0 + offset_of block.objects k) 0 (map target_of_word raw.pointers)
-objects-more graph g number block k raw is lt =
-    let entries = block_objects number block in
-    let none : ℕ × Object = (0, object_of 0 0 raw) in
-    let in_range : k < length entries = omega (arith, lt, length-entries (small_word number 0) block.generation block.step block.objects) in
-    ap (slots_of_objects graph g) (take_more entries k none in_range)
-    ∙ flat_map-append (λ e. slots_of_fields graph g e.0 0 e.1.pointers) (take k entries) (get_or entries k none ∷ [])
-    ∙ ap (λ (e : ℕ × Object). slots_of_objects graph g (take k entries) ++ (slots_of_fields graph g e.0 0 e.1.pointers ++ [])) (entry_is (small_word number 0) block.generation block.step block.objects k raw none is)
-    ∙ ap (λ ss. slots_of_objects graph g (take k entries) ++ ss) (append-nil (slots_of_fields graph g (small_word number 0 + offset_of block.objects k) 0 (map target_of_word raw.pointers)))
-
 table-next : (number : ℕ) (table : List (Option BlockValue)) (n : ℕ) → n < length table → table_objects number (take (suc n) table) ≡ table_objects number (take n table) ++ slot_objects (number + n) (get_or table n None)
 table-next number [] n lt = absurd (omega arith)
 table-next number (slot ∷ table) zero lt =
@@ -115,27 +100,6 @@ pub table-more : (number : ℕ) (table : List (Option BlockValue)) (n : ℕ) →
 table-more number table n lt =
     let next : n + 1 ≡ suc n = omega arith in
     ap (λ m. table_objects number (take m table)) next ∙ table-next number table n lt
-
-abbrev of_generation : ℕ → List (ℕ × Object) → List (ℕ × Object)
-of_generation h es = filter (λ e. nat_eq e.1.generation h) es
-
-pub blocks-more : (graph : Graph) (g h : ℕ) (table : List (Option BlockValue)) (n : ℕ) → n < length table
-    → slots_of_objects graph g (of_generation h (table_objects 0 (take (n + 1) table))) ≡ slots_of_objects graph g (of_generation h (table_objects 0 (take n table))) ++ slots_of_objects graph g (of_generation h (slot_objects n (get_or table n None)))
-blocks-more graph g h table n lt =
-    let none : 0 + n ≡ n = omega arith in
-    ap (λ es. slots_of_objects graph g (of_generation h es)) (table-more 0 table n lt ∙ ap (λ m. table_objects 0 (take n table) ++ slot_objects m (get_or table n None)) none)
-    ∙ ap (slots_of_objects graph g) (filter-append (λ e. nat_eq e.1.generation h) (table_objects 0 (take n table)) (slot_objects n (get_or table n None)))
-    ∙ flat_map-append (λ e. slots_of_fields graph g e.0 0 e.1.pointers) (of_generation h (table_objects 0 (take n table))) (of_generation h (slot_objects n (get_or table n None)))
-
--- all objects of a block are of its generation
-pub block-of : (number h : ℕ) (block : BlockValue) (b : Bool) → nat_eq block.generation h ≡ b → of_generation h (block_objects number block) ≡ cond b (block_objects number block) []
-block-of number h block b is = go (small_word number 0) block.objects b is
-  where
-    go : (word : ℕ) (raws : List Raw) (c : Bool) → nat_eq block.generation h ≡ c → of_generation h (objects_from word block.generation block.step raws) ≡ cond c (objects_from word block.generation block.step raws) []
-    go word [] true e = refl
-    go word [] false e = refl
-    go word (r ∷ raws) true e = rw e (ap (λ es. (word, object_of block.generation block.step r) ∷ es) (go (word + raw_size r) raws true e))
-    go word (r ∷ raws) false e = rw e (go (word + raw_size r) raws false e)
 
 numbers-more : (i n : ℕ) → numbers_from i (suc n) ≡ numbers_from i n ++ (i + n) ∷ []
 numbers-more i zero = let none : i ≡ i + 0 = omega arith in ap (λ j. j ∷ []) none

@@ -16,6 +16,6 @@ pub mod StepBlocks
 pub mod Numbers
 pub mod GraphObjects
 pub mod Located
-pub mod Holders
+pub mod HeldObjects
 pub mod FieldSlots
 pub mod Remembering

@@ -3,6 +3,7 @@
 
 mod counts;
 mod exchanging;
+mod holders;
 mod old_slots;
 mod remembered;
 mod table;
@@ -10,6 +11,6 @@ mod targets;
 
 pub use counts::{bases, count_step, young_blocks};
 pub use exchanging::{end_of, exchange, grow};
-pub use old_slots::push_old_slots;
-pub use remembered::count_remembered;
+pub use old_slots::push_slots_of;
+pub use remembered::{count_remembered, is_holder};
 pub use table::{Table, block_object, object_from, ordinal_at, set_plain, set_pointer, step_at};

@@ -7,12 +7,16 @@ ghost use Rattle.model.specs.Config.{Config};
 ghost use Rattle.model.specs.Graph.{Graph, object_at};
 ghost use Rattle.steps.specs.ConfigRange.{IsInRange};
 ghost use Rattle.heap_data.specs.BlockObjects.{block_objects};
+ghost use Rattle.layout.specs.Place.{place_word};
+ghost use Rattle.heap_data.specs.Remembered.{is_holder};
 ghost use Rattle.heap_data.specs.Words.{target_of_word};
 ghost use Rattle.block_table.specs.Table.{AreHeapBlocks, IsClosedTable, objects_map, slot_at, slot_objects};
 ghost use Rattle.block_table.specs.TableGraph.{IsTableGraph, IsClosedWord};
 
+use crate::holders::object_of_generation;
 use crate::targets::target_generation;
 use block_pool::Block;
+use layout::Place;
 use std::alloc::Allocator;
 
 /// Whether a pointer with this word leads to an object of a generation below `generation`.
@@ -39,6 +43,17 @@ fn points_below<A: Allocator>(table: &[Option<Block<A>>], pointers: &[u64], gene
         }
     }
     false
+}
+
+/// Whether the object at a place is of generation `h` and has a pointer to an object of a younger one.
+pub fn is_holder<A: Allocator>(table: &[Option<Block<A>>], h: u8, place: Place) -> bool
+    requires short { length table.now ≤ 65535 }
+    ensures { (graph : Graph) → IsTableGraph graph table.now → result ≡ is_holder graph h (place_word place) }
+{
+    match object_of_generation(table, h, place) {
+        Some(object) => points_below(table, object.pointers, h),
+        None => false,
+    }
 }
 
 /// How many objects of a block have a pointer to an object of a younger generation.
