@@ -8,7 +8,7 @@ use Rattle.std.proofs.lemmas.List.{take_more, take_all, take-append-drop, drop_m
 use Rattle.std.proofs.lemmas.Option.{slice_get-get_or, slice_get_within, get_or_from_slice_get}
 use Rattle.number_sets.specs.Members.{set_from}
 use Rattle.number_sets.specs.Words.{bits_of, flags_of, members_of, rank, NoneSetBelow, AreRanks}
-use Rattle.number_sets.proofs.Flags.{set_from-append, set_from-first, set_from-none, length-set_from-le}
+use Rattle.number_sets.proofs.FlagLemmas.{set_from-append, set_from-first, set_from-none, length-set_from-le}
 use Rattle.number_sets.proofs.Bits.{length-bits, bits-zero, bits-cleared, count_bits, IsLowest, is_lowest}
 use Rattle.number_sets.proofs.WordLemmas.{length-flags, flags-append, flags-one, flags-cons}
 

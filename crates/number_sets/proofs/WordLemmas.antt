@@ -8,7 +8,7 @@ use Rattle.std.specs.List.{range_with_len}
 use Rattle.std.proofs.lemmas.List.FromFn.{length-range_with_len}
 use Rattle.number_sets.specs.Members.{set_from}
 use Rattle.number_sets.specs.Words.{bits_of, flags_of, members_of, NoneSetBelow, IsNumberSet}
-use Rattle.number_sets.proofs.Flags.{length-set_from-cleared, length-set_from-set, none_past-cleared, none_past-set, none_below-kept, none_below-set, set_from-first, set_from-none, set_from-append, set_from-all, contains-below, contains-from_is_set}
+use Rattle.number_sets.proofs.FlagLemmas.{length-set_from-cleared, length-set_from-set, none_past-cleared, none_past-set, none_below-kept, none_below-set, set_from-first, set_from-none, set_from-append, set_from-all, contains-below, contains-from_is_set}
 use Rattle.number_sets.proofs.Bits.{length-bits, bits-at, bits-set, bits-cleared, bits-zero, bits-ones, IsLowest, is_lowest}
 
 pub length-flags : (ws : List ℕ) → length (flags_of ws) ≡ 64 * length ws

@@ -28,6 +28,10 @@ NoneSetBelow flags place = (k : ℕ) → k < place → get_or flags k false ≡ 
 abbrev pub NoneSetFrom : List Bool → ℕ → Type 0
 NoneSetFrom flags place = (k : ℕ) → place ≤ k → get_or flags k false ≡ false
 
+-- no flag is set from one place on and below another
+abbrev pub NoneSetBetween : List Bool → ℕ → ℕ → Type 0
+NoneSetBetween flags from place = (k : ℕ) → from ≤ k → k < place → get_or flags k false ≡ false
+
 -- what holds of the fields of a set: no word before the lowest has a member
 pub record IsNumberSet (words : List ℕ) (limit count lowest : ℕ) : Type 0 where
   pub count_is : count ≡ length (members_of words)

@@ -32,7 +32,7 @@ impl<A: Allocator> Model for NumberSet<A> {
 }
 
 /// The first word, from `from` on, that is not 0, or the number of words where there is none.
-fn next_word(words: &[u64], from: usize) -> usize
+pub(crate) fn next_word(words: &[u64], from: usize) -> usize
     requires { from ≤ length words.now }
     ensures from { from ≤ result }
     ensures to { result ≤ length words.now }

@@ -3,7 +3,7 @@ use Rattle.std.proofs.lemmas.Bool.{ltb-true}
 use Rattle.std.proofs.lemmas.List.{get_or_read}
 use Rattle.std.proofs.lemmas.Nat.Bits.{shr_and_one}
 use Rattle.number_sets.specs.Words.{flags_of, members_of}
-use Rattle.number_sets.proofs.Flags.{is_set-from_contains, contains-from_is_set, contains-below}
+use Rattle.number_sets.proofs.FlagLemmas.{is_set-from_contains, contains-from_is_set, contains-below}
 use Rattle.number_sets.proofs.WordLemmas.{flags-at}
 use Rattle.number_sets.proofs.number_set.NumberSet.contains.Goals as goal
 

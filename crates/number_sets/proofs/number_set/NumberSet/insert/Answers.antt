@@ -1,7 +1,7 @@
 use Rattle.std.proofs.Common.{◌≡◌, ◌<◌, ◌/◌, ap, arith, get_or, length, false, refl}
 use Rattle.std.proofs.lemmas.List.{length-set, get_or_read}
 use Rattle.number_sets.specs.Words.{flags_of, members_of}
-use Rattle.number_sets.proofs.Flags.{not_set-from_not_contains, contains-set, insert_rising-set, set_from-at_most}
+use Rattle.number_sets.proofs.FlagLemmas.{not_set-from_not_contains, contains-set, insert_rising-set, set_from-at_most}
 use Rattle.number_sets.proofs.WordLemmas.{length-flags, flags-set, IsNumberSet-inserted}
 use Rattle.number_sets.proofs.number_set.NumberSet.insert.Goals as goal
 

@@ -1,6 +1,6 @@
 use Rattle.std.proofs.Common.{◌≡◌, ap, arith}
 use Rattle.number_sets.specs.Words.{flags_of, members_of}
-use Rattle.number_sets.proofs.Flags.{set_from-rises, set_from-at_most, All-below}
+use Rattle.number_sets.proofs.FlagLemmas.{set_from-rises, set_from-at_most, All-below}
 use Rattle.number_sets.proofs.number_set.NumberSet.ranked.Goals as goal
 
 pub of_words-requires-clause-in_range : goal.of_words-requires-clause-in_range

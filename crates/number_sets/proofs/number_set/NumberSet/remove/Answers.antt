@@ -2,7 +2,7 @@ use Rattle.std.proofs.Common.{◌≡◌, ◌<◌, ◌/◌, ap, arith, get_or, re
 use Rattle.std.specs.List.{Contains}
 use Rattle.std.proofs.lemmas.List.{length-set, get_or_read}
 use Rattle.number_sets.specs.Words.{flags_of, members_of}
-use Rattle.number_sets.proofs.Flags.{is_set-from_contains, contains-cleared, without-cleared, contains-below}
+use Rattle.number_sets.proofs.FlagLemmas.{is_set-from_contains, contains-cleared, without-cleared, contains-below}
 use Rattle.number_sets.proofs.WordLemmas.{flags-cleared, IsNumberSet-removed}
 use Rattle.number_sets.proofs.number_set.NumberSet.remove.Goals as goal
 

@@ -1,6 +1,6 @@
 use Rattle.std.proofs.Common.{◌≡◌}
 use Rattle.number_sets.specs.Words.{flags_of, members_of}
-use Rattle.number_sets.proofs.Flags.{set_from-rises}
+use Rattle.number_sets.proofs.FlagLemmas.{set_from-rises}
 use Rattle.number_sets.proofs.ranked_set.RankedSet.len.Goals as goal
 
 pub returns-clause-rising : goal.returns-clause-rising
