@@ -5,24 +5,25 @@ ghost use Rattle.std.specs.Option.{option_map};
 ghost use Rattle.model.specs.Graph.{Object, IsClosed, with_pointer};
 ghost use Rattle.model.specs.Census.{step_count, points_younger};
 ghost use Rattle.model.specs.Live.{IsYoung};
-ghost use Rattle.model.specs.OldSlots.{old_slots};
 ghost use Rattle.layout.specs.Place.{place_word, pointer_word};
 ghost use Rattle.layout.specs.ObjectRef.{raw_of};
 ghost use Rattle.steps.specs.ConfigRange.{IsInRange};
 ghost use Rattle.steps.specs.StepPairs.{step_pair, stands_at};
 ghost use Rattle.heap_data.specs.HeapValue.{nursery_count};
+ghost use Rattle.heap_data.specs.Remembered.{is_holder};
 ghost use Rattle.heap_data.specs.Words.{IsShownAs};
 ghost use Rattle.heap_data.specs.CensusView.{step_value};
 ghost use Rattle.heap_data.specs.SlotView.{slot_value};
 ghost use Rattle.heap_data.specs.CollectionValue.{young_names, field_slot_of};
+ghost use Rattle.block_table.specs.TableGraph.{slots_at};
 ghost use Rattle.heap_space.specs.Space.{SpaceAllocates, empty_space, room_in, graph_in, IsSpace};
 ghost use Rattle.heap_space.specs.Collecting.{AreBases, IsNumbered, CanReplace, IsReplaced};
 
 use crate::nurseries::{nurseries_of, nursery_table, reset_all};
 use block_pool::{Block, Pool, RankedSet};
 use block_table::{
-    Table, bases, block_object, count_remembered, count_step, end_of, exchange, grow, object_from,
-    ordinal_at, push_old_slots, set_plain, set_pointer, step_at, young_blocks,
+    Table, bases, block_object, count_remembered, count_step, end_of, exchange, grow, is_holder,
+    object_from, ordinal_at, push_slots_of, set_plain, set_pointer, step_at, young_blocks,
 };
 use heap_data::{Slot, StepCount};
 use layout::{ObjectRef, Place};
@@ -220,18 +221,28 @@ impl<A: Allocator + Clone> Space<A> {
         count_remembered(&self.table)
     }
 
-    /// Puts the pointers of objects older than `g` that lead to objects of generation at most `g` at the end of the
-    /// slots: by the generation of their object, then its place, then the field.
-    pub fn push_old_slots<B: Allocator>(
+    /// Puts the pointers of the object of generation `h` at a place, where there is one, at the end of the slots, those
+    /// that lead to objects of generation at most `g`.
+    pub fn push_slots_of<B: Allocator>(
         &self,
         slots: &mut Vec<Slot, B>,
         g: u8,
+        h: u8,
+        place: Place,
     ) -> Result<(), AllocError>
         requires { IsClosed (graph_in self.now) }
         ensures { OnOk result (map slot_value slots.new.items ≡ map slot_value slots.old.items
-            ++ map field_slot_of (old_slots (graph_in self.now) self.now.config.shape.generations g)) }
+            ++ map field_slot_of (slots_at (graph_in self.now) g h (place_word place))) }
     {
-        push_old_slots(slots, &self.table, g, self.config.generations() as u8)
+        push_slots_of(slots, &self.table, g, h, place)
+    }
+
+    /// Whether the object at a place is of generation `h` and has a pointer to an object of a younger one.
+    pub fn is_holder(&self, h: u8, place: Place) -> bool
+        requires { IsClosed (graph_in self.now) }
+        ensures { result ≡ is_holder (graph_in self.now) h (place_word place) }
+    {
+        is_holder(&self.table, h, place)
     }
 
     /// The number of the first object of generation at most `g` of each block, and how many such objects there are.
