@@ -19,7 +19,7 @@ use Rattle.model.proofs.Options.{some_is, some_not_none}
 use Rattle.layout.specs.declared.place.Place.{Place}
 use Rattle.block_pool.specs.BlockValue.{BlockValue}
 use Rattle.heap_commit.specs.HeapView.{heap_of}
-use Rattle.heap_commit.specs.IsHeap.{IsHeap}
+use Rattle.heap_commit.specs.IsHeap.{AreHeapObjects}
 use Rattle.heap_commit.specs.Moves.{writes_by, with_writes}
 use Rattle.heap_commit.specs.Roots.{roots_map, root_word, renamed_word}
 use Rattle.heap_space.specs.Space.{SpaceValue, IsSpace}
@@ -27,7 +27,8 @@ use Rattle.heap_commit.specs.Installed.{Installed}
 use Rattle.heap_data.specs.ReportValue.{renaming_of}
 use Rattle.heap_data.specs.CollectionValue.{CollectionValue, SlotValue, root_slot, field_slot_of, young_names}
 use Rattle.heap_data.specs.SettledValue.{IsSettled}
-use Rattle.heap_data.specs.CollectedHeap.{CollectedHeap, IsIn}
+use Rattle.heap_data.specs.CollectedHeap.{IsIn}
+use Rattle.heap_commit.specs.Ended.{IsEnded}
 use Rattle.block_table.proofs.Installed.{numbers_of, all_numbers}
 use Rattle.heap_commit.proofs.RootMap.{get-roots}
 use Rattle.heap_commit.proofs.FieldsMoved.{written, written_or_not, with_writes-none, moved_pointers}
@@ -204,10 +205,10 @@ module _ (space space' : SpaceValue) (slots slots' : List (Option Place)) (colle
   is_in_free : (place : ℕ) → IsIn (numbers_of blocks) place → IsIn space.free place
   is_in_free place at = (at.0, (at.1.0, (at.1.1.0, at.1.1.1, all_numbers blocks space.free at.0 settled.were_free at.1.1.2)))
 
-  pub now_sound : IsHeap (heap_of space' slots')
+  pub now_sound : AreHeapObjects (heap_of space' slots')
   now_sound = is_heap space' slots' sound' now_closed
 
-  pub collected_heap : CollectedHeap (heap_of space slots) collection.generation renaming (heap_of space' slots')
+  pub collected_heap : IsEnded (heap_of space slots) collection.generation renaming (heap_of space' slots')
   collected_heap = record {
     config = installed.config ∙ installed.replaces.config;
     graph = collected;

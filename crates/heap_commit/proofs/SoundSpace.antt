@@ -10,9 +10,9 @@ use Rattle.layout.specs.Place.{small_word}
 use Rattle.heap_data.specs.CollectedHeap.{IsFreeBlock, HoldsObject}
 use Rattle.heap_space.specs.Space.{SpaceValue, IsSpace}
 use Rattle.heap_commit.specs.HeapView.{heap_of}
-use Rattle.heap_commit.specs.IsHeap.{IsHeap}
+use Rattle.heap_commit.specs.IsHeap.{AreHeapObjects}
 
-pub is_heap : (space : SpaceValue) (slots : List (Option Place)) → IsSpace space → IsClosed (heap_of space slots).graph → IsHeap (heap_of space slots)
+pub is_heap : (space : SpaceValue) (slots : List (Option Place)) → IsSpace space → IsClosed (heap_of space slots).graph → AreHeapObjects (heap_of space slots)
 is_heap space slots sound closed = record {
   range = sound.in_range;
   closed = closed;

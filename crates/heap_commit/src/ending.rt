@@ -5,9 +5,9 @@ ghost use Rattle.model.specs.LiveCount.{LiveCount};
 ghost use Rattle.heap_data.specs.CollectionValue.{young_names};
 ghost use Rattle.heap_data.specs.ReportValue.{all_won, renaming_of};
 ghost use Rattle.heap_data.specs.SettledValue.{IsSettled};
-ghost use Rattle.heap_data.specs.CollectedHeap.{CollectedHeap};
+ghost use Rattle.heap_commit.specs.Ended.{IsEnded};
 ghost use Rattle.heap_commit.specs.HeapView.{heap_of};
-ghost use Rattle.heap_commit.specs.IsHeap.{IsHeap};
+ghost use Rattle.heap_commit.specs.IsHeap.{AreHeapObjects};
 
 use crate::counts::{all_fit, report_of};
 use crate::installing::install;
@@ -29,7 +29,7 @@ pub fn commit<A: Allocator + Clone>(
     requires closed { IsClosed (heap_of space.old roots.old.slots).graph }
     requires settled { IsSettled (heap_of space.old roots.old.slots)
         settled.collection settled.places.items settled.blocks.items (all_won settled.workers.items) }
-    ensures ok { IfOk result (λ _. CollectedHeap (heap_of space.old roots.old.slots) settled.collection.generation
+    ensures ok { IfOk result (λ _. IsEnded (heap_of space.old roots.old.slots) settled.collection.generation
         (renaming_of (young_names (heap_of space.old roots.old.slots).graph settled.collection.generation) (all_won settled.workers.items))
         (heap_of space.new roots.new.slots)) }
     ensures kept { IfOk result (λ report. LiveCount (heap_of space.old roots.old.slots).graph settled.collection.generation report.kept) }
@@ -38,7 +38,7 @@ pub fn commit<A: Allocator + Clone>(
         ≡ length (young_names (heap_of space.old roots.old.slots).graph settled.collection.generation)) }
     ensures workers { IfOk result (λ report. report.workers ≡ settled.workers) }
     ensures deliveries { IfOk result (λ report. report.deliveries ≡ settled.deliveries) }
-    ensures sound { IfOk result (λ _. IsHeap (heap_of space.new roots.new.slots)) }
+    ensures sound { IfOk result (λ _. AreHeapObjects (heap_of space.new roots.new.slots)) }
     ensures space_as_before { OnErr result (space.new ≡ space.old) }
     ensures roots_as_before { OnErr result (roots.new ≡ roots.old) }
 {
