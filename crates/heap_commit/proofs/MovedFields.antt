@@ -1,4 +1,4 @@
--- Fields renamed and written one after the other.
+-- Roots and fields renamed, and fields written, one after the other.
 use Rattle.std.proofs.Common.{◌≡◌, ℕ, zero, suc, ◌+◌, ◌<◌, false, cond, List, [], ◌∷◌, ◌++◌, length, map, take, get_or, Option, Some, None, refl, sym, ap, subst, ◌∙◌, arith, ⊎_elim}
 use Rattle.std.proofs.lemmas.Bool.{cases_eq, eq-eqb, ne_eqb}
 use Rattle.std.proofs.lemmas.List.{take_more, map-append}
@@ -10,7 +10,7 @@ use Rattle.model.specs.Graph.{Object, with_pointer}
 use Rattle.model.proofs.NatMap.{get-insert_same, get-insert_other}
 use Rattle.heap_data.specs.CollectionValue.{SlotValue, root_slot, field_slot}
 use Rattle.heap_space.specs.Space.{SpaceValue}
-use Rattle.heap_commit.specs.Moves.{writes_by, with_writes}
+use Rattle.heap_commit.specs.Moves.{roots_by, writes_by, with_writes}
 use Rattle.heap_commit.proofs.FieldsMoved.{with_writes-append, with_writes-length}
 
 -- what holds of each of a list holds of this one
@@ -26,6 +26,11 @@ pub writes-append : (f : ℕ → ℕ) (xs ys : List SlotValue) → writes_by f (
 writes-append f [] ys = refl
 writes-append f (root_slot root target ∷ xs) ys = writes-append f xs ys
 writes-append f (field_slot holder field target ∷ xs) ys = ap (λ ws. (holder, (field, f target)) ∷ ws) (writes-append f xs ys)
+
+pub roots-append : (f : ℕ → ℕ) (xs ys : List SlotValue) → roots_by f (xs ++ ys) ≡ roots_by f xs ++ roots_by f ys
+roots-append f [] ys = refl
+roots-append f (root_slot root target ∷ xs) ys = ap (λ es. (root, f target) ∷ es) (roots-append f xs ys)
+roots-append f (field_slot holder field target ∷ xs) ys = roots-append f xs ys
 
 some_holder : (P : Object → Type 0) (o : Option Object) → IsSomeAnd o P → (x : Object) × (o ≡ Some x) × P x
 some_holder P None h = absurd h

@@ -1,32 +1,31 @@
 -- Each root with its new place.
 use Rattle.std.proofs.Common.{◌≡◌, ℕ, List, [], ◌∷◌, ◌++◌, map, Option, refl, sym, ap, subst, ◌∙◌}
-use Rattle.std.proofs.lemmas.List.{append_assoc, map-append}
 use Rattle.std.specs.Prelude.{nat_eq}
 use Rattle.std.specs.List.{IsDistinct}
 use Rattle.model.proofs.RisingKeys.{distinct_from_rise, keys-rise, entries-rise}
 use Rattle.std.specs.FinMap.{entries}
-use Rattle.slab.specs.Slab.{entries_from}
+use Rattle.model.specs.OldSlots.{Slot, old_slots}
 use Rattle.layout.specs.declared.place.Place.{Place}
-use Rattle.layout.specs.Place.{place_word}
+use Rattle.heap_data.specs.CollectionValue.{CollectionValue, IsOpened, root_slot, field_slot_of}
+use Rattle.heap_space.specs.Space.{SpaceValue}
+use Rattle.heap_commit.specs.HeapView.{heap_of}
+use Rattle.heap_commit.specs.Moves.{roots_by}
 use Rattle.heap_commit.specs.Roots.{roots_map}
 use Rattle.heap_commit.specs.RootView.{root_pair}
 use Rattle.heap_commit.specs.declared.moves.RenamedRoot.{RenamedRoot}
-use Rattle.heap_commit.proofs.RootMap.{entries-roots, pair_words}
 
--- the pairs with new words
-abbrev pub pairs_by : (ℕ → ℕ) → List (ℕ × Place) → List (ℕ × ℕ)
-pairs_by f pairs = map (λ e. (e.0, f (place_word e.1))) pairs
+roots-fields : (f : ℕ → ℕ) (fields : List Slot) → roots_by f (map field_slot_of fields) ≡ []
+roots-fields f [] = refl
+roots-fields f (field ∷ fields) = roots-fields f fields
 
-words-pairs : (f : ℕ → ℕ) (pairs : List (ℕ × Place)) → map (λ e. (e.0, f e.1)) (pair_words pairs) ≡ pairs_by f pairs
-words-pairs f [] = refl
-words-pairs f (p ∷ pairs) = ap (λ ss. (p.0, f (place_word p.1)) ∷ ss) (words-pairs f pairs)
+roots-slots : (f : ℕ → ℕ) (es : List (ℕ × ℕ)) (fields : List Slot) → roots_by f (map (λ e. root_slot e.0 e.1) es ++ map field_slot_of fields) ≡ map (λ e. (e.0, f e.1)) es
+roots-slots f [] fields = roots-fields f fields
+roots-slots f (e ∷ es) fields = ap (λ ps. (e.0, f e.1) ∷ ps) (roots-slots f es fields)
 
-pub pairs_are_all : (f : ℕ → ℕ) (slots : List (Option Place)) → pairs_by f (entries_from 0 slots) ≡ map (λ e. (e.0, f e.1)) (entries (roots_map slots))
-pairs_are_all f slots = sym (ap (map (λ e. (e.0, f e.1))) (entries-roots slots) ∙ words-pairs f (entries_from 0 slots))
-
-pub pairs_more : (f : ℕ → ℕ) (items : List RenamedRoot) (number : ℕ) (place : Place) (root : RenamedRoot) (rest : List (ℕ × Place)) → root_pair root ≡ (number, f (place_word place)) → map root_pair (items ++ root ∷ []) ++ pairs_by f rest ≡ map root_pair items ++ pairs_by f ((number, place) ∷ rest)
-pairs_more f items number place root rest same =
-    rw (map-append root_pair items (root ∷ []), append_assoc (map root_pair items) (root_pair root ∷ []) (pairs_by f rest), same) refl
+-- the slots of a collection have all the roots of the heap that it was opened on
+pub roots_opened : (space : SpaceValue) (slots : List (Option Place)) (g : ℕ) (collection : CollectionValue) (f : ℕ → ℕ) → IsOpened (heap_of space slots) g collection → roots_by f collection.slots ≡ map (λ e. (e.0, f e.1)) (entries (roots_map slots))
+roots_opened space slots g collection f opened =
+    ap (roots_by f) opened.slots ∙ roots-slots f (entries (roots_map slots)) (old_slots (heap_of space slots).graph space.config.shape.generations g)
 
 numbers-pairs : (items : List RenamedRoot) → map (λ r. r.number) items ≡ map (λ e. e.0) (map root_pair items)
 numbers-pairs [] = refl

@@ -21,7 +21,7 @@ use Rattle.model.proofs.OldSlotsExact.{old_slots_exact, young_name}
 use Rattle.layout.specs.declared.place.Place.{Place}
 use Rattle.layout.specs.Place.{place_word}
 use Rattle.block_pool.specs.BlockValue.{BlockValue}
-use Rattle.heap_commit.specs.HeapView.{heap_of, LeadsToObjects}
+use Rattle.heap_commit.specs.HeapView.{heap_of}
 use Rattle.heap_commit.specs.Roots.{roots_map}
 use Rattle.heap_commit.specs.Moves.{Moves}
 use Rattle.heap_space.specs.Space.{SpaceValue, IsSpace, graph_in}
@@ -31,7 +31,7 @@ use Rattle.heap_data.specs.ReportValue.{renaming_of}
 use Rattle.heap_data.specs.CollectionValue.{CollectionValue, SlotValue, root_slot, field_slot_of, target_of_slot, young_names}
 use Rattle.heap_data.specs.SettledValue.{IsSettled}
 use Rattle.model.proofs.RisingKeys.{same_index, keys-filter_rise}
-use Rattle.heap_commit.proofs.RootMap.{get-roots, entry-root}
+use Rattle.heap_commit.proofs.RootMap.{entry-root}
 use Rattle.block_table.proofs.TableSteps.{in_list}
 use Rattle.heap_data.proofs.WonNames.{won_as, find-renaming}
 use Rattle.model.proofs.Finds.{find_all}
@@ -137,16 +137,6 @@ module _ (space : SpaceValue) (slots : List (Option Place)) (collection : Collec
       let low : won_by.number < length names = find_all (λ n. n < length names) won won_by.number live.0 numbers_named won_by.found in
       let same : won_by.number ≡ number = named_once won_by.number number low is.in_range (won_by.is ∙ sym is.is) in
       some_place (slice_index_or places number None) live.0 (settled.same_places number ∙ ap (λ n. find nat_cmp n won) (sym same) ∙ won_by.found)
-
-  pub leads : LeadsToObjects space slots
-  leads root place is =
-      let there = closed.roots root (place_word place) (get-roots slots root ∙ ap (option_map place_word) is) in
-      ap is_some there.1
-
-  pub root_named : (root number : ℕ) (place : Place) → slice_index_or slots root None ≡ Some place → IsNumbered space collection.generation (place_word place) number → IsSome (slice_index_or places number None)
-  root_named root number place is numbered =
-      let rooted : IsRooted graph (place_word place) = record { root = root; leads = get-roots slots root ∙ ap (option_map place_word) is } in
-      live_named (place_word place) number (first (numbered_young (place_word place) number numbered, inl rooted)) numbered
 
   -- what a slot leads to: an object, which is live where it is collected
   record LeadsToLive (slot : SlotValue) : Type 0 where

@@ -1,8 +1,7 @@
 -- The heap that blocks and roots make.
-use Rattle.std.specs.Prelude.{◌≡◌, ℕ, List, [], Option, Some, None, replicate, slice_index_or, IsSome, All}
+use Rattle.std.specs.Prelude.{List, [], Option, replicate, IsSome, All}
 use Rattle.std.specs.FinMap.{get, empty}
 use Rattle.layout.specs.declared.place.Place.{Place}
-use Rattle.layout.specs.Place.{place_word}
 use Rattle.heap_data.specs.HeapValue.{HeapValue}
 use Rattle.heap_data.specs.CollectionValue.{SlotValue, target_of_slot}
 use Rattle.heap_commit.specs.Roots.{roots_map}
@@ -18,10 +17,6 @@ heap_of space slots =
       large_blocks = empty;
       remembered = replicate space.config.shape.generations [];
     }
-
--- each root leads to an object
-abbrev pub LeadsToObjects : SpaceValue → List (Option Place) → Type 0
-LeadsToObjects space slots = (root : ℕ) (place : Place) → slice_index_or slots root None ≡ Some place → IsSome (get space.objects (place_word place))
 
 -- what each slot leads to is an object
 abbrev pub SlotsLeadToObjects : SpaceValue → List SlotValue → Type 0

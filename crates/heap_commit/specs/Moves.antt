@@ -18,6 +18,12 @@ pub record Moves (space : SpaceValue) (g : ℕ) (places : List (Option Place)) (
 abbrev pub field_write : RenamedField → ℕ × (ℕ × ℕ)
 field_write w = (place_word w.holder, (w.field, place_word w.place))
 
+-- each root with what it then leads to, where f moves the targets of slots
+abbrev pub roots_by : (ℕ → ℕ) → List SlotValue → List (ℕ × ℕ)
+roots_by f [] = []
+roots_by f (root_slot root target ∷ slots) = (root, f target) ∷ roots_by f slots
+roots_by f (field_slot holder field target ∷ slots) = roots_by f slots
+
 -- what is written where f moves the targets of the old slots
 abbrev pub writes_by : (ℕ → ℕ) → List SlotValue → List (ℕ × (ℕ × ℕ))
 writes_by f [] = []

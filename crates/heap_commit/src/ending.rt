@@ -48,8 +48,8 @@ pub fn commit<A: Allocator + Clone>(
     let cells = collection.cells() as u64;
     let bases = collection.bases();
     let places = &settled.places;
-    let renamed = renamed_roots(alloc.clone()?, space, roots, bases, g, places)?;
     let slots = collection.slots();
+    let renamed = renamed_roots(alloc.clone()?, space, slots, bases, g, places)?;
     let fields = renamed_fields(alloc.clone()?, space, slots, bases, g, places)?;
     let _fit = all_fit(&settled.blocks);
     let Settled {

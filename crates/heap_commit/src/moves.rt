@@ -1,21 +1,19 @@
 //! Where the objects that roots and older objects lead to stand after a collection.
 ghost use Rattle.std.specs.Prelude.{◌≡◌, ℕ, ◌<◌, IfOk, IsSome, IsSomeAnd, All, Some, None, map, length, slice_index_or};
 ghost use Rattle.std.specs.Option.{option_map};
-ghost use Rattle.std.specs.FinMap.{get, entries};
+ghost use Rattle.std.specs.FinMap.{get};
 ghost use Rattle.layout.specs.Place.{place_word};
 ghost use Rattle.heap_data.specs.CollectionValue.{young_names, target_of_slot};
 ghost use Rattle.heap_data.specs.SlotView.{slot_value};
 ghost use Rattle.heap_space.specs.Space.{graph_in};
 ghost use Rattle.heap_space.specs.Collecting.{AreBases, IsNumbered};
-ghost use Rattle.heap_commit.specs.HeapView.{LeadsToObjects, SlotsLeadToObjects};
-ghost use Rattle.heap_commit.specs.Moves.{Moves, field_write, writes_by, with_writes};
+ghost use Rattle.heap_commit.specs.HeapView.{SlotsLeadToObjects};
+ghost use Rattle.heap_commit.specs.Moves.{Moves, field_write, roots_by, writes_by, with_writes};
 ghost use Rattle.heap_commit.specs.RootView.{root_pair};
-ghost use Rattle.heap_commit.specs.Roots.{roots_map};
 
 use heap_data::Slot;
 use heap_space::Space;
 use layout::Place;
-use slab::Slab;
 use std::alloc::{AllocError, Allocator};
 
 /// A root with its new place.
@@ -62,27 +60,28 @@ fn place_after<A: Allocator + Clone>(
 pub(crate) fn renamed_roots<A: Allocator + Clone>(
     alloc: A,
     space: &Space<A>,
-    roots: &Slab<Place, A>,
+    slots: &[Slot],
     bases: &[u32],
     g: u8,
     places: &[Option<Place>],
 ) -> Result<Vec<RenamedRoot, A>, AllocError>
     requires bases { AreBases space.now g bases.now }
-    requires leads { LeadsToObjects space.now roots.now.slots }
+    requires leads { SlotsLeadToObjects space.now (map slot_value slots.now) }
     requires count { length places.now ≡ length (young_names (graph_in space.now) g) }
-    requires named { (root number : ℕ) (place : Place) → slice_index_or roots.now.slots root None ≡ Some place
-        → IsNumbered space.now g (place_word place) number → IsSome (slice_index_or places.now number None) }
+    requires named { All (λ slot. (number : ℕ) → IsNumbered space.now g (target_of_slot slot) number → IsSome (slice_index_or places.now number None)) (map slot_value slots.now) }
     ensures { IfOk result (λ renamed. (f : ℕ → ℕ) → Moves space.now g places.now f
-        → map root_pair renamed.items ≡ map {B = ℕ × ℕ} (λ e. (e.0, f e.1)) (entries (roots_map roots.now.slots))) }
+        → map root_pair renamed.items ≡ roots_by f (map slot_value slots.now)) }
 {
-    let mut renamed = Vec::with_capacity(alloc, roots.len())?;
-    for (root, place) in roots.iter() {
-        renamed.push(RenamedRoot {
-            number: root,
-            place: place_after(space, bases, g, places, *place),
-        })?;
+    let mut roots = Vec::new(alloc);
+    for slot in slots {
+        if let Slot::Root { root, target } = slot {
+            roots.push(RenamedRoot {
+                number: root.number,
+                place: place_after(space, bases, g, places, *target),
+            })?;
+        }
     }
-    Ok(renamed)
+    Ok(roots)
 }
 
 /// The new place of what each old slot leads to.

@@ -5,10 +5,10 @@ use Rattle.heap_data.specs.ReportValue.{all_won, renaming_of}
 use Rattle.block_table.proofs.Installed.{each_fits}
 use Rattle.block_table.proofs.CanCommit.{heap_blocks, each_block_fits}
 use Rattle.heap_commit.specs.HeapView.{heap_of}
-use Rattle.heap_commit.specs.Moves.{writes_by}
+use Rattle.heap_commit.specs.Moves.{roots_by, writes_by}
 use Rattle.heap_commit.specs.RootView.{root_pair}
-use Rattle.heap_commit.proofs.RenamedRoots.{renamed_once}
-use Rattle.heap_commit.proofs.SettledLemmas.{bases, places_many, leads, root_named, slots_lead, slots_named, moves, copies_sound}
+use Rattle.heap_commit.proofs.RenamedRoots.{roots_opened, renamed_once}
+use Rattle.heap_commit.proofs.SettledLemmas.{bases, places_many, slots_lead, slots_named, moves, copies_sound}
 use Rattle.heap_commit.proofs.Committed.{collected_heap, now_sound}
 use Rattle.heap_commit.proofs.Writable.{writable}
 use Rattle.heap_commit.proofs.KeptCount.{won_within, kept_count}
@@ -20,7 +20,7 @@ renamed_roots-requires-clause-bases g c =
 
 pub renamed_roots-requires-clause-leads : goal.renamed_roots-requires-clause-leads
 renamed_roots-requires-clause-leads g c =
-    leads c.args.space.now c.args.roots.now.slots c.args.settled.collection c.args.settled.places.items c.args.settled.blocks.items (all_won c.args.settled.workers.items) c.free_count-before.ensures.space c.requires.closed c.requires.settled
+    rw c.slots-slots.ensures (slots_lead c.args.space.now c.args.roots.now.slots c.args.settled.collection c.args.settled.places.items c.args.settled.blocks.items (all_won c.args.settled.workers.items) c.free_count-before.ensures.space c.requires.closed c.requires.settled)
 
 pub renamed_roots-requires-clause-count : goal.renamed_roots-requires-clause-count
 renamed_roots-requires-clause-count g c =
@@ -28,7 +28,7 @@ renamed_roots-requires-clause-count g c =
 
 pub renamed_roots-requires-clause-named : goal.renamed_roots-requires-clause-named
 renamed_roots-requires-clause-named g c =
-    rw (c.generation-g.ensures, c.deref.ensures.value) (root_named c.args.space.now c.args.roots.now.slots c.args.settled.collection c.args.settled.places.items c.args.settled.blocks.items (all_won c.args.settled.workers.items) c.free_count-before.ensures.space c.requires.closed c.requires.settled)
+    rw (c.slots-slots.ensures, c.generation-g.ensures, c.deref.ensures.value) (slots_named c.args.space.now c.args.roots.now.slots c.args.settled.collection c.args.settled.places.items c.args.settled.blocks.items (all_won c.args.settled.workers.items) c.free_count-before.ensures.space c.requires.closed c.requires.settled)
 
 pub renamed_fields-requires-clause-bases : goal.renamed_fields-requires-clause-bases
 renamed_fields-requires-clause-bases g c =
@@ -68,7 +68,7 @@ pub install-requires-clause-once : goal.install-requires-clause-once
 install-requires-clause-once g c =
     let new = renamed (renaming_of (young_names (heap_of c.args.space.now c.args.roots.now.slots).graph c.args.settled.collection.generation) (all_won c.args.settled.workers.items)) in
     let shifts = moves c.args.space.now c.args.roots.now.slots c.args.settled.collection c.args.settled.places.items c.args.settled.blocks.items (all_won c.args.settled.workers.items) c.free_count-before.ensures.space c.requires.closed c.requires.settled in
-    let pairs = c.in_ok-renamed.ensures new (rw (c.generation-g.ensures, c.deref.ensures.value) shifts) in
+    let pairs = c.in_ok-renamed.ensures new (rw (c.generation-g.ensures, c.deref.ensures.value) shifts) ∙ ap (roots_by new) c.slots-slots.ensures ∙ roots_opened c.args.space.now c.args.roots.now.slots c.args.settled.collection.generation c.args.settled.collection new c.requires.settled.opened in
     rw c.deref-4.ensures.value (renamed_once new c.in_ok-renamed.renamed.items c.args.roots.now.slots pairs)
 
 pub report_of-requires : goal.report_of-requires
@@ -80,7 +80,7 @@ pub returns-clause-ok : goal.returns-clause-ok
 returns-clause-ok g c =
     let new = renamed (renaming_of (young_names (heap_of c.args.space.now c.args.roots.now.slots).graph c.args.settled.collection.generation) (all_won c.args.settled.workers.items)) in
     let shifts = moves c.args.space.now c.args.roots.now.slots c.args.settled.collection c.args.settled.places.items c.args.settled.blocks.items (all_won c.args.settled.workers.items) c.free_count-before.ensures.space c.requires.closed c.requires.settled in
-    let pairs = c.in_ok-renamed.ensures new (rw (c.generation-g.ensures, c.deref.ensures.value) shifts) in
+    let pairs = c.in_ok-renamed.ensures new (rw (c.generation-g.ensures, c.deref.ensures.value) shifts) ∙ ap (roots_by new) c.slots-slots.ensures ∙ roots_opened c.args.space.now c.args.roots.now.slots c.args.settled.collection.generation c.args.settled.collection new c.requires.settled.opened in
     let writes = c.in_ok-fields.ensures new (rw (c.generation-g.ensures, c.deref-2.ensures.value) shifts) ∙ ap (writes_by new) c.slots-slots.ensures in
     let installed = rw (c.generation-g.ensures, c.deref-5.ensures.value, writes) at c.in_ok-install.ensures.space in
     let rewritten = rw c.deref-4.ensures.value at c.in_ok-install.ensures.roots in
@@ -90,7 +90,7 @@ pub returns-clause-sound : goal.returns-clause-sound
 returns-clause-sound g c =
     let new = renamed (renaming_of (young_names (heap_of c.args.space.now c.args.roots.now.slots).graph c.args.settled.collection.generation) (all_won c.args.settled.workers.items)) in
     let shifts = moves c.args.space.now c.args.roots.now.slots c.args.settled.collection c.args.settled.places.items c.args.settled.blocks.items (all_won c.args.settled.workers.items) c.free_count-before.ensures.space c.requires.closed c.requires.settled in
-    let pairs = c.in_ok-renamed.ensures new (rw (c.generation-g.ensures, c.deref.ensures.value) shifts) in
+    let pairs = c.in_ok-renamed.ensures new (rw (c.generation-g.ensures, c.deref.ensures.value) shifts) ∙ ap (roots_by new) c.slots-slots.ensures ∙ roots_opened c.args.space.now c.args.roots.now.slots c.args.settled.collection.generation c.args.settled.collection new c.requires.settled.opened in
     let writes = c.in_ok-fields.ensures new (rw (c.generation-g.ensures, c.deref-2.ensures.value) shifts) ∙ ap (writes_by new) c.slots-slots.ensures in
     let installed = rw (c.generation-g.ensures, c.deref-5.ensures.value, writes) at c.in_ok-install.ensures.space in
     let rewritten = rw c.deref-4.ensures.value at c.in_ok-install.ensures.roots in
