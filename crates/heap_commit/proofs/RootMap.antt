@@ -11,7 +11,7 @@ use Rattle.model.specs.Slots.{slots_from}
 use Rattle.model.proofs.NatMap.{same_nat_map, get-insert_same, get-insert_other, get-remove_same, get-remove_other}
 use Rattle.model.proofs.SlotMap.{slot_at, get-slots}
 use Rattle.model.proofs.Rising.{KeysRise, KeysRise-weaker, entries-from_entries}
-use Rattle.slab.specs.Slab.{Updates, entries_from, Slab}
+use Rattle.roots.specs.RootsValue.{Updates}
 use Rattle.layout.specs.declared.place.Place.{Place}
 use Rattle.layout.specs.Place.{place_word}
 use Rattle.heap_commit.specs.Roots.{words_of, roots_map}
@@ -24,18 +24,18 @@ slot_at-words (s ∷ slots) (suc q) = slot_at-words slots q
 pub get-roots : (slots : List (Option Place)) (q : ℕ) → get (roots_map slots) q ≡ option_map place_word (get_or slots q None)
 get-roots slots q = get-slots (words_of slots) q ∙ slot_at-words slots q
 
-pub roots-insert : (old new : Slab Place) (key : ℕ) (place : Place) → Updates old new key (Some place) → roots_map new.slots ≡ insert (roots_map old.slots) key (place_word place)
+pub roots-insert : (old new : List (Option Place)) (key : ℕ) (place : Place) → Updates old new key (Some place) → roots_map new ≡ insert (roots_map old) key (place_word place)
 roots-insert old new key place up =
-    same_nat_map _ _ (λ q. get-roots new.slots q ∙ ⊎_elim
-    (λ e. rw e (ap (option_map place_word) up.changed ∙ sym (get-insert_same (roots_map old.slots) key (place_word place))))
-    (λ ne. ap (option_map place_word) (up.others q ne) ∙ sym (get-insert_other (roots_map old.slots) key (place_word place) q ne ∙ get-roots old.slots q))
+    same_nat_map _ _ (λ q. get-roots new q ∙ ⊎_elim
+    (λ e. rw e (ap (option_map place_word) up.changed ∙ sym (get-insert_same (roots_map old) key (place_word place))))
+    (λ ne. ap (option_map place_word) (up.others q ne) ∙ sym (get-insert_other (roots_map old) key (place_word place) q ne ∙ get-roots old q))
     (cases_eq q key))
 
-pub roots-remove : (old new : Slab Place) (key : ℕ) → Updates old new key None → roots_map new.slots ≡ remove (roots_map old.slots) key
+pub roots-remove : (old new : List (Option Place)) (key : ℕ) → Updates old new key None → roots_map new ≡ remove (roots_map old) key
 roots-remove old new key up =
-    same_nat_map _ _ (λ q. get-roots new.slots q ∙ ⊎_elim
-    (λ e. rw e (ap (option_map place_word) up.changed ∙ sym (get-remove_same (roots_map old.slots) key)))
-    (λ ne. ap (option_map place_word) (up.others q ne) ∙ sym (get-remove_other (roots_map old.slots) key q ne ∙ get-roots old.slots q))
+    same_nat_map _ _ (λ q. get-roots new q ∙ ⊎_elim
+    (λ e. rw e (ap (option_map place_word) up.changed ∙ sym (get-remove_same (roots_map old) key)))
+    (λ ne. ap (option_map place_word) (up.others q ne) ∙ sym (get-remove_other (roots_map old) key q ne ∙ get-roots old q))
     (cases_eq q key))
 
 -- the roots as pairs, by rising number
@@ -58,19 +58,11 @@ root_pairs-rise i (Some w ∷ slots) = (omega arith, root_pairs-rise (i + 1) slo
 entries-slots : (slots : List (Option ℕ)) → entries (slots_from 0 slots) ≡ root_pairs 0 slots
 entries-slots slots = ap entries (slots-from_entries 0 slots) ∙ entries-from_entries 0 (root_pairs 0 slots) (root_pairs-rise 0 slots)
 
-abbrev pub pair_words : List (ℕ × Place) → List (ℕ × ℕ)
-pair_words pairs = map (λ e. (e.0, place_word e.1)) pairs
+-- the entries of the map are the roots
+pub entries-roots : (slots : List (Option Place)) → entries (roots_map slots) ≡ root_pairs 0 (words_of slots)
+entries-roots slots = entries-slots (words_of slots)
 
-pairs-words : (i : ℕ) (slots : List (Option Place)) → root_pairs i (words_of slots) ≡ pair_words (entries_from i slots)
-pairs-words i [] = refl
-pairs-words i (None ∷ slots) = pairs-words (i + 1) slots
-pairs-words i (Some place ∷ slots) = ap (λ es. (i, place_word place) ∷ es) (pairs-words (i + 1) slots)
-
--- the entries of the map are the entries of the slab
-pub entries-roots : (slots : List (Option Place)) → entries (roots_map slots) ≡ pair_words (entries_from 0 slots)
-entries-roots slots = entries-slots (words_of slots) ∙ pairs-words 0 slots
-
-length-pairs : (i : ℕ) (slots : List (Option Place)) → length (pair_words (entries_from i slots)) ≡ count_by is_some slots
+length-pairs : (i : ℕ) (slots : List (Option Place)) → length (root_pairs i (words_of slots)) ≡ count_by is_some slots
 length-pairs i [] = refl
 length-pairs i (None ∷ slots) = omega (arith, length-pairs (i + 1) slots, sum_by-cons (λ (s : Option Place). cond (is_some s) 1 0) None slots)
 length-pairs i (Some place ∷ slots) = omega (arith, length-pairs (i + 1) slots, sum_by-cons (λ (s : Option Place). cond (is_some s) 1 0) (Some place) slots)

@@ -14,8 +14,7 @@ use crate::installing::install;
 use crate::moves::{renamed_fields, renamed_roots};
 use heap_data::{Report, Settled};
 use heap_space::Space;
-use layout::Place;
-use slab::Slab;
+use roots::Roots;
 use std::alloc::{AllocError, Allocator};
 
 /// Ends a collection: blocks and roots make the heap that the workers brought back. Where memory runs out they are as
@@ -23,7 +22,7 @@ use std::alloc::{AllocError, Allocator};
 pub fn commit<A: Allocator + Clone>(
     alloc: A,
     space: &mut Space<A>,
-    roots: &mut Slab<Place, A>,
+    roots: &mut Roots<A>,
     settled: Settled<A>,
 ) -> Result<Report<A>, AllocError>
     requires closed { IsClosed (heap_of space.old roots.old.slots).graph }

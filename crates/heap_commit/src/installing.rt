@@ -8,11 +8,10 @@ ghost use Rattle.heap_commit.specs.RootView.{root_pair};
 ghost use Rattle.heap_commit.specs.Roots.{root_word, renamed_word};
 
 use crate::moves::{RenamedField, RenamedRoot, write_fields};
-use crate::roots::write_roots;
+use crate::root_writes::write_roots;
 use block_pool::Block;
 use heap_space::Space;
-use layout::Place;
-use slab::Slab;
+use roots::Roots;
 use std::alloc::{AllocError, Allocator};
 
 /// Puts blocks in the place of all objects of generation at most `g`, and has roots and pointers of older objects lead
@@ -20,7 +19,7 @@ use std::alloc::{AllocError, Allocator};
 pub(crate) fn install<A: Allocator + Clone>(
     alloc: A,
     space: &mut Space<A>,
-    roots: &mut Slab<Place, A>,
+    roots: &mut Roots<A>,
     g: u8,
     blocks: Vec<Block<A>, A>,
     renamed: &[RenamedRoot],

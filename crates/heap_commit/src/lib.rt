@@ -5,6 +5,6 @@ mod counts;
 mod ending;
 mod installing;
 mod moves;
-mod roots;
+mod root_writes;
 
 pub use ending::commit;

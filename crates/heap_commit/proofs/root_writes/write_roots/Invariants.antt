@@ -1,7 +1,7 @@
 use Rattle.std.proofs.Common.{◌≡◌, ℕ, take, map}
 use Rattle.heap_commit.specs.Roots.{root_word, renamed_word}
 use Rattle.heap_commit.specs.RootView.{root_pair}
-use Rattle.heap_commit.proofs.roots.write_roots.Given as goal
+use Rattle.heap_commit.proofs.root_writes.write_roots.Given as goal
 
 -- the roots before this one are written
 abbrev pub invariant-loop-root : goal.invariant-loop-root

@@ -1,0 +1,2 @@
+-- What contracts see of roots.
+pub mod RootsValue
