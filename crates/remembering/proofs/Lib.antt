@@ -1,0 +1,5 @@
+-- Remembered sets against the graph.
+pub mod SameSupport
+pub mod MemberSlots
+pub mod Grown
+pub mod Copies

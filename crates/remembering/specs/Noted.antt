@@ -1,0 +1,19 @@
+-- Objects that may point to a younger generation and are members of the set of their own.
+use Rattle.std.specs.Prelude.{ℕ, ◌<◌, List, length, IsTrue, is_some, slice_index_or, All}
+use Rattle.std.specs.List.{list_any}
+use Rattle.model.specs.Graph.{Object}
+use Rattle.model.specs.Reached.{has}
+use Rattle.block_pool.specs.BlockValue.{BlockValue}
+use Rattle.heap_data.specs.BlockObjects.{block_objects}
+use Rattle.remembered_set.specs.Sets.{members_of}
+
+-- the object is a member where it isn't of the youngest generation and has a pointer that isn't nil
+abbrev pub IsNoted : List (List ℕ) → ℕ × Object → Type 0
+IsNoted sets e = 0 < e.1.generation → e.1.generation < length sets → IsTrue (list_any is_some e.1.pointers) → IsTrue (has (members_of sets e.1.generation) e.0)
+
+abbrev pub AreNoted : List (List ℕ) → List (ℕ × Object) → Type 0
+AreNoted sets objects = All (IsNoted sets) objects
+
+-- so it is with the k-th object of a block
+abbrev pub IsNotedAt : List (List ℕ) → BlockValue → ℕ → Type 0
+IsNotedAt sets block k = (e : ℕ × Object) → IsNoted sets (slice_index_or (block_objects block.number block) k e)

@@ -1,0 +1,76 @@
+//! The pointers of older objects to younger ones, read from the remembered sets.
+ghost use Rattle.std.specs.Prelude.{◌≡◌, ◌<◌, ◌++◌, length, map, flat_map, OnOk};
+ghost use Rattle.model.specs.Graph.{IsClosed};
+ghost use Rattle.model.specs.OldSlots.{old_slots, slots_of_generation};
+ghost use Rattle.layout.specs.Place.{place_word};
+ghost use Rattle.heap_data.specs.CollectionValue.{field_slot_of};
+ghost use Rattle.heap_data.specs.Remembered.{CoversYounger};
+ghost use Rattle.heap_data.specs.SlotView.{slot_value};
+ghost use Rattle.block_table.specs.TableGraph.{slots_at};
+ghost use Rattle.heap_space.specs.Space.{graph_in};
+
+use heap_data::Slot;
+use heap_space::Space;
+use layout::Place;
+use remembered_set::Remembered;
+use std::alloc::{AllocError, Allocator};
+
+/// Puts the pointers of the objects of generation `h` at these places that lead to objects of generation at most `g` at
+/// the end of the slots.
+fn push_members<A: Allocator + Clone>(
+    slots: &mut Vec<Slot, A>,
+    space: &Space<A>,
+    g: u8,
+    h: u8,
+    members: &[Place],
+) -> Result<(), AllocError>
+    requires { IsClosed (graph_in space.now) }
+    ensures { OnOk result (map slot_value slots.new.items ≡ map slot_value slots.old.items
+        ++ map field_slot_of (flat_map (slots_at (graph_in space.now) g h) (map place_word members.now))) }
+{
+    for k in 0..members.len() {
+        space.push_slots_of(slots, g, h, members[k])?;
+    }
+    Ok(())
+}
+
+/// Puts the pointers of all objects of generation `h` that lead to objects of generation at most `g` at the end of the
+/// slots. Only the members of the generation's set are looked at.
+fn push_generation<A: Allocator + Clone>(
+    alloc: A,
+    slots: &mut Vec<Slot, A>,
+    space: &Space<A>,
+    sets: &Remembered<A>,
+    g: u8,
+    h: u8,
+) -> Result<(), AllocError>
+    requires closed { IsClosed (graph_in space.now) }
+    requires covers { CoversYounger (graph_in space.now) sets.now }
+    requires older { g < h }
+    ensures { OnOk result (map slot_value slots.new.items ≡ map slot_value slots.old.items
+        ++ map field_slot_of (slots_of_generation (graph_in space.now) g h)) }
+{
+    let members = sets.members(alloc, h as usize)?;
+    push_members(slots, space, g, h, &members)
+}
+
+/// Puts the pointers of objects older than `g` that lead to objects of generation at most `g` at the end of the slots:
+/// by the generation of their object, then its place, then the field. Of the older objects only the members of the
+/// remembered sets are looked at.
+pub fn push_old_slots<A: Allocator + Clone>(
+    alloc: A,
+    slots: &mut Vec<Slot, A>,
+    space: &Space<A>,
+    sets: &Remembered<A>,
+    g: u8,
+) -> Result<(), AllocError>
+    requires closed { IsClosed (graph_in space.now) }
+    requires covers { CoversYounger (graph_in space.now) sets.now }
+    ensures { OnOk result (map slot_value slots.new.items ≡ map slot_value slots.old.items
+        ++ map field_slot_of (old_slots (graph_in space.now) (length sets.now) g)) }
+{
+    for h in g as usize + 1..sets.generations() {
+        push_generation(alloc.clone()?, slots, space, sets, g, h as u8)?;
+    }
+    Ok(())
+}
