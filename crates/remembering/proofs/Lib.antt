@@ -2,4 +2,4 @@
 pub mod SameSupport
 pub mod MemberSlots
 pub mod Grown
-pub mod Copies
+pub mod NotedCopies

@@ -2,10 +2,10 @@
 #![tactic(auto)]
 
 mod copies;
-
-
+mod ending;
+mod holders;
 mod lens;
 mod old_slots;
 
-
+pub use ending::commit;
 pub use old_slots::push_old_slots;

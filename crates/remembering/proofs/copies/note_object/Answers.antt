@@ -1,7 +1,7 @@
 use Rattle.std.proofs.Common.{refl, sym, ap, ◌∙◌, false, ◌≡◌, true}
 use Rattle.layout.specs.ObjectRef.{raw_of}
 use Rattle.layout.specs.Place.{place_word, small_word}
-use Rattle.remembering.proofs.Copies.{noted_without, noted_member}
+use Rattle.remembering.proofs.NotedCopies.{noted_without, noted_member}
 use Rattle.remembering.proofs.Grown.{grown_same, grown_by_note, noted_has}
 use Rattle.remembering.proofs.copies.note_object.Goals as goal
 
