@@ -34,7 +34,7 @@ module _ (sets : List (List ℕ)) (h name : ℕ) (in_range : h < length sets) wh
   set_more : (k : ℕ) → (xs : List ℕ) × (members_of more_sets k ≡ members_of sets k ++ xs)
   set_more k = ⊎_elim
       (λ same. (name ∷ [], ap (members_of more_sets) same ∙ get_or-set_same sets h (members_of sets h ++ name ∷ []) [] in_range ∙ sym (ap (λ j. members_of sets j ++ name ∷ []) same)))
-      (λ differ. ([], get_or-set_other sets k h (members_of sets h ++ name ∷ []) [] differ ∙ sym (append-nil (members_of sets k))))
+      (λ differ. ([], get_or-set_other sets h k (members_of sets h ++ name ∷ []) [] differ ∙ sym (append-nil (members_of sets k))))
       (cases_eq k h)
 
   pub grown_noted : AreGrown sets (noted sets h name)
@@ -85,9 +85,9 @@ cut_next start old now new i n grown in_range len is so_far = rw is record {
   generations = length-set now i (take n (members_of now i)) ∙ so_far.generations;
   before = λ h lt. ⊎_elim
       (λ same. ap (members_of (set now i (take n (members_of now i)))) same ∙ get_or-set_same now i (take n (members_of now i)) [] (omega (arith, so_far.generations, in_range)) ∙ ap (take n) (so_far.after i (omega arith)) ∙ cut_grown start old grown i n len ∙ ap (members_of start) (sym same))
-      (λ differ. get_or-set_other now h i (take n (members_of now i)) [] differ ∙ so_far.before h (omega (arith, lt, differ)))
+      (λ differ. get_or-set_other now i h (take n (members_of now i)) [] differ ∙ so_far.before h (omega (arith, lt, differ)))
       (cases_eq h i);
-  after = λ h le. get_or-set_other now h i (take n (members_of now i)) [] (omega (arith, le)) ∙ so_far.after h (omega (arith, le));
+  after = λ h le. get_or-set_other now i h (take n (members_of now i)) [] (omega (arith, le)) ∙ so_far.after h (omega (arith, le));
 }
 
 pub cut_all : (start old new : List (List ℕ)) (i : ℕ) → AreGrown start old → length start ≤ i → AreCut start old new i → new ≡ start

@@ -3,3 +3,4 @@ pub mod SameSupport
 pub mod MemberSlots
 pub mod Grown
 pub mod NotedCopies
+pub mod Pointing

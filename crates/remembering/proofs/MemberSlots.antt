@@ -1,5 +1,5 @@
 -- The slots of a generation are those of the members of its set.
-use Rattle.std.proofs.Common.{◌≡◌, ℕ, ◌+◌, ◌<◌, Bool, true, false, cond, List, [], ◌∷◌, ◌++◌, map, Option, Some, None, refl, sym, ap, ◌∙◌, arith, inl, inr}
+use Rattle.std.proofs.Common.{◌≡◌, ℕ, ◌+◌, ◌<◌, Bool, true, false, cond, ◌||◌, List, [], ◌∷◌, ◌++◌, map, Option, Some, None, refl, sym, ap, ◌∙◌, arith, inl, inr}
 use Rattle.std.proofs.lemmas.Bool.{true≢false, or_left, or_right}
 use Rattle.std.proofs.lemmas.Bool.Decides.{nat_tests}
 use Rattle.std.proofs.lemmas.List.Kept.{AllPairs-from_increasing}
@@ -22,6 +22,10 @@ use Rattle.block_table.specs.TableGraph.{slots_at}
 use Rattle.block_table.proofs.HeldObjects.{held}
 use Rattle.remembering.proofs.SameSupport.{same_support}
 
+neither : (a b : Bool) → (a || b) ≡ false → (a ≡ false) × (b ≡ false)
+neither true b e = absurd (true≢false e)
+neither false b e = (refl, e)
+
 module _ (graph : Graph) (g h : ℕ) where
   -- the slots of one entry are those at its name
   entry_slots : (e : ℕ × Object) (b : Bool) → nat_eq e.1.generation h ≡ b → object_at graph e.0 ≡ Some e.1 → cond b (slots_of_fields graph g e.0 0 e.1.pointers) [] ≡ slots_at graph g h e.0
@@ -36,43 +40,27 @@ module _ (graph : Graph) (g h : ℕ) where
   by_name : (es : List (ℕ × Object)) → ((e : ℕ × Object) → Among e es → object_at graph e.0 ≡ Some e.1)
       → flat_map (λ e. slots_of_fields graph g e.0 0 e.1.pointers) (filter (λ e. nat_eq e.1.generation h) es) ≡ flat_map (slots_at graph g h) (map (λ e. e.0) es)
   by_name [] there = refl
-  by_name (e ∷ es) there = split (nat_eq e.1.generation h) refl
+  by_name (e ∷ es) there = split (by_name es (λ x among. there x (inr among))) (nat_eq e.1.generation h) refl
     where
-      rest : flat_map (λ x. slots_of_fields graph g x.0 0 x.1.pointers) (filter (λ x. nat_eq x.1.generation h) es) ≡ flat_map (slots_at graph g h) (map (λ x. x.0) es)
-      rest = by_name es (λ x among. there x (inr among))
-
-      split : (b : Bool) → nat_eq e.1.generation h ≡ b → flat_map (λ x. slots_of_fields graph g x.0 0 x.1.pointers) (cond b (e ∷ filter (λ x. nat_eq x.1.generation h) es) (filter (λ x. nat_eq x.1.generation h) es)) ≡ slots_at graph g h e.0 ++ flat_map (slots_at graph g h) (map (λ x. x.0) es)
-      split true is = ap (λ ss. ss ++ flat_map (λ x. slots_of_fields graph g x.0 0 x.1.pointers) (filter (λ x. nat_eq x.1.generation h) es)) (entry_slots e true is (there e (inl refl))) ∙ ap (λ ss. slots_at graph g h e.0 ++ ss) rest
-      split false is = rest ∙ ap (λ ss. ss ++ flat_map (slots_at graph g h) (map (λ x. x.0) es)) (entry_slots e false is (there e (inl refl)))
+      split : flat_map (λ x. slots_of_fields graph g x.0 0 x.1.pointers) (filter (λ x. nat_eq x.1.generation h) es) ≡ flat_map (slots_at graph g h) (map (λ x. x.0) es) → (b : Bool) → nat_eq e.1.generation h ≡ b → flat_map (λ x. slots_of_fields graph g x.0 0 x.1.pointers) (cond b (e ∷ filter (λ x. nat_eq x.1.generation h) es) (filter (λ x. nat_eq x.1.generation h) es)) ≡ slots_at graph g h e.0 ++ flat_map (slots_at graph g h) (map (λ x. x.0) es)
+      split rest true is = ap (λ ss. ss ++ flat_map (λ x. slots_of_fields graph g x.0 0 x.1.pointers) (filter (λ x. nat_eq x.1.generation h) es)) (entry_slots e true is (there e (inl refl))) ∙ ap (λ ss. slots_at graph g h e.0 ++ ss) rest
+      split rest false is = rest ∙ ap (λ ss. ss ++ flat_map (slots_at graph g h) (map (λ x. x.0) es)) (entry_slots e false is (there e (inl refl)))
 
   generation_slots : slots_of_generation graph g h ≡ flat_map (slots_at graph g h) (keys graph.objects)
   generation_slots = by_name (entries graph.objects) (λ e among. get-entries graph.objects e.0 ∙ entry_found (entries graph.objects) e (entries_sorted graph.objects) among)
+
+  not_young : g < h → (o : Option Object) → option_map_or (λ x. nat_lt x.generation h) o false ≡ false → option_map_or (λ x. nat_le x.generation g) o false ≡ false
+  not_young above None e = refl
+  not_young above (Some x) e = grind (arith, nat_tests, e, above)
 
   -- an object without a pointer to a younger one has no slot
   no_slots : g < h → (name i : ℕ) (pointers : List (Option ℕ)) → list_any (points_to (λ target. nat_lt target.generation h) (object_at graph)) pointers ≡ false → slots_of_fields graph g name i pointers ≡ []
   no_slots above name i [] none = refl
   no_slots above name i (None ∷ pointers) none = no_slots above name (i + 1) pointers none
   no_slots above name i (Some target ∷ pointers) none =
-      ap (λ ss. ss ++ slots_of_fields graph g name (i + 1) pointers) (ap (λ b. map (λ t. let s : Slot = record { holder = name; field = i; target = t } in s) (cond b (target ∷ []) [])) (older (object_at graph target) first))
-      ∙ no_slots above name (i + 1) pointers second
-    where
-      first : option_map_or (λ o. nat_lt o.generation h) (object_at graph target) false ≡ false
-      first = left_false _ _ none
-        where
-          left_false : (a b : Bool) → cond a true b ≡ false → a ≡ false
-          left_false true b e = absurd (true≢false e)
-          left_false false b e = refl
-
-      second : list_any (points_to (λ t. nat_lt t.generation h) (object_at graph)) pointers ≡ false
-      second = right_false _ _ none
-        where
-          right_false : (a b : Bool) → cond a true b ≡ false → b ≡ false
-          right_false true b e = absurd (true≢false e)
-          right_false false b e = e
-
-      older : (o : Option Object) → option_map_or (λ x. nat_lt x.generation h) o false ≡ false → option_map_or (λ x. nat_le x.generation g) o false ≡ false
-      older None e = refl
-      older (Some x) e = grind (arith, nat_tests, e, above)
+      let parts = neither (option_map_or (λ o. nat_lt o.generation h) (object_at graph target) false) (list_any (points_to (λ t. nat_lt t.generation h) (object_at graph)) pointers) none in
+      ap (λ ss. ss ++ slots_of_fields graph g name (i + 1) pointers) (ap (λ b. map (λ t. let s : Slot = record { holder = name; field = i; target = t } in s) (cond b (target ∷ []) [])) (not_young above (object_at graph target) parts.0))
+      ∙ no_slots above name (i + 1) pointers parts.1
 
   no_holder : g < h → (name : ℕ) → is_holder graph h name ≡ false → slots_at graph g h name ≡ []
   no_holder above name none = go (object_of_generation graph h name) refl none

@@ -26,6 +26,9 @@ noted_still a b grown e noted = λ low high some. grown_has a b grown e.1.genera
 pub all_noted_still : (a b : List (List ℕ)) (es : List (ℕ × Object)) → AreGrown a b → AreNoted a es → AreNoted b es
 all_noted_still a b es grown noted = λ k d lt. noted_still a b grown (get_or es k d) (noted k d lt)
 
+pub noted_at_still : (a b : List (List ℕ)) (block : BlockValue) (k : ℕ) → AreGrown a b → IsNotedAt a block k → IsNotedAt b block k
+noted_at_still a b block k grown noted d = noted_still a b grown (get_or (block_objects block.number block) k d) (noted d)
+
 module _ (sets : List (List ℕ)) (block : BlockValue) (k : ℕ) (raw : Raw) (is : slice_get block.objects k ≡ Some raw) where
   entry : (d : ℕ × Object) → get_or (block_objects block.number block) k d ≡ (small_word block.number 0 + offset_of block.objects k, object_of block.generation block.step raw)
   entry d = entry_is (small_word block.number 0) block.generation block.step block.objects k raw d is

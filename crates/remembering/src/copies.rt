@@ -37,11 +37,11 @@ fn note_object<A: Allocator + Clone>(
     ensures noted { OnOk result (IsNotedAt sets.new block.now k) }
 {
     let object = block.object(k);
-    if !has_pointer(object.pointers) {
-        return Ok(());
+    if has_pointer(object.pointers) {
+        let place = Place::small(block.number() as u16, block.offset(k) as u16);
+        return sets.note(generation, place);
     }
-    let place = Place::small(block.number() as u16, block.offset(k) as u16);
-    sets.note(generation, place)
+    Ok(())
 }
 
 /// Notes the objects of a block that have a pointer, where they are not of the youngest generation.
@@ -53,7 +53,10 @@ fn note_block<A: Allocator + Clone>(
     ensures noted { OnOk result (AreNoted sets.new (block_objects block.now.number block.now)) }
 {
     let generation = block.generation() as usize;
-    if generation == 0 || generation >= sets.generations() {
+    if generation == 0 {
+        return Ok(());
+    }
+    if generation >= sets.generations() {
         return Ok(());
     }
     for k in 0..block.len() {
@@ -71,8 +74,8 @@ pub(crate) fn note_copies<A: Allocator + Clone>(
     ensures grown { AreGrown sets.old sets.new }
     ensures noted { OnOk result (AreNoted sets.new (copies_of blocks.now)) }
 {
-    for block in blocks {
-        note_block(sets, block)?;
+    for i in 0..blocks.len() {
+        note_block(sets, &blocks[i])?;
     }
     Ok(())
 }

@@ -6,4 +6,4 @@ use Rattle.remembering.proofs.copies.has_pointer.Given as goal
 
 -- none so far
 abbrev pub invariant-loop-word : goal.invariant-loop-word
-invariant-loop-word g l = list_any is_some (map target_of_word (take l.word-index l.words)) ≡ false
+invariant-loop-word l = list_any is_some (map target_of_word (take l.word-index l.words)) ≡ false

@@ -1,4 +1,4 @@
-use Rattle.std.proofs.Common.{◌++◌, map, take, [], ◌∷◌, ap, ◌∙◌, take_all}
+use Rattle.std.proofs.Common.{◌++◌, map, take, [], ◌∷◌, sym, ap, ◌∙◌, take_all}
 use Rattle.std.proofs.lemmas.List.{append-nil, map-append, take_more}
 use Rattle.std.proofs.lemmas.Grind.{flat_map-append}
 use Rattle.std.specs.Prelude.{flat_map}
@@ -18,7 +18,7 @@ loop-k-preserved g c =
     let members = c.args.members.now in
     pushed_more _ _ _ _ _ _ c.loop-k.invariant c.in_ok-push_slots_of.ensures
     (ap (λ ps. flat_map slots (map place_word ps)) (take_more members k place c.loop-k-test.true)
-    ∙ ap (λ p. flat_map slots (map place_word (take k members ++ p ∷ []))) ?
+    ∙ ap (λ p. flat_map slots (map place_word (take k members ++ p ∷ []))) (sym c.index-members-k.is)
     ∙ ap (flat_map slots) (map-append place_word (take k members) (place ∷ []))
     ∙ flat_map-append slots (map place_word (take k members)) (place_word place ∷ [])
     ∙ ap (λ ss. flat_map slots (map place_word (take k members)) ++ ss) (append-nil (slots (place_word place))))
