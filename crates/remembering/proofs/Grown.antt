@@ -1,5 +1,5 @@
 -- Sets that grow, and sets that are taken back.
-use Rattle.std.proofs.Common.{◌≡◌, ◌≢◌, ℕ, zero, suc, ◌<◌, ◌≤◌, Bool, true, false, cond, List, [], ◌∷◌, ◌++◌, length, map, take, get_or, set, Result, Ok, Err, refl, sym, ap, ◌∙◌, arith, ⊎_elim, append_assoc, get_or-set_other, get_or-set_same}
+use Rattle.std.proofs.Common.{◌≡◌, ◌≢◌, ℕ, zero, suc, ◌+◌, ◌<◌, ◌≤◌, Bool, true, false, cond, List, [], ◌∷◌, ◌++◌, length, map, take, get_or, set, Result, Ok, Err, refl, sym, ap, ◌∙◌, arith, ⊎_elim, append_assoc, get_or-set_other, get_or-set_same}
 use Rattle.std.proofs.lemmas.Bool.{cases_eq, cases_lt}
 use Rattle.std.proofs.lemmas.List.{append-nil, length-set, length-map, same_lists}
 use Rattle.std.specs.Prelude.{OnOk, OnErr}
@@ -80,7 +80,7 @@ pub record AreCut (start old new : List (List ℕ)) (i : ℕ) : Type 0 where
 pub cut_none : (start old : List (List ℕ)) → AreCut start old old 0
 cut_none start old = record { generations = refl; before = λ h lt. absurd (omega (arith, lt)); after = λ h le. refl }
 
-pub cut_next : (start old now new : List (List ℕ)) (i n : ℕ) → AreGrown start old → i < length old → n ≡ length (members_of start i) → new ≡ set now i (take n (members_of now i)) → AreCut start old now i → AreCut start old new (suc i)
+pub cut_next : (start old now new : List (List ℕ)) (i n : ℕ) → AreGrown start old → i < length old → n ≡ length (members_of start i) → new ≡ set now i (take n (members_of now i)) → AreCut start old now i → AreCut start old new (i + 1)
 cut_next start old now new i n grown in_range len is so_far = rw is record {
   generations = length-set now i (take n (members_of now i)) ∙ so_far.generations;
   before = λ h lt. ⊎_elim

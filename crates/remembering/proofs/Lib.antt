@@ -4,3 +4,6 @@ pub mod MemberSlots
 pub mod Grown
 pub mod NotedCopies
 pub mod Pointing
+pub mod Holding
+pub mod WithSets
+pub mod AfterCollection

@@ -49,10 +49,10 @@ pub fn commit<A: Allocator + Clone>(
 {
     let _before = space.free_count();
     let lens = lens(sets);
-    if note_copies(sets, &settled.blocks).is_err() {
+    let Ok(()) = note_copies(sets, &settled.blocks) else {
         cut_back(sets, lens.as_slice());
         return Err(AllocError);
-    }
+    };
     match heap_commit::commit(alloc, space, roots, settled) {
         Ok(report) => {
             keep_holders(space, sets);

@@ -22,7 +22,7 @@ pub loop-k-preserved : goal.loop-k-preserved
 loop-k-preserved g c = record {
   grown = grown_more _ _ _ c.loop-k.invariant.grown c.note_object.ensures.grown;
   noted = λ k lt. ⊎_elim
-      (λ same. subst (IsNotedAt c.note_object.new.sets c.args.block.now) (sym same) c.in_ok-note_object.ensures)
+      (λ same. subst (IsNotedAt c.note_object.new.sets c.args.block.now) (sym same) c.in_ok-note_object.ensures.noted)
       (λ differ. noted_at_still _ _ c.args.block.now k c.note_object.ensures.grown (c.loop-k.invariant.noted k (omega (arith, lt, differ))))
       (cases_eq k c.loop-k.k);
 }

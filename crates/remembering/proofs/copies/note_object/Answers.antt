@@ -20,8 +20,8 @@ returns-then-has_pointer-clause-noted g c =
     on_ok_weaker c.note.result
     (λ e.
     let member = ap (λ ss. has (members_of ss c.args.generation) word) e ∙ noted_has c.args.sets.now c.args.generation word c.requires.generation in
-    noted_member c.note.new.self block c.args.k (raw_of c.object.result) c.object.ensures.object word at (subst (λ h. has (members_of c.note.new.self h) word ≡ true) c.requires.is member))
+    noted_member c.note.new.self block c.args.k (raw_of c.object-object.result) c.object-object.ensures.object word at (subst (λ h. has (members_of c.note.new.self h) word ≡ true) c.requires.is member))
     c.note.ensures.ok
 
 pub returns-clause-noted : goal.returns-clause-noted
-returns-clause-noted g c = noted_without c.args.sets.now c.args.block.now c.args.k (raw_of c.object.result) c.object.ensures.object (sym c.has_pointer.ensures ∙ c.if-has_pointer.false)
+returns-clause-noted g c = noted_without c.args.sets.now c.args.block.now c.args.k (raw_of c.object-object.result) c.object-object.ensures.object (sym c.has_pointer.ensures ∙ c.if-has_pointer.false)
