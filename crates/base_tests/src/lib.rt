@@ -1,4 +1,4 @@
-//! Tests of words, blocks, sets of numbers and the pool, by public calls.
+//! Tests of words, blocks, sets of numbers and of places, and the pool, by public calls.
 #![tactic(auto)]
 
 #[cfg(test)]
@@ -7,3 +7,5 @@ mod block_tests;
 mod layout_tests;
 #[cfg(test)]
 mod number_set_tests;
+#[cfg(test)]
+mod remembered_tests;

@@ -1,14 +1,14 @@
 -- Membership in a list by places in it, and a list out of which a member went.
-use Rattle.std.proofs.Common.{◌≡◌, ◌≢◌, ℕ, zero, suc, ◌+◌, ◌-◌, ◌<◌, ◌≤◌, ◌↔◌, inl, inr, Bool, true, false, ◌||◌, List, [], ◌∷◌, ◌++◌, length, get_or, set, take, drop, map, refl, sym, ap, subst, ◌∙◌, arith, ⊎_elim}
-use Rattle.std.specs.Prelude.{nat_eq, IsTrue}
-use Rattle.std.specs.List.{IsDistinct, AllByRecursion, swap_remove, list_any}
+use Rattle.std.proofs.Common.{◌≡◌, ◌≢◌, ℕ, zero, suc, ◌+◌, ◌-◌, ◌<◌, ◌↔◌, inl, inr, true, false, ◌||◌, List, [], ◌∷◌, length, get_or, set, take, drop, map, refl, sym, ap, ◌∙◌, arith, ⊎_elim}
+use Rattle.std.specs.Prelude.{nat_eq}
+use Rattle.std.specs.List.{IsDistinct, AllByRecursion, swap_remove}
 use Rattle.std.specs.List.Sorted.{IsPermutation, IsNonDecreasing, IsNonDecreasingBy}
-use Rattle.std.proofs.lemmas.Bool.{or_cases, or_left, or_right, or_from, eq-eqb, ne_eqb, true≢false, cases_lt, cases_eq}
-use Rattle.std.proofs.lemmas.List.{get_or-map, get_or-take, get_or-drop, get_or-set_same, get_or-set_other, get_or_default, length-drop, length-take, length-take-le, length-set, length-map, map-set, take-map, take-take, take-set}
+use Rattle.std.proofs.lemmas.Bool.{or_left, or_from, eq-eqb, ne_eqb, true≢false, cases_lt, cases_eq}
+use Rattle.std.proofs.lemmas.List.{get_or-map, get_or-take, get_or-drop, get_or-set_same, get_or-set_other, get_or_default, length-drop, length-take-le, length-set, length-map, map-set, take-map, take-take, take-set}
 use Rattle.std.proofs.lemmas.List.Sorted.{list_any-IsPermutation}
 use Rattle.std.proofs.lemmas.Map.Keys.{IsDistinct-head, IsDistinct-tail, IsDistinct-IsPermutation}
 use Rattle.model.specs.Reached.{has}
-use Rattle.model.proofs.Has.{has_none, has_head, has_tail, has-cons}
+use Rattle.model.proofs.Has.{has_none, has_tail, has-cons}
 
 -- by places
 pub has_at : (xs : List ℕ) (i n : ℕ) → i < length xs → get_or xs i 0 ≡ n → has xs n ≡ true
@@ -58,13 +58,12 @@ is_without xs x ys d p =
     }
 
 pub without_members : (xs : List ℕ) (x : ℕ) (ys : List ℕ) → IsWithout xs x ys → (n : ℕ) → (has ys n ≡ true) ↔ ((has xs n ≡ true) × (n ≢ x))
-without_members xs x ys w n =
-    (
-      λ h.
+without_members xs x ys w n = (
+  λ h.
       let ne : n ≢ x = λ e. true≢false (sym h ∙ ap (has ys) e ∙ w.gone) in
       (sym (w.others n ne) ∙ h, ne),
-      λ p. w.others n p.1 ∙ p.0,
-    )
+  λ p. w.others n p.1 ∙ p.0,
+)
 
 -- a member went, and the last took its place
 pub map-swap_remove : {X : Type 0} (f : X → ℕ) (xs : List X) (k : ℕ) (x : X) → k < length xs → map f (swap_remove xs k x) ≡ swap_remove (map f xs) k (f x)

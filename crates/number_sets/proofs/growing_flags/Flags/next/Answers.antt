@@ -1,9 +1,8 @@
-use Rattle.std.proofs.Common.{◌≡◌, ◌<◌, ◌≤◌, ◌*◌, ◌+◌, ◌^◌, ◌/◌, ◌%◌, ℕ, arith, rules, get_or, sym, ◌∙◌, ap, subst, true, false, length, w64}
-use Rattle.std.specs.Int.{trailing_zeros}
+use Rattle.std.proofs.Common.{◌≡◌, ◌<◌, ◌≤◌, ◌*◌, ◌/◌, arith, rules, get_or, length}
 use Rattle.std.proofs.lemmas.List.{get_or_read}
-use Rattle.number_sets.specs.Words.{flags_of, NoneSetFrom, NoneSetBetween}
+use Rattle.number_sets.specs.Words.{flags_of, NoneSetBetween}
 use Rattle.number_sets.proofs.WordLemmas.{length-flags}
-use Rattle.number_sets.proofs.FirstFlags.{flags-past, IsFirst, first_in_rest, none_between-words, none_from-words, first_in-word}
+use Rattle.number_sets.proofs.FirstFlags.{flags-past, first_in_rest, none_between-words, none_from-words, first_in-word}
 use Rattle.number_sets.proofs.growing_flags.Flags.next.Goals as goal
 
 pub returns-then-at-len-clause-none : goal.returns-then-at-len-clause-none

@@ -1,4 +1,4 @@
-use Rattle.std.proofs.Common.{◌≡◌, ◌+◌, ◌-◌, ◌/◌, ◌≤◌, ℕ, List, ◌++◌, arith, get_or, sym, ◌∙◌, ap, false, length, replicate, take, vec_len}
+use Rattle.std.proofs.Common.{◌≡◌, ◌+◌, ◌-◌, ◌/◌, ℕ, List, ◌++◌, arith, get_or, ◌∙◌, ap, false, length, replicate, take, vec_len}
 use Rattle.std.proofs.lemmas.List.{take_all}
 use Rattle.number_sets.specs.Words.{flags_of}
 use Rattle.number_sets.proofs.WordLemmas.{length-flags}

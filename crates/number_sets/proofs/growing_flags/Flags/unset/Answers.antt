@@ -1,4 +1,4 @@
-use Rattle.std.proofs.Common.{◌≡◌, ◌<◌, ◌*◌, ◌/◌, arith, get_or, sym, ◌∙◌, ap, true, false, length}
+use Rattle.std.proofs.Common.{◌≡◌, ◌<◌, ◌*◌, ◌/◌, arith, get_or, ◌∙◌, ap, false, length}
 use Rattle.std.proofs.lemmas.List.{get_or_read, get_or-set_same, get_or-set_other, length-set}
 use Rattle.number_sets.specs.Words.{flags_of}
 use Rattle.number_sets.proofs.WordLemmas.{length-flags, flags-cleared}

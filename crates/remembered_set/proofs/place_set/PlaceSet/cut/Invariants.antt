@@ -1,4 +1,4 @@
-use Rattle.std.proofs.Common.{◌≡◌, ◌≤◌, length, take}
+use Rattle.std.proofs.Common.{◌≡◌, length, take}
 use Rattle.remembered_set.proofs.place_set.PlaceSet.cut.Given as goal
 
 abbrev pub invariant-loop-self : goal.invariant-loop-self

@@ -1,8 +1,7 @@
-use Rattle.std.proofs.Common.{◌≡◌, ◌++◌, ◌∷◌, [], ◌∙◌, List, sym, subst, rules, arith, get_or, ℕ, false}
+use Rattle.std.proofs.Common.{◌≡◌, ◌++◌, ◌∷◌, [], List, sym, subst}
 use Rattle.std.specs.List.Sorted.{IsPermutation}
 use Rattle.std.proofs.lemmas.List.Sorted.{IsPermutation-to_front}
 use Rattle.layout.specs.declared.place.Place.{Place}
-use Rattle.remembered_set.specs.Marks.{mark_of}
 use Rattle.remembered_set.proofs.PlaceLaws.{places_without}
 use Rattle.remembered_set.proofs.place_set.PlaceSet.drop_last.Goals as goal
 

@@ -1,4 +1,3 @@
-use Rattle.std.proofs.Common.{sym}
 use Rattle.remembered_set.proofs.PlaceLaws.{no_places}
 use Rattle.remembered_set.proofs.place_set.PlaceSet.new.Goals as goal
 

@@ -1,5 +1,4 @@
-use Rattle.std.proofs.Common.{◌≡◌, ◌∙◌, ℕ, get_or, false}
-use Rattle.remembered_set.specs.Marks.{mark_of}
+use Rattle.std.proofs.Common.{◌≡◌, ◌∙◌, get_or, false}
 use Rattle.remembered_set.proofs.PlaceLaws.{noted_places}
 use Rattle.remembered_set.proofs.place_set.PlaceSet.note.Goals as goal
 

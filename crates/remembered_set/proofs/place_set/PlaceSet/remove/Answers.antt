@@ -1,4 +1,4 @@
-use Rattle.std.proofs.Common.{◌≡◌, ◌<◌, ◌∷◌, ◌∙◌, List, ℕ, length, map, drop, take, get_or, sym, ap, subst, rules, arith}
+use Rattle.std.proofs.Common.{◌≡◌, ◌<◌, ◌∷◌, ◌∙◌, List, length, map, sym, ap, arith}
 use Rattle.std.specs.Prelude.{slice_index}
 use Rattle.std.specs.List.{swap_remove}
 use Rattle.std.specs.List.Sorted.{IsPermutation}
@@ -6,7 +6,6 @@ use Rattle.std.proofs.lemmas.List.{get_or-map, length-map}
 use Rattle.std.proofs.lemmas.List.Sorted.{IsPermutation-swap_remove, IsPermutation-map}
 use Rattle.layout.specs.declared.place.Place.{Place}
 use Rattle.layout.specs.Place.{place_word}
-use Rattle.model.specs.Reached.{has}
 use Rattle.remembered_set.proofs.MemberLists.{is_without, without_members, map-swap_remove, take-swap_remove, rest-swap_remove}
 use Rattle.remembered_set.proofs.PlaceLaws.{places_without}
 use Rattle.remembered_set.proofs.place_set.PlaceSet.remove.Goals as goal

@@ -1,4 +1,4 @@
-use Rattle.std.proofs.Common.{◌≡◌, ◌≤◌, [], replicate}
+use Rattle.std.proofs.Common.{◌≡◌, [], replicate}
 use Rattle.remembered_set.proofs.remembered.Remembered.new.Given as goal
 
 abbrev pub invariant-loop : goal.invariant-loop

@@ -1,0 +1,91 @@
+use layout::Place;
+use number_sets::Flags;
+use remembered_set::Remembered;
+use std::alloc::{AllocError, Global};
+use std::test::Fail;
+
+#[test]
+fn flags_are_found_lowest_first(rt: HostRuntime) -> Result<(), Fail> {
+    let mut flags = Flags::new(rt.alloc());
+    flags.reserve(200)?;
+    flags.set(200);
+    flags.reserve(3)?;
+    flags.set(3);
+    assert_eq!(rt;
+        (flags.next(0), flags.next(3), flags.next(4), flags.next(201)),
+        (Some(3), Some(3), Some(200), None)
+    );
+    flags.unset(3);
+    flags.unset(9999);
+    assert_eq!(rt;
+        (flags.is_set(3), flags.is_set(200), flags.is_set(9999)),
+        (false, true, false)
+    );
+    Ok(())
+}
+
+/// Notes places one after another, where there is such a generation.
+fn note_all(
+    sets: &mut Remembered,
+    generation: usize,
+    places: &[Place],
+) -> Result<(), AllocError> {
+    for place in places {
+        if generation < sets.generations() {
+            sets.note(generation, *place)?;
+        }
+    }
+    Ok(())
+}
+
+/// Whether these are the members in the order of noting.
+fn is_noted(sets: &Remembered, generation: usize, places: &[Place]) -> bool {
+    let mut same = sets.len(generation) == places.len();
+    for (k, place) in places.iter().enumerate() {
+        same = same && k < sets.len(generation) && sets.member(generation, k) == *place;
+    }
+    same
+}
+
+/// Whether these are the members by rising place.
+fn is_rising(
+    alloc: Global,
+    sets: &Remembered,
+    generation: usize,
+    places: &[Place],
+) -> Result<bool, AllocError> {
+    let members = sets.members(alloc, generation)?;
+    Ok(members.as_slice() == places)
+}
+
+#[test]
+fn places_are_noted_once(rt: HostRuntime) -> Result<(), Fail> {
+    let mut sets = Remembered::new(rt.alloc(), 2)?;
+    let large = Place::large(7);
+    let small = Place::small(3, 500);
+    let low = Place::small(0, 8);
+    note_all(&mut sets, 1, &[large, small, large, low])?;
+    assert_eq!(rt; (sets.generations(), sets.len(0), sets.len(2)), (2, 0, 0));
+    assert!(rt; is_noted(&sets, 1, &[large, small, low]));
+    assert!(rt; sets.contains(1, small) && !sets.contains(0, small) && !sets.contains(2, small));
+    assert!(rt; is_rising(rt.alloc(), &sets, 1, &[low, small, large])?);
+    Ok(())
+}
+
+#[test]
+fn places_are_taken_back(rt: HostRuntime) -> Result<(), Fail> {
+    let mut sets = Remembered::new(rt.alloc(), 1)?;
+    let large = Place::large(0);
+    let small = Place::small(0, 511);
+    let low = Place::small(0, 0);
+    note_all(&mut sets, 0, &[large, small, low])?;
+    assert!(rt; 0 < sets.len(0));
+    sets.remove(0, 0);
+    assert!(rt; is_noted(&sets, 0, &[low, small]) && !sets.contains(0, large));
+    assert!(rt; 0 < sets.generations());
+    sets.cut(0, 1);
+    assert!(rt; is_noted(&sets, 0, &[low]) && !sets.contains(0, small));
+    note_all(&mut sets, 0, &[small])?;
+    assert!(rt; is_noted(&sets, 0, &[low, small]));
+    Ok(())
+}
