@@ -27,7 +27,7 @@ use heap_commit::commit;
 use heap_data::{Census, Collection, Report, RootId, Settled};
 use heap_space::Space;
 use layout::{ObjectRef, Place};
-use slab::Slab;
+use roots::Roots;
 use std::alloc::{AllocError, Allocator, Global};
 use std::marker::Model;
 use steps::{Config, StepId};
@@ -87,7 +87,7 @@ pub enum StoreError {
 #[derive(Drop)]
 pub struct Heap<A: Allocator = Global> {
     space: Space<A>,
-    roots: Slab<Place, A>,
+    roots: Roots<A>,
 }
 
 impl<A: Allocator> Model for Heap<A> {
@@ -118,13 +118,13 @@ impl<A: Allocator + Clone> Heap<A> {
         let Ok(own) = alloc.clone() else {
             return Err(MakeError::NoMemory);
         };
-        match Space::new(own, config) {
+        let Ok(roots) = Roots::new(own) else {
+            return Err(MakeError::NoMemory);
+        };
+        match Space::new(alloc, config) {
             Ok(space) => {
                 let _free = space.free_count();
-                Ok(Heap {
-                    space,
-                    roots: Slab::new(alloc),
-                })
+                Ok(Heap { space, roots })
             }
             Err(_) => Err(MakeError::NoMemory),
         }
@@ -155,7 +155,7 @@ impl<A: Allocator + Clone> Heap<A> {
         {
             return Err(AllocateError::NurseryFull);
         }
-        if self.roots.reserve(1).is_err() {
+        if self.roots.reserve().is_err() {
             return Err(AllocateError::NoMemory);
         }
         match self.space.allocate(mutator as usize, p as u32, q as u32) {
@@ -173,7 +173,7 @@ impl<A: Allocator + Clone> Heap<A> {
         ensures err { OnErr result (self.new ≡ self.old) }
     {
         let _space = &self.space;
-        let Some(_place) = self.roots.try_remove(root.number) else {
+        let Some(_place) = self.roots.remove(root.number) else {
             return Err(NoRoot);
         };
         Ok(())
@@ -254,7 +254,7 @@ impl<A: Allocator + Clone> Heap<A> {
     pub fn target(&self, root: RootId) -> Option<Place>
         ensures { option_map place_word result ≡ root_at self.now.graph root.number }
     {
-        self.roots.get(root.number).copied()
+        self.roots.get(root.number)
     }
 
     /// How many objects there are of each kind.

@@ -10,20 +10,21 @@ ghost use Rattle.heap_commit.specs.HeapView.{heap_of};
 
 use heap_data::{Collection, RootId, Slot};
 use heap_space::Space;
-use layout::Place;
-use slab::Slab;
+use roots::Roots;
 use std::alloc::{AllocError, Allocator};
 
 /// The roots by rising number.
-fn root_slots<A: Allocator>(alloc: A, roots: &Slab<Place, A>) -> Result<Vec<Slot, A>, AllocError>
+fn root_slots<A: Allocator>(alloc: A, roots: &Roots<A>) -> Result<Vec<Slot, A>, AllocError>
     ensures { IfOk result (λ slots. map slot_value slots.items ≡ map (λ e. root_slot e.0 e.1) (entries (roots_map roots.now.slots))) }
 {
     let mut slots = Vec::with_capacity(alloc, roots.len())?;
-    for (number, place) in roots.iter() {
+    let mut from = 0;
+    while let Some(root) = roots.first_from(from) {
         slots.push(Slot::Root {
-            root: RootId { number },
-            target: *place,
+            root: RootId { number: root.0 },
+            target: root.1,
         })?;
+        from = root.0 + 1;
     }
     Ok(slots)
 }
@@ -32,7 +33,7 @@ fn root_slots<A: Allocator>(alloc: A, roots: &Slab<Place, A>) -> Result<Vec<Slot
 pub(crate) fn opened<A: Allocator + Clone>(
     alloc: A,
     space: &Space<A>,
-    roots: &Slab<Place, A>,
+    roots: &Roots<A>,
     g: u8,
 ) -> Result<Collection<A>, AllocError>
     requires in_range { g < space.now.config.shape.generations }

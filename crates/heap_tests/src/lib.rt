@@ -8,4 +8,6 @@ mod free_blocks;
 #[cfg(test)]
 mod heaps;
 #[cfg(test)]
+mod many_roots;
+#[cfg(test)]
 mod pointers;

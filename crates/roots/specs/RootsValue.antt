@@ -1,5 +1,5 @@
 -- What contracts see of roots: a place, or nothing, at each number.
-use Rattle.std.specs.Prelude.{◌≡◌, ◌≢◌, ℕ, ◌+◌, ◌<◌, ◌≤◌, Bool, false, List, Option, Some, None, length, is_some, count_by, slice_index_or}
+use Rattle.std.specs.Prelude.{◌≡◌, ◌≢◌, ℕ, ◌+◌, ◌<◌, ◌≤◌, Bool, false, List, Option, Some, None, is_some, count_by, slice_index_or}
 use Rattle.layout.specs.declared.place.Place.{Place}
 
 -- what each number from 0 on leads to; the number of the next root; how many roots there is room for; the numbers below the

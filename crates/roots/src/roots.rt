@@ -117,7 +117,9 @@ impl<A: Allocator> Roots<A> {
         ensures in_range { IfSome result (λ root. root.0 + 1 < 2 ^ 64) }
     {
         let _capacity = self.slab.capacity();
-        let number = self.used.next(from)?;
+        let Some(number) = self.used.next(from) else {
+            return None;
+        };
         match self.slab.get(number) {
             Some(place) => Some((number, *place)),
             None => None,

@@ -11,18 +11,18 @@ use Rattle.heap.proofs.heap.Heap.allocate.Goals as goal
 pub invariant_of-self-in-Some : goal.invariant_of-self-in-Some
 invariant_of-self-in-Some g c =
     let some = c.in-Some.ensures.some in
-    let kept = ap (λ s. s.slots) c.reserve.ensures.rest_kept in
+    let kept = c.reserve.ensures.slots in
     let vacant = sym (ap (λ s. slice_index_or s c.insert_reserved.result None) kept) ∙ c.insert_reserved.ensures.was_vacant in
-    let roots = roots-insert c.reserve.new.self c.insert_reserved.new.self c.insert_reserved.result c.in-Some.place c.insert_reserved.ensures.updates ∙ ap (λ s. insert (roots_map s) c.insert_reserved.result (place_word c.in-Some.place)) kept in
+    let roots = roots-insert c.reserve.new.self.slots c.insert_reserved.new.self.slots c.insert_reserved.result c.in-Some.place c.insert_reserved.ensures.updates ∙ ap (λ s. insert (roots_map s) c.insert_reserved.result (place_word c.in-Some.place)) kept in
     let made = allocates_is c.self.inside.space c.allocate.new.self c.self.inside.roots.slots c.insert_reserved.new.self.slots c.args.mutator c.args.p c.args.q c.insert_reserved.result (place_word c.in-Some.place) some vacant roots in
     rw (ap (λ h. h.graph) made.change) (closed_fresh _ c.insert_reserved.result made.name c.args.p c.args.q c.self.invariant)
 
 pub returns-in-Some-clause-ok : goal.returns-in-Some-clause-ok
 returns-in-Some-clause-ok g c =
     let some = c.in-Some.ensures.some in
-    let kept = ap (λ s. s.slots) c.reserve.ensures.rest_kept in
+    let kept = c.reserve.ensures.slots in
     let vacant = sym (ap (λ s. slice_index_or s c.insert_reserved.result None) kept) ∙ c.insert_reserved.ensures.was_vacant in
-    let roots = roots-insert c.reserve.new.self c.insert_reserved.new.self c.insert_reserved.result c.in-Some.place c.insert_reserved.ensures.updates ∙ ap (λ s. insert (roots_map s) c.insert_reserved.result (place_word c.in-Some.place)) kept in
+    let roots = roots-insert c.reserve.new.self.slots c.insert_reserved.new.self.slots c.insert_reserved.result c.in-Some.place c.insert_reserved.ensures.updates ∙ ap (λ s. insert (roots_map s) c.insert_reserved.result (place_word c.in-Some.place)) kept in
     rw (← c.self.view_is) (allocates_is c.self.inside.space c.allocate.new.self c.self.inside.roots.slots c.insert_reserved.new.self.slots c.args.mutator c.args.p c.args.q c.insert_reserved.result (place_word c.in-Some.place) some vacant roots)
 
 pub returns-then-p-gt-MOST_FIELDS-clause-too_big : goal.returns-then-p-gt-MOST_FIELDS-clause-too_big

@@ -1,18 +1,17 @@
 use Rattle.std.proofs.Common.{◌≡◌, Ok, Err, Result, sym, ap, subst, ◌∙◌}
 use Rattle.std.specs.Prelude.{IfOk, OnErr}
 use Rattle.model.specs.Graph.{IsClosed}
-use Rattle.layout.specs.declared.place.Place.{Place}
-use Rattle.slab.specs.Slab.{Slab}
+use Rattle.roots.specs.RootsValue.{RootsValue}
 use Rattle.heap_space.specs.Space.{SpaceValue}
 use Rattle.heap_commit.specs.HeapView.{heap_of}
 use Rattle.heap_commit.specs.IsHeap.{IsHeap}
 use Rattle.heap.proofs.heap.Heap.commit.Goals as goal
 
-as_before : {T E : Type 0} (r : Result T E) (space space' : SpaceValue) (roots roots' : Slab Place) → OnErr r (space' ≡ space) → OnErr r (roots' ≡ roots) → OnErr r (heap_of space' roots'.slots ≡ heap_of space roots.slots)
+as_before : {T E : Type 0} (r : Result T E) (space space' : SpaceValue) (roots roots' : RootsValue) → OnErr r (space' ≡ space) → OnErr r (roots' ≡ roots) → OnErr r (heap_of space' roots'.slots ≡ heap_of space roots.slots)
 as_before (Ok x) space space' roots roots' blocks same = tt
 as_before (Err e) space space' roots roots' blocks same = ap (λ s. heap_of s roots'.slots) blocks ∙ ap (λ r. heap_of space r.slots) same
 
-still_closed : {T E : Type 0} (r : Result T E) (space space' : SpaceValue) (roots roots' : Slab Place) → IfOk r (λ _. IsHeap (heap_of space' roots'.slots)) → OnErr r (heap_of space' roots'.slots ≡ heap_of space roots.slots) → IsClosed (heap_of space roots.slots).graph → IsClosed (heap_of space' roots'.slots).graph
+still_closed : {T E : Type 0} (r : Result T E) (space space' : SpaceValue) (roots roots' : RootsValue) → IfOk r (λ _. IsHeap (heap_of space' roots'.slots)) → OnErr r (heap_of space' roots'.slots ≡ heap_of space roots.slots) → IsClosed (heap_of space roots.slots).graph → IsClosed (heap_of space' roots'.slots).graph
 still_closed (Ok x) space space' roots roots' sound same closed = sound.closed
 still_closed (Err e) space space' roots roots' sound same closed = subst (λ h. IsClosed h.graph) (sym same) closed
 

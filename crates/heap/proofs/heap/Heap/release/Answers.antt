@@ -17,8 +17,8 @@ returns-clause-known g c =
 
 pub returns-clause-ok : goal.returns-clause-ok
 returns-clause-ok g c =
-    rw (← c.self.view_is, roots-remove c.self.inside.roots c.try_remove.new.self c.args.root.number c.in-Some.ensures.updates) refl
+    rw (← c.self.view_is, roots-remove c.self.inside.roots.slots c.remove.new.self.slots c.args.root.number c.in-Some.ensures.updates) refl
 
 pub invariant_of-self-2 : goal.invariant_of-self-2
 invariant_of-self-2 g c =
-    rw (roots-remove c.self.inside.roots c.try_remove.new.self c.args.root.number c.in-Some.ensures.updates) (closed-without_root _ c.args.root.number c.self.invariant)
+    rw (roots-remove c.self.inside.roots.slots c.remove.new.self.slots c.args.root.number c.in-Some.ensures.updates) (closed-without_root _ c.args.root.number c.self.invariant)

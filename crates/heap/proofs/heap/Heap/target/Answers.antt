@@ -5,4 +5,4 @@ use Rattle.heap_commit.proofs.RootMap.{get-roots}
 use Rattle.heap.proofs.heap.Heap.target.Goals as goal
 
 pub returns : goal.returns
-returns g c = rw (← c.self.view_is) (ap (option_map place_word) (c.copied.ensures ∙ c.get.ensures) ∙ sym (get-roots c.self.inside.roots.slots c.args.root.number))
+returns g c = rw (← c.self.view_is) (ap (option_map place_word) c.get.ensures ∙ sym (get-roots c.self.inside.roots.slots c.args.root.number))

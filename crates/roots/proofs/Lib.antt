@@ -1,0 +1,2 @@
+-- Flags of the numbers in use.
+pub mod Flagged
