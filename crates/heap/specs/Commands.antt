@@ -56,3 +56,17 @@ pub record Changes (old : HeapValue) (root : ℕ) (change : Object → Object) (
   pub root_is : root_at old.graph root ≡ Some name
   pub there : object_at old.graph name ≡ Some object
   pub changed : new ≡ record old { graph = with_object old.graph name (change object) }
+
+-- what pointer i of a root's object holds
+abbrev pub pointer_of : Graph → ℕ → ℕ → Option (Option ℕ)
+pointer_of graph root i = option_and_then (λ o. slice_get o.pointers i) (rooted_object graph root)
+
+-- a new root to the object of that name
+pub record AddsRoot (old : HeapValue) (name root : ℕ) (new : HeapValue) : Type 0 where
+  pub new_root : root_at old.graph root ≡ None
+  pub change : new ≡ record old { graph = with_root old.graph root name }
+
+-- pointer i of a root's object is nil and nothing changed, or there is a new root to what it leads to
+abbrev pub Loads : HeapValue → ℕ → ℕ → Option ℕ → HeapValue → Type 0
+Loads old root i None new = (pointer_of old.graph root i ≡ Some None) × (new ≡ old)
+Loads old root i (Some new_root) new = (name : ℕ) × (pointer_of old.graph root i ≡ Some (Some name)) × AddsRoot old name new_root new
