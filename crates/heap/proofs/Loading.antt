@@ -58,6 +58,9 @@ reads heap sound root name i raw root_is shown in_range =
 pub same_pointer : (graph : Graph) (root i word : ℕ) (pointer : Option Place) (read : Reads graph root i word) → Some pointer ≡ Some read.pointer → pointer_of graph root i ≡ Some (option_map place_word pointer)
 same_pointer graph root i word pointer read same = read.leads ∙ ap (λ p. Some (option_map place_word p)) (sym (some_is same))
 
+pub pointer_leads : (graph : Graph) (root i : ℕ) (pointer : Option Place) (place : Place) → pointer_of graph root i ≡ Some (option_map place_word pointer) → pointer ≡ Some place → pointer_of graph root i ≡ Some (Some (place_word place))
+pointer_leads graph root i pointer place leads is = leads ∙ ap (λ p. Some (option_map place_word p)) is
+
 -- what a pointer leads to is an object
 target_there : (graph : Graph) → IsClosed graph → (root i name : ℕ) → pointer_of graph root i ≡ Some (Some name) → (o : Object) × (object_at graph name ≡ Some o)
 target_there graph closed root i name leads = at_root (root_at graph root) leads

@@ -1,5 +1,5 @@
 //! The heap.
-ghost use Rattle.std.specs.Prelude.{◌≡◌, ◌+◌, ◌<◌, ◌≤◌, ◌↔◌, Some, None, false, IsTrue, IsSome, IsOk, IfOk, OnOk, OnErr};
+ghost use Rattle.std.specs.Prelude.{◌≡◌, ◌≢◌, ◌+◌, ◌<◌, ◌≤◌, ◌↔◌, Some, None, false, IsTrue, IsSome, IsOk, IfOk, OnOk, OnErr};
 ghost use Rattle.std.specs.Option.{option_map};
 ghost use Rattle.model.specs.Graph.{root_at, without_root, with_pointer};
 ghost use Rattle.layout.specs.Place.{place_word};
@@ -264,6 +264,7 @@ impl<A: Allocator + Clone> Heap<A> {
         ensures ok { IfOk result (λ loaded. Loads self.old root.number field (option_map (λ r. r.number) loaded) self.new) }
         ensures no_root { (result ≡ Err LoadError.NoRoot) ↔ IsNone (root_at self.old.graph root.number) }
         ensures bad_field { (result ≡ Err LoadError.BadField) ↔ (IsSome (root_at self.old.graph root.number) × ¬ (HasPointer self.old.graph root.number field)) }
+        ensures memory { result ≡ Err LoadError.NoMemory → IsSomeAnd (pointer_of self.old.graph root.number field) (λ target. IsSome target) }
         ensures err { OnErr result (self.new ≡ self.old) }
     {
         let pointer = match self.pointer_at(root, field) {
@@ -287,6 +288,7 @@ impl<A: Allocator + Clone> Heap<A> {
         ensures no_root { (result ≡ Err LoadError.NoRoot) ↔ IsNone (root_at self.now.graph root.number) }
         ensures bad_field { (result ≡ Err LoadError.BadField)
             ↔ (IsSome (root_at self.now.graph root.number) × ¬ (HasPointer self.now.graph root.number field)) }
+        ensures memory { result ≢ Err LoadError.NoMemory }
     {
         let _free = self.space.free_count();
         let Some(holder) = self.target(root) else {
