@@ -2,6 +2,7 @@
 pub mod HeapLemmas
 pub mod Allocating
 pub mod Storing
+pub mod Loading
 pub mod RootSlots
 pub mod SoundHeap
 pub mod OpenedHeap

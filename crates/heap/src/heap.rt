@@ -1,12 +1,12 @@
 //! The heap.
-ghost use Rattle.std.specs.Prelude.{◌≡◌, ◌+◌, ◌<◌, ◌≤◌, ◌↔◌, Some, None, false, IsTrue, IsSome, IsOk, IfOk, OnOk, OnErr};
+ghost use Rattle.std.specs.Prelude.{◌≡◌, ◌≢◌, ◌+◌, ◌<◌, ◌≤◌, ◌↔◌, Some, None, false, IsTrue, IsSome, IsOk, IfOk, OnOk, OnErr};
 ghost use Rattle.std.specs.Option.{option_map};
 ghost use Rattle.model.specs.Graph.{root_at, without_root, with_pointer};
 ghost use Rattle.layout.specs.Place.{place_word};
 ghost use Rattle.heap_data.specs.HeapValue.{empty_heap, nursery_count};
 ghost use Rattle.heap.specs.Found.{IsFound};
 ghost use Rattle.heap_commit.specs.IsHeap.{IsHeap};
-ghost use Rattle.heap.specs.Commands.{Allocates, is_too_big, room_for, heap_census, Changes, HasPointer, HasPlain, IsValue, value_at, rooted_object};
+ghost use Rattle.heap.specs.Commands.{Allocates, is_too_big, room_for, heap_census, Changes, HasPointer, HasPlain, IsValue, value_at, rooted_object, pointer_of, Loads};
 ghost use Rattle.std.specs.Prelude.{MatchOption, IsSomeAnd, IsNone, ◌⊎◌, slice_get, slice_set, slice_index, length, sum_by, Err};
 ghost use Rattle.model.specs.Graph.{IsClosed, object_at};
 ghost use Rattle.model.specs.Live.{IsYoung};
@@ -77,6 +77,15 @@ pub enum FieldError {
 #[derive(Clone, Copy, Debug, PartialEq, Eq)]
 pub enum StoreError {
     /// No root of the object, or none of the value.
+    NoRoot,
+    /// The object has no such pointer.
+    BadField,
+    NoMemory,
+}
+
+/// Why no pointer was loaded. The heap is as before.
+#[derive(Clone, Copy, Debug, PartialEq, Eq)]
+pub enum LoadError {
     NoRoot,
     /// The object has no such pointer.
     BadField,
@@ -247,6 +256,53 @@ impl<A: Allocator + Clone> Heap<A> {
         match self.space.object(holder) {
             Some(object) if field < object.words.len() as u64 => Ok(object.words[field as usize]),
             _ => Err(FieldError::BadField),
+        }
+    }
+
+    /// A new root to what pointer `field` of a root's object leads to, or `None` where it is nil.
+    pub fn load(&mut self, root: RootId, field: u64) -> Result<Option<RootId>, LoadError>
+        ensures ok { IfOk result (λ loaded. Loads self.old root.number field (option_map (λ r. r.number) loaded) self.new) }
+        ensures no_root { (result ≡ Err LoadError.NoRoot) ↔ IsNone (root_at self.old.graph root.number) }
+        ensures bad_field { (result ≡ Err LoadError.BadField) ↔ (IsSome (root_at self.old.graph root.number) × ¬ (HasPointer self.old.graph root.number field)) }
+        ensures memory { result ≡ Err LoadError.NoMemory → IsSomeAnd (pointer_of self.old.graph root.number field) (λ target. IsSome target) }
+        ensures err { OnErr result (self.new ≡ self.old) }
+    {
+        let pointer = match self.pointer_at(root, field) {
+            Ok(pointer) => pointer,
+            Err(error) => return Err(error),
+        };
+        let Some(place) = pointer else {
+            return Ok(None);
+        };
+        if self.roots.reserve(1).is_err() {
+            return Err(LoadError::NoMemory);
+        }
+        Ok(Some(RootId {
+            number: self.roots.insert_reserved(place),
+        }))
+    }
+
+    /// Where pointer `field` of a root's object leads.
+    fn pointer_at(&self, root: RootId, field: u64) -> Result<Option<Place>, LoadError>
+        ensures ok { IfOk result (λ pointer. pointer_of self.now.graph root.number field ≡ Some (option_map place_word pointer)) }
+        ensures no_root { (result ≡ Err LoadError.NoRoot) ↔ IsNone (root_at self.now.graph root.number) }
+        ensures bad_field { (result ≡ Err LoadError.BadField)
+            ↔ (IsSome (root_at self.now.graph root.number) × ¬ (HasPointer self.now.graph root.number field)) }
+        ensures memory { result ≢ Err LoadError.NoMemory }
+    {
+        let _free = self.space.free_count();
+        let Some(holder) = self.target(root) else {
+            return Err(LoadError::NoRoot);
+        };
+        match self.space.object(holder) {
+            Some(object) if field < object.pointers.len() as u64 => {
+                match Place::from_word(object.pointers[field as usize]) {
+                    Some(pointer) => Ok(pointer),
+                    // Each pointer leads to an object, and each object stands at a place.
+                    None => unreachable!(),
+                }
+            }
+            _ => Err(LoadError::BadField),
         }
     }
 

@@ -7,7 +7,9 @@ mod heap;
 mod opening;
 
 pub use found::Found;
-pub use heap::{AllocateError, FieldError, Heap, MakeError, NoRoot, OpenError, StoreError};
+pub use heap::{
+    AllocateError, FieldError, Heap, LoadError, MakeError, NoRoot, OpenError, StoreError,
+};
 pub use heap_data::{
     Census, Collection, Delivery, Report, RootId, Settled, Slot, StepCount, Won, WorkerReport,
 };

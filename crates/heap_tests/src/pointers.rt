@@ -1,7 +1,7 @@
 //! The fields of objects, and the order in which a collection copies what they lead to.
 use crate::heaps::{collected, heap_of};
 use collector::collect_one;
-use heap::{FieldError, Heap, Report, RootId, StoreError, WorkerReport};
+use heap::{FieldError, Heap, LoadError, Report, RootId, StoreError, WorkerReport};
 use layout::Place;
 use std::alloc::Global;
 use std::process::Abort;
@@ -159,6 +159,8 @@ fn assert_no_pointers(rt: &impl Abort, heap: &mut Heap<Global>, root: RootId, go
     assert_eq!(rt; heap.store(root, 2, Some(gone)), Err(StoreError::BadField));
     assert_eq!(rt; heap.store(root, 1, Some(gone)), Err(StoreError::NoRoot));
     assert_eq!(rt; heap.store(gone, 2, Some(root)), Err(StoreError::NoRoot));
+    assert_eq!(rt; heap.load(root, 2).err(), Some(LoadError::BadField));
+    assert_eq!(rt; heap.load(gone, 0).err(), Some(LoadError::NoRoot));
 }
 
 /// Asserts the faults of plain words, by a root whose mark is 6 and by one that was released.
@@ -184,5 +186,32 @@ fn refused_fields(rt: HostRuntime) -> Result<(), Fail> {
     let (root, gone) = root_and_gone(&mut heap)?;
     assert_no_pointers(&rt, &mut heap, root, gone);
     assert_no_words(&rt, &mut heap, root, gone);
+    Ok(())
+}
+
+/// Two new objects, marked 8 and 9. Pointer 1 of the first leads to the second, whose root is released.
+fn holder_of_nine(heap: &mut Heap<Global>) -> Result<RootId, Fail> {
+    let holder = marked(heap, 8)?;
+    let held = marked(heap, 9)?;
+    heap.store(holder, 1, Some(held))?;
+    heap.release(held)?;
+    Ok(holder)
+}
+
+/// Loads the pointers of an object, of which the first is nil.
+fn loaded(rt: &impl Abort, heap: &mut Heap<Global>, holder: RootId) -> Result<RootId, Fail> {
+    assert_eq!(rt; heap.load(holder, 0)?, None);
+    Ok(heap.load(holder, 1)?.ok_or("nil")?)
+}
+
+#[test]
+fn a_pointer_is_loaded(rt: HostRuntime) -> Result<(), Fail> {
+    let mut heap = small_heap(rt.alloc())?;
+    let holder = holder_of_nine(&mut heap)?;
+    let root = loaded(&rt, &mut heap, holder)?;
+    assert_eq!(rt; heap.get(root, 0), Ok(9));
+    heap.release(holder)?;
+    assert_eq!(rt; collected(rt.alloc(), &mut heap), Ok((1, 1)));
+    assert_eq!(rt; heap.get(root, 0), Ok(9));
     Ok(())
 }

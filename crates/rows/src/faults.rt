@@ -19,7 +19,7 @@ fn lines_without_a_command(rt: HostRuntime) {
         (b"frob\n", b"gctrace: line 1: unknown command\n"),
         (b"New a 0 0 0\n", b"gctrace: line 1: unknown command\n"),
         (b"\n\nSet a 0 b\n", b"gctrace: line 3: unknown command\n"),
-        (b"get b a 0\n", b"gctrace: line 1: unknown command\n"),
+        (b"gets b a 0\n", b"gctrace: line 1: unknown command\n"),
         (b"look 0\n", b"gctrace: line 1: unknown command\n"),
     ] {
         assert_fault(&rt, rt.alloc(), input, errors);

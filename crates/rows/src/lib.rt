@@ -34,4 +34,6 @@ mod streams;
 #[cfg(test)]
 mod texts;
 #[cfg(test)]
+mod walked;
+#[cfg(test)]
 mod worked;

@@ -13,7 +13,7 @@ use std::test::Fail;
 use trace_driver::{CountedReader, Fault, RunConfig, run};
 
 /// Lines of a trace, and what each prints. The first collection fills more than one block.
-const LINES: [(&[u8], &[u8]); 16] = [
+const LINES: [(&[u8], &[u8]); 17] = [
     (b"new a 0 0 3\n", b""),
     (b"new b 0 1 2\n", b""),
     (b"new c 0 3 0\n", b""),
@@ -29,16 +29,18 @@ const LINES: [(&[u8], &[u8]); 16] = [
         b"census\n",
         b"gen 0 step 0: 5 objects 17 words\nlarge: 0 objects 0 words\nroots: 5\nremembered: 0\n",
     ),
+    (b"get b c 0\n", b""),
     (b"new a-longer-name.of_32-bytes...... 0 0 3\n", b""),
     (b"collect 0\n", b"collected 0: 6 kept, 0 freed\n"),
     (
         b"census\n",
-        b"gen 0 step 0: 6 objects 21 words\nlarge: 0 objects 0 words\nroots: 6\nremembered: 0\n",
+        b"gen 0 step 0: 6 objects 21 words\nlarge: 0 objects 0 words\nroots: 7\nremembered: 0\n",
     ),
     (
         b"heap\n",
         b"root a #1
 root a-longer-name.of_32-bytes...... #2
+root b #1
 root c #3
 root d #4
 root e #5

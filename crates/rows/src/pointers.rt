@@ -1,5 +1,7 @@
 //! Worked traces with pointers and plain words.
 use crate::program::{BLOCKS_OF_64, ONE_GENERATION, assert_run};
+use std::alloc::Global;
+use std::process::Abort;
 
 #[test]
 fn two_kept_one_dropped(rt: HostRuntime) {
@@ -78,6 +80,75 @@ root b #3
         b"",
         0,
     );
+}
+
+#[test]
+fn get_a_field(rt: HostRuntime) {
+    let words = ["gctrace", "run", "--block-words", "64"];
+    let input =
+        b"new a 0 1 0\nnew b 0 0 1\nset a 0 b\ndrop b\nget c a 0\nput c 0 9\ndrop a\ncollect 0\nheap\n";
+    let output = b"collected 0: 1 kept, 1 freed
+root c #1
+#1 gen 0 step 1 ptrs [] words [9]
+";
+    assert_run(&rt, rt.alloc(), &words, input, output, b"", 0);
+}
+
+/// A run that prints nothing and stops at a fault.
+fn assert_stopped(rt: &impl Abort, alloc: Global, input: &[u8], errors: &[u8]) {
+    assert_run(rt, alloc, &["gctrace", "run"], input, b"", errors, 2);
+}
+
+#[test]
+fn get_and_new_faults(rt: HostRuntime) {
+    for (input, errors) in [
+        (
+            b"new a 0 1 0\nget b a 0\n".as_slice(),
+            b"gctrace: line 2: nil pointer\n".as_slice(),
+        ),
+        (b"new a 0 100001 0\n", b"gctrace: line 1: too big\n"),
+        (b"new a 1 0 0\n", b"gctrace: line 1: no such mutator\n"),
+    ] {
+        assert_stopped(&rt, rt.alloc(), input, errors);
+    }
+}
+
+#[test]
+fn first_fault_of_a_get(rt: HostRuntime) {
+    for (input, errors) in [
+        (
+            b"new a 0 0 0\nget a x 0\n".as_slice(),
+            b"gctrace: line 2: name in use\n".as_slice(),
+        ),
+        (
+            b"new a 0 1 0\nset a 0 a\nget a a 0\n",
+            b"gctrace: line 3: name in use\n",
+        ),
+        (b"get b a 0\n", b"gctrace: line 1: unknown name\n"),
+        (
+            b"new a 0 1 0\nget b b 0\n",
+            b"gctrace: line 2: unknown name\n",
+        ),
+        (
+            b"new a 0 1 0\nget b a 1\n",
+            b"gctrace: line 2: no such field\n",
+        ),
+        (
+            b"new a 0 0 1\nget b a 0\n",
+            b"gctrace: line 2: no such field\n",
+        ),
+        (
+            b"get nil a/ 0x\n",
+            b"gctrace: line 1: bad name\n",
+        ),
+        (b"get b a 0x\n", b"gctrace: line 1: bad number\n"),
+        (
+            b"get b a\n",
+            b"gctrace: line 1: wrong number of words\n",
+        ),
+    ] {
+        assert_stopped(&rt, rt.alloc(), input, errors);
+    }
 }
 
 #[test]

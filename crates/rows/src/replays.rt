@@ -192,6 +192,92 @@ block 0.0: 4 objects, taken by 1
     status: 0,
 };
 
+/// Two workers over three blocks, one of them the nursery's.
+const THREE_BLOCKS: [&str; 12] = [
+    "gctrace",
+    "replay",
+    "--threads",
+    "2",
+    "--generations",
+    "1",
+    "--block-words",
+    "64",
+    "--nursery",
+    "1",
+    "--blocks",
+    "3",
+];
+
+/// Both workers propose a copy. Worker 1 wins, and worker 0 takes its own back.
+const LOST_RACE: Row = Row {
+    words: &THREE_BLOCKS,
+    input: b"new a 0 1 0
+set a 0 a
+get b a 0
+collect 0
+look 0
+look 1
+race 1
+race 0
+own 1 0
+look 1
+scan 1
+idle 0
+idle 1
+end 0
+end 1
+commit
+heap
+",
+    output: b"collected 0: 1 kept, 0 freed
+worker 0: 0 won, 0 scanned
+worker 1: 1 won, 1 scanned
+root a #1
+root b #1
+#1 gen 0 step 0 ptrs [#1] words []
+",
+    errors: b"",
+    status: 0,
+};
+
+/// The block that worker 0 drew went back empty, so one block is free for the second collection, and suffices.
+const EMPTY_BLOCK_RETURNS: Row = Row {
+    words: &THREE_BLOCKS,
+    input: b"new a 0 1 0
+set a 0 a
+get b a 0
+collect 0
+look 0
+look 1
+race 1
+race 0
+own 1 0
+look 1
+scan 1
+idle 0
+idle 1
+end 0
+end 1
+commit
+heap
+collect 0
+finish
+commit
+",
+    output: b"collected 0: 1 kept, 0 freed
+worker 0: 0 won, 0 scanned
+worker 1: 1 won, 1 scanned
+root a #1
+root b #1
+#1 gen 0 step 0 ptrs [#1] words []
+collected 0: 1 kept, 0 freed
+worker 0: 1 won, 1 scanned
+worker 1: 0 won, 0 scanned
+",
+    errors: b"",
+    status: 0,
+};
+
 /// What comes next by itself comes to the end, also after some events; each collection has a schedule of its own.
 const FINISHES: Row = Row {
     words: &TWO_WORKERS,
@@ -213,6 +299,16 @@ root a #1
 fn worked_replays(rt: HostRuntime) {
     const ROWS: [Row; 4] = [RETIRED_IN_HAND, WAKE_AND_END, BLOCK_CHANGES_HANDS, FINISHES];
     assert_eq!(rt; first_other(rt.alloc(), &ROWS), None);
+}
+
+#[test]
+fn lost_race(rt: HostRuntime) {
+    assert_eq!(rt; first_other(rt.alloc(), &[LOST_RACE]), None);
+}
+
+#[test]
+fn empty_block_returns(rt: HostRuntime) {
+    assert_eq!(rt; first_other(rt.alloc(), &[EMPTY_BLOCK_RETURNS]), None);
 }
 
 /// A replay that stops at a fault and prints nothing.

@@ -61,6 +61,21 @@ fn is_put(line: &[u8], wanted: &[u8], numbers: (u64, u64)) -> bool {
     }
 }
 
+fn is_get(line: &[u8], wanted: &[u8], other: &[u8], number: u64) -> bool {
+    match parse(line) {
+        Ok(
+            Line::Command(
+                Command::Get {
+                    new_name,
+                    name,
+                    field,
+                },
+            ),
+        ) => new_name == wanted && name == other && field == number,
+        _ => false,
+    }
+}
+
 fn is_collect(line: &[u8], number: u64) -> bool {
     match parse(line) {
         Ok(Line::Command(Command::Collect { generation })) => generation == number,
@@ -81,12 +96,13 @@ fn reads_fields(rt: HostRuntime) {
     assert!(rt; is_set(line, b"a", u64::MAX, Some(b"b")));
     assert!(rt; is_set(b"set a 0 nil", b"a", 0, None));
     assert!(rt; is_put(b"put a 1 002", b"a", (1, 2)));
+    assert!(rt; is_get(b"get b a 003", b"b", b"a", 3));
     assert!(rt; matches!(parse(b"\theap \r"), Ok(Line::Command(Command::Heap))));
 }
 
 #[test]
 fn refuses_faults_of_fields(rt: HostRuntime) {
-    const ROWS: [(&[u8], Kind); 12] = [
+    const ROWS: [(&[u8], Kind); 17] = [
         (b"set nil 0 a", Kind::BadName),
         (b"set a nil nil", Kind::BadNumber),
         (b"set a 0 Nil!", Kind::BadName),
@@ -98,6 +114,11 @@ fn refuses_faults_of_fields(rt: HostRuntime) {
         (b"put nil x 0", Kind::BadName),
         (b"put a 0", Kind::WrongWords),
         (b"put a 0 0 0", Kind::WrongWords),
+        (b"get nil a/ x", Kind::BadName),
+        (b"get b nil x", Kind::BadName),
+        (b"get b a nil", Kind::BadNumber),
+        (b"get b a", Kind::WrongWords),
+        (b"get b a 0 0", Kind::WrongWords),
         (b"heap 0", Kind::WrongWords),
     ];
     assert_eq!(rt; first_other_fault(&ROWS), None);

@@ -114,7 +114,7 @@ fn faults_of_fields(rt: HostRuntime) -> Result<(), Fail> {
         (b"new a 0 1 0\nset a 1 nil\n", 2, Kind::NoField),
         (b"put a 0 1\n", 1, Kind::UnknownName),
         (b"new a 0 1 0\nput a 0 1\n", 2, Kind::NoField),
-        (b"new a 0 1 0\nget b a 0\n", 2, Kind::UnknownCommand),
+        (b"new a 0 1 0\nget b a 0\n", 2, Kind::NilPointer),
     ];
     for (trace, line, kind) in &rows {
         let (result, written) = run_of(&rt, trace)?;

@@ -7,7 +7,7 @@ use Rattle.std.specs.Str.Parse.{digits_value}
 use Rattle.trace_text.specs.Words.{words}
 use Rattle.model.specs.declared.kind.Kind.{Kind}
 use Rattle.model.specs.declared.kind.Kind.TheVariants.{LineTooLong, UnknownCommand, WrongWords, BadName, BadNumber}
-use Rattle.model.specs.Commands.{Command, New, Set, Put, Drop, Collect, Census, Heap}
+use Rattle.model.specs.Commands.{Command, New, Set, Put, Get, Drop, Collect, Census, Heap}
 
 infixl 10 ◌>>=◌
 abbrev pub ◌>>=◌ : {A B E : Type 0} → Result A E → (A → Result B E) → Result B E
@@ -81,6 +81,13 @@ put_of a b c = do
   value ← number_of c
   Ok (Put name field value)
 
+unfoldable pub get_of : List ℕ → List ℕ → List ℕ → Result Command Kind
+get_of a b c = do
+  new_name ← name_of a
+  name ← name_of b
+  field ← number_of c
+  Ok (Get new_name name field)
+
 unfoldable pub drop_of : List ℕ → Result Command Kind
 drop_of a = do
   name ← name_of a
@@ -97,11 +104,12 @@ command_of command rest =
     if bytes_eq command (codes "new") then four_of rest new_of
     else (if bytes_eq command (codes "set") then three_of rest set_of
     else (if bytes_eq command (codes "put") then three_of rest put_of
+    else (if bytes_eq command (codes "get") then three_of rest get_of
     else (if bytes_eq command (codes "drop") then one_of rest drop_of
     else (if bytes_eq command (codes "collect") then one_of rest collect_of
     else (if bytes_eq command (codes "census") then none_of rest Census
     else (if bytes_eq command (codes "heap") then none_of rest Heap
-    else Err UnknownCommand))))))
+    else Err UnknownCommand)))))))
 
 -- a comment's first word begins with `#`, which is 35
 abbrev pub is_comment : List ℕ → Bool

@@ -1,11 +1,11 @@
 //! The form of a line.
-ghost use Rattle.std.specs.Prelude.{◌≡◌, ◌<◌, length, IfOk};
+ghost use Rattle.std.specs.Prelude.{◌≡◌, ◌<◌, length};
 ghost use Rattle.std.specs.List.{list_all};
 ghost use Rattle.std.specs.Char.{is_ascii_digit};
 ghost use Rattle.model.specs.Commands.{command_of as said, target_of as target_said};
 ghost use Rattle.trace_text.specs.Words.{words};
-ghost use Rattle.trace_text.specs.Grammar.{one_of, three_of, four_of, is_nil, name_of, is_name_byte, number_of, target_of, new_of, set_of, put_of, drop_of, collect_of, command_of, entry_of, without_return};
-ghost use Rattle.trace_text.specs.Answer.{Gives, view, IsKnown, IsKnownLine};
+ghost use Rattle.trace_text.specs.Grammar.{one_of, three_of, four_of, is_nil, name_of, is_name_byte, number_of, target_of, new_of, set_of, put_of, get_of, drop_of, collect_of, command_of, entry_of, without_return};
+ghost use Rattle.trace_text.specs.Answer.{Gives, view};
 
 use crate::line::Line;
 use crate::words::{four_words, no_words, one_word, split_first_word, three_words};
@@ -74,8 +74,7 @@ pub fn number(word: &[u8]) -> Result<u64, Kind>
 
 #[tactic(auto, unfolding(crate::specs::Grammar::new_of))]
 fn new(rest: &[u8]) -> Result<Command<'_>, Kind>
-    ensures gives { Gives said result (four_of (words rest.now) new_of) }
-    ensures known { IfOk result IsKnown }
+    ensures { Gives said result (four_of (words rest.now) new_of) }
 {
     let (name_word, mutator, pointers, plain) = four_words(rest)?;
     let name = name(name_word)?;
@@ -104,8 +103,7 @@ fn target(word: &[u8]) -> Result<Option<&[u8]>, Kind>
 
 #[tactic(auto, unfolding(crate::specs::Grammar::set_of))]
 fn set(rest: &[u8]) -> Result<Command<'_>, Kind>
-    ensures gives { Gives said result (three_of (words rest.now) set_of) }
-    ensures known { IfOk result IsKnown }
+    ensures { Gives said result (three_of (words rest.now) set_of) }
 {
     let (name_word, field, target_word) = three_words(rest)?;
     let name = name(name_word)?;
@@ -120,8 +118,7 @@ fn set(rest: &[u8]) -> Result<Command<'_>, Kind>
 
 #[tactic(auto, unfolding(crate::specs::Grammar::put_of))]
 fn put(rest: &[u8]) -> Result<Command<'_>, Kind>
-    ensures gives { Gives said result (three_of (words rest.now) put_of) }
-    ensures known { IfOk result IsKnown }
+    ensures { Gives said result (three_of (words rest.now) put_of) }
 {
     let (name_word, field, value) = three_words(rest)?;
     let name = name(name_word)?;
@@ -130,10 +127,24 @@ fn put(rest: &[u8]) -> Result<Command<'_>, Kind>
     Ok(Command::Put { name, field, value })
 }
 
+#[tactic(auto, unfolding(crate::specs::Grammar::get_of))]
+fn get(rest: &[u8]) -> Result<Command<'_>, Kind>
+    ensures { Gives said result (three_of (words rest.now) get_of) }
+{
+    let (new_word, name_word, field) = three_words(rest)?;
+    let new_name = name(new_word)?;
+    let name = name(name_word)?;
+    let field = number(field)?;
+    Ok(Command::Get {
+        new_name,
+        name,
+        field,
+    })
+}
+
 #[tactic(auto, unfolding(crate::specs::Grammar::drop_of))]
 fn drop_name(rest: &[u8]) -> Result<Command<'_>, Kind>
-    ensures gives { Gives said result (one_of (words rest.now) drop_of) }
-    ensures known { IfOk result IsKnown }
+    ensures { Gives said result (one_of (words rest.now) drop_of) }
 {
     let word = one_word(rest)?;
     let name = name(word)?;
@@ -142,8 +153,7 @@ fn drop_name(rest: &[u8]) -> Result<Command<'_>, Kind>
 
 #[tactic(auto, unfolding(crate::specs::Grammar::collect_of))]
 fn collect(rest: &[u8]) -> Result<Command<'_>, Kind>
-    ensures gives { Gives said result (one_of (words rest.now) collect_of) }
-    ensures known { IfOk result IsKnown }
+    ensures { Gives said result (one_of (words rest.now) collect_of) }
 {
     let word = one_word(rest)?;
     let generation = number(word)?;
@@ -152,8 +162,7 @@ fn collect(rest: &[u8]) -> Result<Command<'_>, Kind>
 
 #[tactic(auto, unfolding(crate::specs::Grammar::command_of))]
 fn command<'a>(word: &[u8], rest: &'a [u8]) -> Result<Command<'a>, Kind>
-    ensures gives { Gives said result (command_of word.now (words rest.now)) }
-    ensures known { IfOk result IsKnown }
+    ensures { Gives said result (command_of word.now (words rest.now)) }
 {
     if word == b"new".as_slice() {
         new(rest)
@@ -161,6 +170,8 @@ fn command<'a>(word: &[u8], rest: &'a [u8]) -> Result<Command<'a>, Kind>
         set(rest)
     } else if word == b"put".as_slice() {
         put(rest)
+    } else if word == b"get".as_slice() {
+        get(rest)
     } else if word == b"drop".as_slice() {
         drop_name(rest)
     } else if word == b"collect".as_slice() {
@@ -183,12 +194,10 @@ pub fn without_return(line: &[u8]) -> &[u8]
     line.strip_suffix(b"\r".as_slice()).unwrap_or(line)
 }
 
-/// One line without its line feed: what it says, or its first fault. Of the commands it knows `new`, `set`, `put`,
-/// `drop`, `collect`, `census` and `heap`. It allocates nothing.
+/// One line without its line feed: what it says, or its first fault. It allocates nothing.
 #[tactic(auto, unfolding(crate::specs::Grammar::entry_of))]
 pub fn parse(line: &[u8]) -> Result<Line<'_>, Kind>
-    ensures gives { Gives view result (entry_of line.now) }
-    ensures known { IfOk result IsKnownLine }
+    ensures { Gives view result (entry_of line.now) }
 {
     if line.len() > MAX_LINE_LEN {
         return Err(Kind::LineTooLong);
