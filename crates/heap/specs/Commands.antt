@@ -60,7 +60,6 @@ pub record Changes (old : HeapValue) (root : ℕ) (change : Object → Object) (
   pub there : object_at old.graph name ≡ Some object
   pub changed : new ≡ record old { graph = with_object old.graph name (change object) }
 
-<<<<<<< HEAD
 -- the pointer would lead from this object to a younger one
 abbrev pub leads_younger : Graph → Object → Option ℕ → Bool
 leads_younger graph holder value = points_to (λ target. nat_lt target.generation holder.generation) (object_at graph) value
@@ -86,8 +85,6 @@ pub record MustNote (heap : HeapValue) (root : ℕ) (value : Option ℕ) : Type 
   pub younger : IsTrue (leads_younger heap.graph object (value_at heap.graph value))
   pub no_member : ¬ (IsTrue (has (members_at heap.remembered object.generation) name))
 
-=======
->>>>>>> 80f2ab9a7ffda604da794219cdbda197cd95e705
 -- what pointer i of a root's object holds
 abbrev pub pointer_of : Graph → ℕ → ℕ → Option (Option ℕ)
 pointer_of graph root i = option_and_then (λ o. slice_get o.pointers i) (rooted_object graph root)
