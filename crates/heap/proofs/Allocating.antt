@@ -5,14 +5,14 @@ use Rattle.std.specs.Option.{option_map}
 use Rattle.std.specs.FinMap.{insert}
 use Rattle.layout.specs.declared.place.Place.{Place}
 use Rattle.layout.specs.Place.{place_word}
-use Rattle.heap_commit.specs.HeapView.{heap_of}
+use Rattle.heap_commit.specs.HeapView.{heap_with}
 use Rattle.heap_commit.specs.Roots.{roots_map}
 use Rattle.heap_space.specs.Space.{SpaceValue, SpaceAllocates}
 use Rattle.heap.specs.Commands.{Allocates}
 use Rattle.heap_commit.proofs.RootMap.{get-roots}
 
-pub allocates_is : (old new : SpaceValue) (slots slots' : List (Option Place)) (mutator p q key name : ℕ) → SpaceAllocates old mutator p q name new → slice_index_or slots key None ≡ None → roots_map slots' ≡ insert (roots_map slots) key name → Allocates (heap_of old slots) mutator p q key (heap_of new slots')
-allocates_is old new slots slots' mutator p q key name more vacant roots =
+pub allocates_is : (old new : SpaceValue) (slots slots' : List (Option Place)) (sets : List (List ℕ)) (mutator p q key name : ℕ) → SpaceAllocates old mutator p q name new → slice_index_or slots key None ≡ None → roots_map slots' ≡ insert (roots_map slots) key name → Allocates (heap_with old slots sets) mutator p q key (heap_with new slots' sets)
+allocates_is old new slots slots' sets mutator p q key name more vacant roots =
     rw more.change record {
       name = name;
       room = more.room;

@@ -13,7 +13,7 @@ use Rattle.model.specs.Store.{full_rooms}
 use Rattle.model.proofs.Among.{Among}
 use Rattle.model.proofs.OldSlotsExact.{entry_found}
 use Rattle.heap_data.specs.HeapValue.{HeapValue, empty_heap, nursery_count}
-use Rattle.heap_commit.specs.HeapView.{heap_of}
+use Rattle.heap_commit.specs.HeapView.{heap_with}
 use Rattle.heap_commit.specs.Roots.{roots_map}
 use Rattle.heap_space.specs.Space.{empty_space}
 use Rattle.std.proofs.Common.{inl, inr}
@@ -23,7 +23,7 @@ unfolding slots_from
 empty_roots = refl
 
 -- an empty space with no root is an empty heap
-pub empty_view : (config : Config) → heap_of (empty_space config) [] ≡ empty_heap config
+pub empty_view : (config : Config) → heap_with (empty_space config) [] (replicate config.shape.generations []) ≡ empty_heap config
 empty_view config =
     ap (λ r. let h : HeapValue = record { config = config; graph = record { objects = empty; roots = r }; rooms = full_rooms config; free = numbers_from (nursery_count config) (config.blocks - nursery_count config); large_blocks = empty; remembered = replicate config.shape.generations [] } in h) empty_roots
 

@@ -7,3 +7,6 @@ pub mod RootSlots
 pub mod SoundHeap
 pub mod OpenedHeap
 pub mod FoundHere
+pub mod Covering
+pub mod Wholes
+pub mod Noting

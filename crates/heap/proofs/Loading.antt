@@ -11,8 +11,8 @@ use Rattle.layout.specs.Object.{Raw}
 use Rattle.layout.specs.Place.{place_word, pointer_word}
 use Rattle.heap_data.specs.HeapValue.{HeapValue}
 use Rattle.heap_data.specs.Words.{IsShownAs, target_of_word}
-use Rattle.heap_commit.specs.HeapView.{heap_of}
-use Rattle.heap_commit.specs.IsHeap.{IsHeap}
+use Rattle.heap_commit.specs.HeapView.{heap_of, heap_with}
+use Rattle.heap_commit.specs.IsHeap.{AreHeapObjects}
 use Rattle.heap_commit.specs.Roots.{roots_map}
 use Rattle.heap_space.specs.Space.{SpaceValue}
 use Rattle.heap.specs.Commands.{pointer_of, AddsRoot}
@@ -20,7 +20,7 @@ use Rattle.model.proofs.ClosedLemmas.{field_is, closed-with_root}
 use Rattle.model.proofs.Options.{some_is}
 use Rattle.block_table.proofs.TableSteps.{get_or_any}
 use Rattle.heap_commit.proofs.RootMap.{get-roots}
-use Rattle.heap.proofs.SoundHeap.{heap_places}
+use Rattle.heap.proofs.SoundHeap.{objects_places}
 
 -- the pointer of that word, which leads where the graph's pointer does
 pub record Reads (graph : Graph) (root i word : ℕ) : Type 0 where
@@ -28,13 +28,13 @@ pub record Reads (graph : Graph) (root i word : ℕ) : Type 0 where
   pub word_is : pointer_word pointer ≡ word
   pub leads : pointer_of graph root i ≡ Some (option_map place_word pointer)
 
-module _ (heap : HeapValue) (sound : IsHeap heap) (root name i word : ℕ) (root_is : root_at heap.graph root ≡ Some name) where
+module _ (heap : HeapValue) (sound : AreHeapObjects heap) (root name i word : ℕ) (root_is : root_at heap.graph root ≡ Some name) where
   at_word : (o : Object) → object_at heap.graph name ≡ Some o → slice_get o.pointers i ≡ Some (target_of_word word) → (b : Bool) → nat_lt 0 word ≡ b → pointer_of heap.graph root i ≡ Some (cond b (Some word) None) → Reads heap.graph root i word
   at_word o there field false e leads = record { pointer = None; word_is = omega (arith, ltb-false 0 word e); leads = leads }
   at_word o there field true e leads =
       let target : target_of_word word ≡ Some word = ap (λ b. cond b (Some word) None) e in
       let to = sound.closed.fields name i word (field_is heap.graph name i word o there (field ∙ ap (λ t. Some t) target)) in
-      let stands = heap_places heap sound word to.0 to.1 in
+      let stands = objects_places heap sound word to.0 to.1 in
       record { pointer = Some stands.0; word_is = stands.1; leads = leads ∙ ap (λ w. Some (Some w)) (sym stands.1) }
 
   at_object : (o : Object) → object_at heap.graph name ≡ Some o → slice_get o.pointers i ≡ Some (target_of_word word) → Reads heap.graph root i word
@@ -50,7 +50,7 @@ module _ (heap : HeapValue) (sound : IsHeap heap) (root name i word : ℕ) (root
       at_object o is (ap (λ ps. slice_get ps i) (sym shown.pointers) ∙ slice_get-map target_of_word raw.pointers i ∙ ap (option_map target_of_word) there)
 
 -- a pointer of a root's object, from the words of that object
-pub reads : (heap : HeapValue) → IsHeap heap → (root name i : ℕ) (raw : Raw) → root_at heap.graph root ≡ Some name → IsSomeAnd (object_at heap.graph name) (λ o. IsShownAs o raw) → i < length raw.pointers → Reads heap.graph root i (slice_index_or raw.pointers i 0)
+pub reads : (heap : HeapValue) → AreHeapObjects heap → (root name i : ℕ) (raw : Raw) → root_at heap.graph root ≡ Some name → IsSomeAnd (object_at heap.graph name) (λ o. IsShownAs o raw) → i < length raw.pointers → Reads heap.graph root i (slice_index_or raw.pointers i 0)
 reads heap sound root name i raw root_is shown in_range =
     let word = slice_index_or raw.pointers i 0 in
     shown_at heap sound root name i word root_is (object_at heap.graph name) raw refl shown (slice_get_read raw.pointers (length raw.pointers) i word refl in_range (get_or_any raw.pointers i 0 word in_range))
@@ -74,8 +74,8 @@ closed_loaded space slots slots' root i key name closed leads roots =
     let there = target_there (heap_of space slots).graph closed root i name leads in
     rw roots (closed-with_root (heap_of space slots).graph key name there.0 closed there.1)
 
-pub adds_root : (space : SpaceValue) (slots slots' : List (Option Place)) (key name : ℕ) → slice_index_or slots key None ≡ None → roots_map slots' ≡ insert (roots_map slots) key name → AddsRoot (heap_of space slots) name key (heap_of space slots')
-adds_root space slots slots' key name vacant roots = record {
+pub adds_root : (space : SpaceValue) (slots slots' : List (Option Place)) (sets : List (List ℕ)) (key name : ℕ) → slice_index_or slots key None ≡ None → roots_map slots' ≡ insert (roots_map slots) key name → AddsRoot (heap_with space slots sets) name key (heap_with space slots' sets)
+adds_root space slots slots' sets key name vacant roots = record {
   new_root = get-roots slots key ∙ ap (option_map place_word) vacant;
   change = rw roots refl;
 }

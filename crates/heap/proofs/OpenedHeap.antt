@@ -7,15 +7,15 @@ use Rattle.layout.specs.declared.place.Place.{Place}
 use Rattle.heap_space.specs.Space.{SpaceValue, graph_in}
 use Rattle.heap_space.specs.Collecting.{AreBases}
 use Rattle.heap_data.specs.CollectionValue.{CollectionValue, IsOpened, young_names, root_slot, field_slot_of}
-use Rattle.heap_commit.specs.HeapView.{heap_of}
+use Rattle.heap_commit.specs.HeapView.{heap_with}
 use Rattle.heap_commit.specs.Roots.{roots_map}
 use Rattle.heap_commit.proofs.OpenedBases.{young_in}
 
-pub opened_is : (space : SpaceValue) (slots : List (Option Place)) (g : ℕ) (collection : CollectionValue) → g < space.config.shape.generations → collection.generation ≡ g
+pub opened_is : (space : SpaceValue) (slots : List (Option Place)) (sets : List (List ℕ)) (g : ℕ) (collection : CollectionValue) → g < space.config.shape.generations → collection.generation ≡ g
     → collection.slots ≡ map (λ e. root_slot e.0 e.1) (entries (roots_map slots)) ++ map field_slot_of (old_slots (graph_in space) space.config.shape.generations g)
     → collection.free ≡ space.free → AreBases space g collection.bases → collection.cells ≡ length (young_names (graph_in space) g)
-    → IsOpened (heap_of space slots) g collection
-opened_is space slots g collection in_range generation slots_are free bases cells = record {
+    → IsOpened (heap_with space slots sets) g collection
+opened_is space slots sets g collection in_range generation slots_are free bases cells = record {
   generation = generation;
   in_range = in_range;
   slots = slots_are;

@@ -1,12 +1,14 @@
 -- What the calls on a heap do.
 pub mod Commands
 pub mod Found
+pub mod Whole
 pub use Rattle.steps.specs.ConfigRange
 pub use Rattle.steps.specs.ConfigView
 pub use Rattle.steps.specs.StepPairs
 pub use Rattle.heap_commit.specs.Roots
 pub use Rattle.heap_commit.specs.HeapView
 pub use Rattle.heap_commit.specs.IsHeap
+pub use Rattle.remembered_set.specs.Sets
 pub use Rattle.heap_data.specs.HeapValue
 pub use Rattle.heap_data.specs.CensusCode
 pub use Rattle.heap_data.specs.CensusView

@@ -1,14 +1,14 @@
 //! The heap.
 ghost use Rattle.std.specs.Prelude.{◌≡◌, ◌≢◌, ◌+◌, ◌<◌, ◌≤◌, ◌↔◌, Some, None, false, IsTrue, IsSome, IsOk, IfOk, OnOk, OnErr};
 ghost use Rattle.std.specs.Option.{option_map};
-ghost use Rattle.model.specs.Graph.{root_at, without_root, with_pointer};
+ghost use Rattle.model.specs.Graph.{root_at, without_root};
 ghost use Rattle.layout.specs.Place.{place_word};
 ghost use Rattle.heap_data.specs.HeapValue.{empty_heap, nursery_count};
 ghost use Rattle.heap.specs.Found.{IsFound};
 ghost use Rattle.heap_commit.specs.IsHeap.{IsHeap};
-ghost use Rattle.heap.specs.Commands.{Allocates, is_too_big, room_for, heap_census, Changes, HasPointer, HasPlain, IsValue, value_at, rooted_object, pointer_of, Loads};
+ghost use Rattle.heap.specs.Commands.{Allocates, is_too_big, room_for, heap_census, Changes, HasPointer, HasPlain, IsValue, value_at, rooted_object, pointer_of, Loads, Stores, MustNote};
 ghost use Rattle.std.specs.Prelude.{MatchOption, IsSomeAnd, IsNone, ◌⊎◌, slice_get, slice_set, slice_index, length, sum_by, Err};
-ghost use Rattle.model.specs.Graph.{IsClosed, object_at};
+ghost use Rattle.model.specs.Graph.{object_at};
 ghost use Rattle.model.specs.Live.{IsYoung};
 ghost use Rattle.model.specs.LiveCount.{LiveCount};
 ghost use Rattle.layout.specs.ObjectRef.{raw_of};
@@ -20,13 +20,15 @@ ghost use Rattle.heap_data.specs.ReportValue.{all_won, renaming_of};
 ghost use Rattle.heap_data.specs.SettledValue.{IsSettled};
 ghost use Rattle.heap_data.specs.CollectedHeap.{CollectedHeap};
 
+use crate::barrier::remember;
 use crate::counts::step_counts;
 use crate::found::Found;
 use crate::opening::opened;
-use heap_commit::commit;
 use heap_data::{Census, Collection, Report, RootId, Settled};
 use heap_space::Space;
 use layout::{ObjectRef, Place};
+use remembered_set::Remembered;
+use remembering::commit;
 use roots::Roots;
 use std::alloc::{AllocError, Allocator, Global};
 use std::marker::Model;
@@ -92,11 +94,13 @@ pub enum LoadError {
     NoMemory,
 }
 
-/// Objects in blocks, and roots that lead to them.
+/// Objects in blocks, roots that lead to them, and the objects that a collection of younger ones has to look at.
 #[derive(Drop)]
 pub struct Heap<A: Allocator = Global> {
     space: Space<A>,
     roots: Roots<A>,
+    // For each generation the objects that may have a pointer to a younger one.
+    remembered: Remembered<A>,
 }
 
 impl<A: Allocator> Model for Heap<A> {
@@ -106,12 +110,12 @@ impl<A: Allocator> Model for Heap<A> {
 
     ghost coded = { heap_code };
 
-    ghost use Rattle.model.specs.Graph.{IsClosed};
-    ghost use Rattle.heap_commit.specs.HeapView.{heap_of};
+    ghost use Rattle.heap_commit.specs.HeapView.{heap_with};
+    ghost use Rattle.heap.specs.Whole.{IsWhole};
 
-    ghost view = { λ h. heap_of h.space h.roots.slots };
+    ghost view = { λ h. heap_with h.space h.roots.slots h.remembered };
 
-    ghost invariant = { λ h. IsClosed (heap_of h.space h.roots.slots).graph };
+    ghost invariant = { λ h. IsWhole (heap_with h.space h.roots.slots h.remembered) };
 }
 
 impl<A: Allocator + Clone> Heap<A> {
@@ -127,16 +131,27 @@ impl<A: Allocator + Clone> Heap<A> {
         let Ok(own) = alloc.clone() else {
             return Err(MakeError::NoMemory);
         };
-        let Ok(roots) = Roots::new(own) else {
-            return Err(MakeError::NoMemory);
-        };
-        match Space::new(alloc, config) {
-            Ok(space) => {
-                let _free = space.free_count();
-                Ok(Heap { space, roots })
-            }
+        match Heap::empty(own, alloc, config) {
+            Ok(heap) => Ok(heap),
             Err(_) => Err(MakeError::NoMemory),
         }
+    }
+
+    /// The same where the nurseries have their blocks.
+    fn empty(own: A, alloc: A, config: Config) -> Result<Heap<A>, AllocError>
+        requires { nursery_count config ≤ config.blocks }
+        ensures ok { IfOk result (λ heap. heap ≡ empty_heap config) }
+        ensures sound { IfOk result (λ heap. IsHeap heap) }
+    {
+        let roots = Roots::new(own.clone()?)?;
+        let remembered = Remembered::new(own, config.generations())?;
+        let space = Space::new(alloc, config)?;
+        let _free = space.free_count();
+        Ok(Heap {
+            space,
+            roots,
+            remembered,
+        })
     }
 
     /// A new small object of a mutator, with `p` nil pointers and `q` zero words, and a new root to it.
@@ -188,21 +203,23 @@ impl<A: Allocator + Clone> Heap<A> {
         Ok(())
     }
 
-    /// Makes pointer `field` of a root's object lead where another root does, or makes it nil.
+    /// Makes pointer `field` of a root's object lead where another root does, or makes it nil. Where it leads to an object
+    /// of a younger generation, the root's object is remembered.
     pub fn store(
         &mut self,
         root: RootId,
         field: u64,
         value: Option<RootId>,
     ) -> Result<(), StoreError>
-        ensures ok { OnOk result (Changes self.old root.number
-            (λ o. with_pointer o field (value_at self.old.graph (option_map (λ r. r.number) value))) self.new) }
+        ensures ok { OnOk result (Stores self.old root.number field (option_map (λ r. r.number) value) self.new) }
         ensures known { OnOk result (IsValue self.old.graph (option_map (λ r. r.number) value)) }
         ensures field { OnOk result (HasPointer self.old.graph root.number field) }
         ensures no_root { (result ≡ Err StoreError.NoRoot) ↔ (IsNone (root_at self.old.graph root.number)
             ⊎ (HasPointer self.old.graph root.number field × ¬ (IsValue self.old.graph (option_map (λ r. r.number) value)))) }
         ensures bad_field { (result ≡ Err StoreError.BadField)
             ↔ (IsSome (root_at self.old.graph root.number) × ¬ (HasPointer self.old.graph root.number field)) }
+        // Memory is wanted only for a new member of a remembered set.
+        ensures memory { result ≡ Err StoreError.NoMemory → MustNote self.old root.number (option_map (λ r. r.number) value) }
         ensures err { OnErr result (self.new ≡ self.old) }
     {
         let Some(holder) = self.target(root) else {
@@ -218,6 +235,9 @@ impl<A: Allocator + Clone> Heap<A> {
                 None => return Err(StoreError::NoRoot),
             },
         };
+        if remember(&self.space, &mut self.remembered, holder, target).is_err() {
+            return Err(StoreError::NoMemory);
+        }
         self.space.set_pointer(holder, field as usize, target);
         Ok(())
     }
@@ -274,7 +294,7 @@ impl<A: Allocator + Clone> Heap<A> {
         let Some(place) = pointer else {
             return Ok(None);
         };
-        if self.roots.reserve(1).is_err() {
+        if self.roots.reserve().is_err() {
             return Err(LoadError::NoMemory);
         }
         Ok(Some(RootId {
@@ -360,7 +380,7 @@ impl<A: Allocator + Clone> Heap<A> {
         if g >= self.space.config().generations() as u64 {
             return Err(OpenError::NoGeneration);
         }
-        match opened(alloc, &self.space, &self.roots, g as u8) {
+        match opened(alloc, &self.space, &self.roots, &self.remembered, g as u8) {
             Ok(collection) => Ok(collection),
             Err(_) => Err(OpenError::NoMemory),
         }
@@ -417,6 +437,12 @@ impl<A: Allocator + Clone> Heap<A> {
         ensures sound { IfOk result (λ _. IsHeap self.new) }
         ensures err { OnErr result (self.new ≡ self.old) }
     {
-        commit(alloc, &mut self.space, &mut self.roots, settled)
+        commit(
+            alloc,
+            &mut self.space,
+            &mut self.roots,
+            &mut self.remembered,
+            settled,
+        )
     }
 }

@@ -1,6 +1,7 @@
 //! The heap: objects in blocks, roots, and what a collection takes from it and gives back.
 #![tactic(auto)]
 
+mod barrier;
 mod counts;
 mod found;
 mod heap;

@@ -1,15 +1,18 @@
 //! What a collection takes from a heap.
-ghost use Rattle.std.specs.Prelude.{◌≡◌, ◌<◌, map, IfOk};
+ghost use Rattle.std.specs.Prelude.{◌≡◌, ◌<◌, length, map, IfOk};
 ghost use Rattle.std.specs.FinMap.{entries};
 ghost use Rattle.model.specs.Graph.{IsClosed};
 ghost use Rattle.heap_data.specs.CollectionValue.{root_slot, IsOpened};
+ghost use Rattle.heap_data.specs.Remembered.{CoversYounger};
 ghost use Rattle.heap_data.specs.SlotView.{slot_value};
 ghost use Rattle.heap_space.specs.Space.{graph_in};
 ghost use Rattle.heap_commit.specs.Roots.{roots_map};
-ghost use Rattle.heap_commit.specs.HeapView.{heap_of};
+ghost use Rattle.heap_commit.specs.HeapView.{heap_with};
 
 use heap_data::{Collection, RootId, Slot};
 use heap_space::Space;
+use remembered_set::Remembered;
+use remembering::push_old_slots;
 use roots::Roots;
 use std::alloc::{AllocError, Allocator};
 
@@ -34,14 +37,17 @@ pub(crate) fn opened<A: Allocator + Clone>(
     alloc: A,
     space: &Space<A>,
     roots: &Roots<A>,
+    sets: &Remembered<A>,
     g: u8,
 ) -> Result<Collection<A>, AllocError>
     requires in_range { g < space.now.config.shape.generations }
     requires closed { IsClosed (graph_in space.now) }
-    ensures { IfOk result (λ collection. IsOpened (heap_of space.now roots.now.slots) g collection) }
+    requires covers { CoversYounger (graph_in space.now) sets.now }
+    requires generations { length sets.now ≡ space.now.config.shape.generations }
+    ensures { IfOk result (λ collection. IsOpened (heap_with space.now roots.now.slots sets.now) g collection) }
 {
     let mut slots = root_slots(alloc.clone()?, roots)?;
-    space.push_old_slots(&mut slots, g)?;
+    push_old_slots(alloc.clone()?, &mut slots, space, sets, g)?;
     let free = space.free_numbers(alloc.clone()?)?;
     let (bases, cells) = space.bases(alloc, g)?;
     Ok(Collection::new(g, slots, free, bases, cells))

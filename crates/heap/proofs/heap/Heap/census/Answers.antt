@@ -8,7 +8,7 @@ use Rattle.heap_commit.proofs.OpenedBases.{closed_in}
 use Rattle.heap.proofs.heap.Heap.census.Goals as goal
 
 pub count_remembered-requires : goal.count_remembered-requires
-count_remembered-requires g c = closed_in c.self.inside.space c.self.inside.roots.slots c.self.invariant
+count_remembered-requires g c = closed_in c.self.inside.space c.self.inside.roots.slots c.self.invariant.closed
 
 pub returns : goal.returns
 returns g c =

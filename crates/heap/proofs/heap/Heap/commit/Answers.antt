@@ -1,30 +1,37 @@
-use Rattle.std.proofs.Common.{◌≡◌, Ok, Err, Result, sym, ap, subst, ◌∙◌}
+use Rattle.std.proofs.Common.{◌≡◌, ℕ, List, Ok, Err, Result, sym, ap, subst, ◌∙◌}
 use Rattle.std.specs.Prelude.{IfOk, OnErr}
-use Rattle.model.specs.Graph.{IsClosed}
 use Rattle.roots.specs.RootsValue.{RootsValue}
 use Rattle.heap_space.specs.Space.{SpaceValue}
-use Rattle.heap_commit.specs.HeapView.{heap_of}
+use Rattle.heap_commit.specs.HeapView.{heap_with}
 use Rattle.heap_commit.specs.IsHeap.{IsHeap}
+use Rattle.heap.specs.Whole.{IsWhole}
 use Rattle.heap.proofs.heap.Heap.commit.Goals as goal
 
-as_before : {T E : Type 0} (r : Result T E) (space space' : SpaceValue) (roots roots' : RootsValue) → OnErr r (space' ≡ space) → OnErr r (roots' ≡ roots) → OnErr r (heap_of space' roots'.slots ≡ heap_of space roots.slots)
-as_before (Ok x) space space' roots roots' blocks same = tt
-as_before (Err e) space space' roots roots' blocks same = ap (λ s. heap_of s roots'.slots) blocks ∙ ap (λ r. heap_of space r.slots) same
+module _ {T E : Type 0} (space space' : SpaceValue) (roots roots' : RootsValue) (sets sets' : List (List ℕ)) where
+  as_before : (r : Result T E) → OnErr r (space' ≡ space) → OnErr r (roots' ≡ roots) → OnErr r (sets' ≡ sets) → OnErr r (heap_with space' roots'.slots sets' ≡ heap_with space roots.slots sets)
+  as_before (Ok x) blocks same noted = tt
+  as_before (Err e) blocks same noted = ap (λ s. heap_with s roots'.slots sets') blocks ∙ ap (λ r. heap_with space r.slots sets') same ∙ ap (heap_with space roots.slots) noted
 
-still_closed : {T E : Type 0} (r : Result T E) (space space' : SpaceValue) (roots roots' : RootsValue) → IfOk r (λ _. IsHeap (heap_of space' roots'.slots)) → OnErr r (heap_of space' roots'.slots ≡ heap_of space roots.slots) → IsClosed (heap_of space roots.slots).graph → IsClosed (heap_of space' roots'.slots).graph
-still_closed (Ok x) space space' roots roots' sound same closed = sound.closed
-still_closed (Err e) space space' roots roots' sound same closed = subst (λ h. IsClosed h.graph) (sym same) closed
+  still_whole : (r : Result T E) → IfOk r (λ _. IsHeap (heap_with space' roots'.slots sets')) → OnErr r (heap_with space' roots'.slots sets' ≡ heap_with space roots.slots sets) → IsWhole (heap_with space roots.slots sets) → IsWhole (heap_with space' roots'.slots sets')
+  still_whole (Ok x) sound same whole = record { closed = sound.blocks.closed; sets = sound.sets; covers = sound.remembered }
+  still_whole (Err e) sound same whole = subst IsWhole (sym same) whole
 
 pub commit-requires-clause-closed : goal.commit-requires-clause-closed
-commit-requires-clause-closed g c = c.self.invariant
+commit-requires-clause-closed g c = c.self.invariant.closed
 
 pub commit-requires-clause-settled : goal.commit-requires-clause-settled
 commit-requires-clause-settled g c = rw (← c.self.view_is) at c.requires
 
+pub commit-requires-clause-covers : goal.commit-requires-clause-covers
+commit-requires-clause-covers g c = c.self.invariant.covers
+
+pub commit-requires-clause-generations : goal.commit-requires-clause-generations
+commit-requires-clause-generations g c = c.self.invariant.sets
+
 pub invariant_of-self : goal.invariant_of-self
 invariant_of-self g c =
-    let same = as_before c.commit.result c.self.inside.space c.commit.new.space c.self.inside.roots c.commit.new.roots c.commit.ensures.space_as_before c.commit.ensures.roots_as_before in
-    still_closed c.commit.result c.self.inside.space c.commit.new.space c.self.inside.roots c.commit.new.roots c.commit.ensures.sound same c.self.invariant
+    let same = as_before c.self.inside.space c.commit.new.space c.self.inside.roots c.commit.new.roots c.self.inside.remembered c.commit.new.sets c.commit.result c.commit.ensures.space_as_before c.commit.ensures.roots_as_before c.commit.ensures.sets_as_before in
+    still_whole c.self.inside.space c.commit.new.space c.self.inside.roots c.commit.new.roots c.self.inside.remembered c.commit.new.sets c.commit.result c.commit.ensures.sound same c.self.invariant
 
 pub returns-clause-ok : goal.returns-clause-ok
 returns-clause-ok g c = rw (← c.self.view_is) c.commit.ensures.ok
@@ -37,4 +44,4 @@ returns-clause-freed g c = rw (← c.self.view_is) c.commit.ensures.freed
 
 pub returns-clause-err : goal.returns-clause-err
 returns-clause-err g c =
-    rw (← c.self.view_is) (as_before c.commit.result c.self.inside.space c.commit.new.space c.self.inside.roots c.commit.new.roots c.commit.ensures.space_as_before c.commit.ensures.roots_as_before)
+    rw (← c.self.view_is) (as_before c.self.inside.space c.commit.new.space c.self.inside.roots c.commit.new.roots c.self.inside.remembered c.commit.new.sets c.commit.result c.commit.ensures.space_as_before c.commit.ensures.roots_as_before c.commit.ensures.sets_as_before)

@@ -10,7 +10,7 @@ use Rattle.heap.proofs.heap.Heap.pointer_at.Goals as goal
 pub unreachable-requires : goal.unreachable-requires
 unreachable-requires g c =
     let heap = heap_of c.self.inside.space c.self.inside.roots.slots in
-    let sound = is_heap c.self.inside.space c.self.inside.roots.slots c.free_count-free.ensures.space c.self.invariant in
+    let sound = is_heap c.self.inside.space c.self.inside.roots.slots c.free_count-free.ensures.space c.self.invariant.closed in
     let root_is = sym (rw (← c.self.view_is) at c.target.ensures) ∙ ap (option_map place_word) c.in-Some.is in
     let read = reads heap sound c.args.root.number (place_word c.in-Some.holder) c.args.field (raw_of c.in-Some-object.object) root_is c.in-Some-object.ensures c.if-field-object.true in
     c.in-None.ensures.none read.pointer read.word_is
@@ -18,7 +18,7 @@ unreachable-requires g c =
 pub returns-in-Some-from_word-clause-ok : goal.returns-in-Some-from_word-clause-ok
 returns-in-Some-from_word-clause-ok g c =
     let heap = heap_of c.self.inside.space c.self.inside.roots.slots in
-    let sound = is_heap c.self.inside.space c.self.inside.roots.slots c.free_count-free.ensures.space c.self.invariant in
+    let sound = is_heap c.self.inside.space c.self.inside.roots.slots c.free_count-free.ensures.space c.self.invariant.closed in
     let root_is = sym (rw (← c.self.view_is) at c.target.ensures) ∙ ap (option_map place_word) c.in-Some.is in
     let read = reads heap sound c.args.root.number (place_word c.in-Some.holder) c.args.field (raw_of c.in-Some-object.object) root_is c.in-Some-object.ensures c.if-field-object.true in
     rw (← c.self.view_is) (same_pointer heap.graph c.args.root.number c.args.field _ c.in-Some-from_word.pointer read (c.in-Some-from_word.ensures.back read.pointer read.word_is))

@@ -21,4 +21,4 @@ returns-clause-ok g c =
 
 pub invariant_of-self-2 : goal.invariant_of-self-2
 invariant_of-self-2 g c =
-    rw (roots-remove c.self.inside.roots.slots c.remove.new.self.slots c.args.root.number c.in-Some.ensures.updates) (closed-without_root _ c.args.root.number c.self.invariant)
+    rw (roots-remove c.self.inside.roots.slots c.remove.new.self.slots c.args.root.number c.in-Some.ensures.updates) (record { closed = closed-without_root _ c.args.root.number c.self.invariant.closed; sets = c.self.invariant.sets; covers = c.self.invariant.covers })
