@@ -1,8 +1,9 @@
 -- What the flags of the numbers in use say of the places.
-use Rattle.std.proofs.Common.{◌≡◌, ◌≢◌, ℕ, ◌+◌, ◌<◌, ◌≤◌, Result, Ok, Err, count_by, Bool, true, false, List, length, get_or, Option, Some, None, is_some, refl, sym, ap, ◌∙◌, ⊎_elim}
+use Rattle.std.proofs.Common.{◌≡◌, ◌≢◌, ℕ, ◌+◌, ◌<◌, ◌≤◌, Result, Ok, Err, count_by, Bool, true, false, List, length, get_or, set, Option, Some, None, is_some, refl, sym, ap, ◌∙◌, ⊎_elim}
 use Rattle.std.proofs.lemmas.Bool.{true≢false, cases_eq, cases_lt}
-use Rattle.std.proofs.lemmas.List.{get_or_past}
+use Rattle.std.proofs.lemmas.List.{get_or_past, get_or-set_same}
 use Rattle.std.specs.Prelude.{OnOk}
+use Rattle.std.specs.Option.{option_map}
 use Rattle.layout.specs.declared.place.Place.{Place}
 use Rattle.number_sets.specs.Words.{NoneSetFrom, NoneSetBetween}
 use Rattle.roots.specs.RootsValue.{RootsValue, AreFlags, HasRoom, NoneFrom, IsFirstFrom}
@@ -45,3 +46,11 @@ number_within slots number place leads = ⊎_elim
 pub has_room : {T E : Type 0} (r : Result T E) (roots : RootsValue) → count_by is_some roots.slots + 1 ≤ roots.capacity → OnOk r (roots.next < roots.numbers) → OnOk r (HasRoom roots)
 has_room (Ok x) roots fits flagged = record { fits = fits; flagged = flagged }
 has_room (Err e) roots fits flagged = tt
+
+-- a place that is written is there where there was one
+pub written : (slots : List (Option Place)) (number : ℕ) (old place : Place) → get_or slots number None ≡ Some old → get_or (set slots number (Some place)) number None ≡ option_map (λ (p : Place). place) (get_or slots number None)
+written slots number old place leads =
+    get_or-set_same slots number (Some place) None (number_within slots number old leads) ∙ sym (ap (option_map (λ (p : Place). place)) leads)
+
+pub unwritten : (slots : List (Option Place)) (number : ℕ) (place : Place) → get_or slots number None ≡ None → get_or slots number None ≡ option_map (λ (p : Place). place) (get_or slots number None)
+unwritten slots number place none = rw none refl
