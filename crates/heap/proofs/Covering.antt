@@ -46,7 +46,7 @@ covers_by old new sets sets' grown each covers h name holder = go (object_of_gen
 module _ (objects : FinMap nat_cmp Object) (name : ℕ) (was now : Object) (there : get objects name ≡ Some was) (same : now.generation ≡ was.generation) where
   -- what leads to a younger object after the change of one, led to it before
   pub led_before : (target : ℕ) (other : Object) → get (insert objects name now) target ≡ Some other → (before : Object) × (get objects target ≡ Some before) × (before.generation ≡ other.generation)
-  pub led_before target other is = ⊎_elim
+  led_before target other is = ⊎_elim
       (λ at.
       let here : now ≡ other = some_is (sym (get-insert_same objects name now) ∙ ap (get (insert objects name now)) (sym at) ∙ is) in
       (was, ap (get objects) at ∙ there, sym same ∙ ap (λ x. x.generation) here))

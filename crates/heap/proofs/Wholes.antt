@@ -7,7 +7,7 @@ use Rattle.std.specs.Prelude.{nat_eq, IsTrue}
 use Rattle.std.specs.Ordering.{nat_cmp}
 use Rattle.std.specs.FinMap.{FinMap, get, insert, get-empty}
 use Rattle.model.specs.Config.{Config}
-use Rattle.model.specs.Graph.{Object, IsClosed, with_pointer}
+use Rattle.model.specs.Graph.{Object, with_pointer, with_object, with_root, fresh_object}
 use Rattle.model.specs.Census.{points_younger}
 use Rattle.model.specs.Reached.{has}
 use Rattle.model.proofs.ClosedLemmas.{closed_empty, closed_fresh}
@@ -44,9 +44,9 @@ whole_empty config = record {
 pub whole_allocated : (space : SpaceValue) (slots : List (Option Place)) (sets : List (List ℕ)) (mutator p q key : ℕ) (new : HeapValue) → IsWhole (heap_with space slots sets) → Allocates (heap_with space slots sets) mutator p q key new → IsWhole new
 whole_allocated space slots sets mutator p q key new whole made =
     rw made.change record {
-      closed = closed_fresh _ key made.name p q whole.closed;
+      closed = closed_fresh (heap_with space slots sets).graph key made.name p q whole.closed;
       sets = whole.sets;
-      covers = covers-fresh (heap_with space slots sets).graph _ sets made.name p q whole.closed made.new_name refl (grown_same sets sets refl) whole.covers;
+      covers = covers-fresh (heap_with space slots sets).graph (with_root (with_object (heap_with space slots sets).graph made.name (fresh_object p q)) key made.name) sets made.name p q whole.closed made.new_name refl (grown_same sets sets refl) whole.covers;
     }
 
 -- the sets after a store
@@ -71,7 +71,7 @@ module _ (space space' : SpaceValue) (slots : List (Option Place)) (sets : List 
 
   pub whole_stored : (i : ℕ) (value to : Option ℕ) (sets' : List (List ℕ)) → to ≡ value_at (heap_of space slots).graph value → space' ≡ record space { objects = insert space.objects name (with_pointer h.object i to) } → sets' ≡ remembered_after (heap_with space slots sets) name h.object to → IsWhole (heap_with space' slots sets')
   whole_stored i value to sets' is changed after =
-      let in_range = omega (arith, (sound.steps name h.object h.there).generation, whole.sets) in
+      let in_range : h.object.generation < length sets = omega (arith, (sound.steps name h.object h.there).generation, whole.sets) in
       let grown = subst (AreGrown sets) (sym after) (after_grown (heap_with space slots sets) name h.object to in_range) in
       let noted_now = λ leads. ap (λ ss. has (members_of ss h.object.generation) name) after ∙ after_has (heap_with space slots sets) name h.object to in_range leads in
       record {

@@ -235,9 +235,10 @@ impl<A: Allocator + Clone> Heap<A> {
                 None => return Err(StoreError::NoRoot),
             },
         };
-        if remember(&self.space, &mut self.remembered, holder, target).is_err() {
+        let Ok(()) = remember(&self.space, &mut self.remembered, holder, target) else {
             return Err(StoreError::NoMemory);
-        }
+        };
+        let _space = self.space.free_count();
         self.space.set_pointer(holder, field as usize, target);
         Ok(())
     }
@@ -258,6 +259,7 @@ impl<A: Allocator + Clone> Heap<A> {
         if field >= self.space.plain_count(holder) as u64 {
             return Err(FieldError::BadField);
         }
+        let _space = self.space.free_count();
         self.space.set_plain(holder, field as usize, value);
         Ok(())
     }

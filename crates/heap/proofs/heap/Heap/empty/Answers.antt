@@ -1,5 +1,4 @@
-use Rattle.std.proofs.Common.{◌≡◌, [], replicate, sym, ap, subst, ◌∙◌}
-use Rattle.heap_data.specs.HeapValue.{empty_heap}
+use Rattle.std.proofs.Common.{◌≡◌, [], sym, subst}
 use Rattle.heap_commit.specs.HeapView.{heap_with}
 use Rattle.heap.specs.Whole.{IsWhole}
 use Rattle.heap.proofs.HeapLemmas.{empty_view}
@@ -14,4 +13,6 @@ pub returns-clause-ok : goal.returns-clause-ok
 returns-clause-ok g c = rw (c.in_ok-space.ensures, c.in_ok-roots.ensures, c.in_ok-remembered.ensures, c.generations.ensures.value) (empty_view c.args.config)
 
 pub returns-clause-sound : goal.returns-clause-sound
-returns-clause-sound g c = ?
+returns-clause-sound g c =
+    let whole : IsWhole (heap_with c.in_ok-space.space c.in_ok-roots.roots.slots c.in_ok-remembered.remembered) = rw (c.in_ok-space.ensures, c.in_ok-roots.ensures, c.in_ok-remembered.ensures, c.generations.ensures.value) (subst IsWhole (sym (empty_view c.args.config)) (whole_empty c.args.config)) in
+    heap_is c.in_ok-space.space c.in_ok-roots.roots.slots c.in_ok-remembered.remembered c.free_count-free.ensures.space whole
