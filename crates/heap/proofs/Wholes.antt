@@ -73,7 +73,7 @@ module _ (space space' : SpaceValue) (slots : List (Option Place)) (sets : List 
   whole_stored i value to sets' is changed after =
       let in_range : h.object.generation < length sets = omega (arith, (sound.steps name h.object h.there).generation, whole.sets) in
       let grown = subst (AreGrown sets) (sym after) (after_grown (heap_with space slots sets) name h.object to in_range) in
-      let noted_now = λ leads. ap (λ ss. has (members_of ss h.object.generation) name) after ∙ after_has (heap_with space slots sets) name h.object to in_range leads in
+      let noted_now : leads_younger (heap_with space slots sets).graph h.object to ≡ true → has (members_of sets' h.object.generation) name ≡ true = λ leads. ap (λ ss. has (members_of ss h.object.generation) name) after ∙ after_has (heap_with space slots sets) name h.object to in_range leads in
       record {
         closed = pointer_stored space space' slots root name whole.closed h i value to is changed;
         sets = grown.generations ∙ whole.sets ∙ ap (λ s. s.config.shape.generations) (sym changed);
