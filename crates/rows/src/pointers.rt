@@ -137,15 +137,9 @@ fn first_fault_of_a_get(rt: HostRuntime) {
             b"new a 0 0 1\nget b a 0\n",
             b"gctrace: line 2: no such field\n",
         ),
-        (
-            b"get nil a/ 0x\n",
-            b"gctrace: line 1: bad name\n",
-        ),
+        (b"get nil a/ 0x\n", b"gctrace: line 1: bad name\n"),
         (b"get b a 0x\n", b"gctrace: line 1: bad number\n"),
-        (
-            b"get b a\n",
-            b"gctrace: line 1: wrong number of words\n",
-        ),
+        (b"get b a\n", b"gctrace: line 1: wrong number of words\n"),
     ] {
         assert_stopped(&rt, rt.alloc(), input, errors);
     }

@@ -1,6 +1,7 @@
 -- A store and the heap that stands for it, after each change of both.
 pub mod StoreObjects
 pub mod PlacedNew
+pub mod NamedAdded
 pub mod NamedNew
 pub mod NamedDropped
 pub mod StoreLists
@@ -13,3 +14,4 @@ pub mod FieldLemmas
 pub mod NamesSame
 pub mod TextSame
 pub mod StandsCollected
+pub mod StandsLoaded

@@ -81,7 +81,7 @@ module _ (heap : HeapValue) (names : List (List ℕ × ℕ)) (config : Config) (
     rooted_is = ap (option_and_then (graph.object_at heap.graph)) leads.root_is ∙ stands.placed.objects leads.name o leads.there
 
     -- the heap's object has as many pointers and plain words as the store's
-    has_pointer : (i : ℕ) → i < length o.pointers → HasPointer heap.graph root i
+    pub has_pointer : (i : ℕ) → i < length o.pointers → HasPointer heap.graph root i
     has_pointer i lt =
         let same = length-map o.pointers (option_map place) in
         let below : i < length (map (option_map place) o.pointers) = omega (arith, lt, same) in

@@ -4,3 +4,4 @@ pub use Rattle.store_places.proofs.TextSame
 pub use Rattle.store_places.proofs.StandsCollected
 pub mod SessionSteps
 pub mod FieldSteps
+pub mod GetSteps

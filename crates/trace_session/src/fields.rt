@@ -1,7 +1,7 @@
-//! Writes to the fields of the objects that names lead to.
+//! The commands on the fields of the objects that names lead to.
 ghost use Rattle.std.specs.Prelude.{◌≡◌, ◌↔◌, Some, Err, OnOk, IfOk, IfErr, IsTrue};
 ghost use Rattle.std.specs.Option.{option_map};
-ghost use Rattle.model.specs.Commands.{Set, Put, target_of};
+ghost use Rattle.model.specs.Commands.{Set, Put, Get, target_of};
 ghost use Rattle.heap.specs.Commands.{HasPointer};
 ghost use Rattle.trace_lines.specs.Faults.{MatchFault};
 ghost use Rattle.trace_lines.specs.Outcome.{command_step};
@@ -11,7 +11,7 @@ ghost use Rattle.trace_lines.specs.Stepped.{AtEach, StepsQuietly};
 ghost use Rattle.trace_session.specs.Targets.{IsRootOf, IsUnknown};
 
 use crate::session::Session;
-use heap::{FieldError, Heap, RootId, StoreError};
+use heap::{FieldError, Heap, LoadError, RootId, StoreError};
 use model::Kind;
 use std::alloc::Allocator;
 use trace_lines::Fault;
@@ -95,6 +95,46 @@ impl<A: Allocator + Clone> Session<A> {
             Ok(()) => Ok(()),
             Err(FieldError::NoRoot) => Err(Fault::BadTrace(number, Kind::UnknownName)),
             Err(FieldError::BadField) => Err(Fault::BadTrace(number, Kind::NoField)),
+        }
+    }
+
+    /// A free name leads from now on to what pointer `field` of the other name's object leads to.
+    pub fn get(
+        &mut self,
+        number: u128,
+        new_name: &[u8],
+        name: &[u8],
+        field: u64,
+    ) -> Result<(), Fault>
+        ensures ok { OnOk result (AtEach (Stands self.old) (λ config store.
+            StepsQuietly (Stands self.new) config (command_step config store (Get new_name.now name.now field)))) }
+        ensures err { IfErr result (λ e. MatchFault e
+            (λ at kind. (at ≡ number) × AtEach (Stands self.old) (λ config store. command_step config store (Get new_name.now name.now field) ≡ Err kind))
+            (λ _. ⊥)
+            (λ at. (at ≡ Some number) × AtEach (Stands self.old) (λ config store. IsSoundCommand config store (Get new_name.now name.now field)))
+            ⊥ ⊥) }
+    {
+        if self.names.get(new_name).is_some() {
+            return Err(Fault::BadTrace(number, Kind::NameInUse));
+        }
+        let Some(holder) = self.names.get(name) else {
+            return Err(Fault::BadTrace(number, Kind::UnknownName));
+        };
+        let loaded = match self.heap.load(holder, field) {
+            Ok(loaded) => loaded,
+            Err(LoadError::NoRoot) => return Err(Fault::BadTrace(number, Kind::UnknownName)),
+            Err(LoadError::BadField) => return Err(Fault::BadTrace(number, Kind::NoField)),
+            Err(LoadError::NoMemory) => return Err(Fault::NoMemory(Some(number))),
+        };
+        let Some(root) = loaded else {
+            return Err(Fault::BadTrace(number, Kind::NilPointer));
+        };
+        let Ok(alloc) = self.alloc.clone() else {
+            return Err(Fault::NoMemory(Some(number)));
+        };
+        match self.names.insert(alloc, new_name, root) {
+            Ok(()) => Ok(()),
+            Err(_) => Err(Fault::NoMemory(Some(number))),
         }
     }
 }

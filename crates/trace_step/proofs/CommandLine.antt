@@ -1,5 +1,5 @@
 -- A line that is a command does what the command does.
-use Rattle.std.proofs.Common.{◌≡◌, ℕ, List, [], Option, None, Some, Result, Ok, Err, sym, subst, ap, ◌∙◌}
+use Rattle.std.proofs.Common.{◌≡◌, ℕ, List, [], Option, Some, Result, Ok, Err, sym, subst, ap, ◌∙◌}
 use Rattle.std.specs.Prelude.{IfOk, is_ok}
 use Rattle.std.proofs.KnownBytes.{Appends-nil}
 use Rattle.model.specs.declared.kind.Kind.{Kind}

@@ -1,7 +1,6 @@
 //! What one line does where the nurseries have room.
 ghost use Rattle.std.specs.Prelude.{◌≡◌, ◌+◌, ◌-◌, ◌^◌, ◌<◌, ◌≤◌, Some, Ok, Err, IfOk, OnOk, IfErr};
 ghost use Rattle.model.specs.Commands.{command_of};
-ghost use Rattle.trace_text.specs.Answer.{IsKnown};
 ghost use Rattle.trace_lines.specs.Attempts.{MatchAttempt};
 ghost use Rattle.trace_lines.specs.CollectsFirst.{LineCollectsFirst};
 ghost use Rattle.trace_lines.specs.Faults.{MatchFault};
@@ -25,7 +24,6 @@ fn carry_out_command<A: Allocator + Clone, W: Sink>(
     command: Command<'_>,
     writer: &mut W,
 ) -> Result<(), Fault>
-    requires known { IsKnown command }
     requires old { MakesNone (command_of command) }
     requires countable { W.failed_writes writer.old < 2 ^ 64 - 1 }
     ensures ok { OnOk result (AtEach (Stands session.old)
@@ -46,11 +44,16 @@ fn carry_out_command<A: Allocator + Clone, W: Sink>(
             target,
         } => session.set(number, name, field, target),
         Command::Put { name, field, value } => session.put(number, name, field, value),
+        Command::Get {
+            new_name,
+            name,
+            field,
+        } => session.get(number, new_name, name, field),
         Command::Drop { name } => session.remove(number, name),
         Command::Collect { generation } => collect(session, number, generation, writer),
         Command::Census => census(session, number, writer),
         Command::Heap => show_heap(session, number, writer),
-        Command::New { .. } | Command::Get { .. } => unreachable!(),
+        Command::New { .. } => unreachable!(),
     }
 }
 

@@ -8,13 +8,13 @@ use Rattle.trace_step.proofs.attempting.attempt.Goals as goal
 
 pub returns-in-Ok-Command-New-clause-ok : goal.returns-in-Ok-Command-New-clause-ok
 returns-in-Ok-Command-New-clause-ok g c =
-    let line_says = subst (λ l. entry_of c.args.line.now ≡ Ok (view l)) c.in-Ok-Command-New.field-0-is c.in-Ok-Command-New.ensures.gives in
+    let line_says = subst (λ l. entry_of c.args.line.now ≡ Ok (view l)) c.in-Ok-Command-New.field-0-is c.in-Ok-Command-New.ensures in
     let says = subst (λ k. entry_of c.args.line.now ≡ Ok (Some (command_of k))) c.in-Ok-Command-New.field-0-0-is line_says in
     new_line (Stands c.args.session.now) _ c.args.line.now _ says _ c.add.result c.add.ensures.ok
 
 pub returns-in-Err-carry_out_command : goal.returns-in-Err-carry_out_command
 returns-in-Err-carry_out_command g c =
-    let says = subst (λ l. entry_of c.args.line.now ≡ Ok (view l)) c.in-Ok-Command.field-0-is c.in-Ok-Command.ensures.gives in
+    let says = subst (λ l. entry_of c.args.line.now ≡ Ok (view l)) c.in-Ok-Command.field-0-is c.in-Ok-Command.ensures in
     record {
       ok = tt;
       full = λ is. absurd (cc);

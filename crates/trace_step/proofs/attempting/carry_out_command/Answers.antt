@@ -1,5 +1,5 @@
 use Rattle.std.proofs.Common.{refl}
-use Rattle.model.specs.Commands.{Set, target_of}
+use Rattle.model.specs.Commands.{Set, Get, target_of}
 use Rattle.trace_lines.specs.Outcome.{command_step}
 use Rattle.trace_lines.proofs.CommandFaults.{quiet_steps, quiet_faults, never_full}
 use Rattle.trace_step.proofs.attempting.carry_out_command.Goals as goal
@@ -13,6 +13,16 @@ pub returns-in-Set-clause-err : goal.returns-in-Set-clause-err
 returns-in-Set-clause-err g c =
     rw c.in-Set.is
     (quiet_faults c.args.number c.args.writer.now c.args.writer.now refl _ (λ config store. command_step config store (Set c.in-Set.name.now c.in-Set.field (target_of (λ x. x.now) c.in-Set.target))) _ _ c.set.result c.set.ensures.err)
+
+pub returns-in-Get-clause-ok : goal.returns-in-Get-clause-ok
+returns-in-Get-clause-ok g c =
+    rw c.in-Get.is
+    (quiet_steps c.get.result _ _ (λ config store. command_step config store (Get c.in-Get.new_name.now c.in-Get.name.now c.in-Get.field)) _ c.get.ensures.ok)
+
+pub returns-in-Get-clause-err : goal.returns-in-Get-clause-err
+returns-in-Get-clause-err g c =
+    rw c.in-Get.is
+    (quiet_faults c.args.number c.args.writer.now c.args.writer.now refl _ (λ config store. command_step config store (Get c.in-Get.new_name.now c.in-Get.name.now c.in-Get.field)) _ _ c.get.result c.get.ensures.err)
 
 pub returns-in-Census-clause-ok : goal.returns-in-Census-clause-ok
 returns-in-Census-clause-ok g c = rw c.in-Census.is c.census.ensures.ok
