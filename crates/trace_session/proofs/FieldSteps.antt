@@ -13,7 +13,7 @@ use Rattle.model.specs.Config.{Config}
 use Rattle.model.specs.Store.{Store, object_at, targets}
 use Rattle.model.specs.Commands.{Set, Put, Outcome, with_object, silent, on_target, on_known}
 use Rattle.heap.specs.HeapValue.{HeapValue}
-use Rattle.heap.specs.Commands.{Changes, HasPointer, HasPlain, IsValue, value_at, rooted_object}
+use Rattle.heap.specs.Commands.{Changes, Stores, HasPointer, HasPlain, IsValue, value_at, rooted_object}
 use Rattle.trace_lines.specs.Outcome.{command_step, narrowed}
 use Rattle.trace_lines.specs.Sound.{IsSoundCommand}
 use Rattle.trace_lines.specs.Stepped.{StepsQuietly}
@@ -108,17 +108,17 @@ module _ (heap : HeapValue) (names : List (List ℕ × ℕ)) (config : Config) (
         (order i (length o.pointers))
 
     -- the heap with a changed object stands for the store with the same change
-    changed : (change : Object → Object) (o' : Object) → change (renamed_object place o) ≡ renamed_object place o' → ((target : ℕ) → has (targets o') target ≡ true → (p : Object) × (object_at store target ≡ Some p)) → (heap' : HeapValue) → MadeByCalls heap' → Changes heap root change heap' → StandsFor heap' names config (with_object leads.name o' store)
-    changed change o' alike leads_to heap' is_made changes =
-        let at : changes.name ≡ place leads.name = one_value (root_at heap.graph root) changes.name (place leads.name) changes.root_is leads.root_is in
-        let object_is : changes.object ≡ renamed_object place o =
-        one_value (graph.object_at heap.graph (place leads.name)) changes.object (renamed_object place o)
-        (subst (λ k. graph.object_at heap.graph k ≡ Some changes.object) at changes.there)
+    changed : (change : Object → Object) (o' : Object) → change (renamed_object place o) ≡ renamed_object place o' → ((target : ℕ) → has (targets o') target ≡ true → (p : Object) × (object_at store target ≡ Some p)) → (heap' : HeapValue) → MadeByCalls heap' → (name : ℕ) (object : Object) (sets : List (List ℕ)) → root_at heap.graph root ≡ Some name → graph.object_at heap.graph name ≡ Some object → heap' ≡ record heap { graph = graph.with_object heap.graph name (change object); remembered = sets } → StandsFor heap' names config (with_object leads.name o' store)
+    changed change o' alike leads_to heap' is_made name object sets root_is there is =
+        let at : name ≡ place leads.name = one_value (root_at heap.graph root) name (place leads.name) root_is leads.root_is in
+        let object_is : object ≡ renamed_object place o =
+        one_value (graph.object_at heap.graph (place leads.name)) object (renamed_object place o)
+        (subst (λ k. graph.object_at heap.graph k ≡ Some object) at there)
         (stands.placed.objects leads.name o leads.there) in
-        let heap_is : heap' ≡ record heap { graph = graph.with_object heap.graph (place leads.name) (renamed_object place o') } =
-        changes.changed
-        ∙ (λ i. record heap { graph = graph.with_object heap.graph (at i) (change (object_is i)) })
-        ∙ ap (λ x. record heap { graph = graph.with_object heap.graph (place leads.name) x }) alike in
+        let heap_is : heap' ≡ record heap { graph = graph.with_object heap.graph (place leads.name) (renamed_object place o'); remembered = sets } =
+        is
+        ∙ (λ i. record heap { graph = graph.with_object heap.graph (at i) (change (object_is i)); remembered = sets })
+        ∙ ap (λ x. record heap { graph = graph.with_object heap.graph (place leads.name) x; remembered = sets }) alike in
         subst (λ h. StandsFor h names config (with_object leads.name o' store)) (sym heap_is)
         (record {
           made = subst MadeByCalls heap_is is_made;
@@ -146,7 +146,7 @@ module _ (heap : HeapValue) (names : List (List ℕ × ℕ)) (config : Config) (
       set_is : (r : Option ℕ) (v : ValueOf target r) → HasPointer heap.graph root i → command_step config store (Set text i target) ≡ Ok (with_object leads.name (with_pointer o i v.value) store, [])
       set_is r v h = set_at h ∙ ap (narrowed config (Set text i target)) (v.step (λ value. silent (with_object leads.name (with_pointer o i value) store)))
 
-      pub steps_set : (r : Option ℕ) (heap' : HeapValue) → IsRootOf names target r → HasPointer heap.graph root i → Changes heap root (λ x. with_pointer x i (value_at heap.graph r)) heap' → StepsQuietly (StandsFor heap' names) config (command_step config store (Set text i target))
+      pub steps_set : (r : Option ℕ) (heap' : HeapValue) → IsRootOf names target r → HasPointer heap.graph root i → Stores heap root i r heap' → StepsQuietly (StandsFor heap' names) config (command_step config store (Set text i target))
       steps_set r heap' is h changes =
           let v = value_of target r is in
           record {
@@ -156,7 +156,7 @@ module _ (heap : HeapValue) (names : List (List ℕ × ℕ)) (config : Config) (
                 changed (λ x. with_pointer x i (value_at heap.graph r)) (with_pointer o i v.value)
                 (ap (with_pointer (renamed_object place o) i) v.heap_value ∙ renamed_pointer place o i v.value)
                 (λ t points. ⊎_elim (λ e. v.leads_to t e) (λ before. stands.placed.closed leads.name t o leads.there before) (pointer_led o i v.value t points))
-                heap' (stored root i r stands.made v.known changes) changes;
+                heap' (stored root i r stands.made v.known changes) changes.name changes.object _ changes.root_is changes.there changes.changed;
           }
 
       pub set_sound : (r : Option ℕ) → IsRootOf names target r → HasPointer heap.graph root i → IsSoundCommand config store (Set text i target)
@@ -187,5 +187,5 @@ module _ (heap : HeapValue) (names : List (List ℕ × ℕ)) (config : Config) (
             steps = rw (leads.named_is, leads.there, known) refl;
             stands' =
                 changed (λ x. record x { plain = slice_set x.plain i value }) (record o { plain = slice_set o.plain i value }) refl
-                (λ t points. stands.placed.closed leads.name t o leads.there points) heap' (written root i value stands.made changes) changes;
+                (λ t points. stands.placed.closed leads.name t o leads.there points) heap' (written root i value stands.made changes) changes.name changes.object heap.remembered changes.root_is changes.there changes.changed;
           }
