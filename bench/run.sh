@@ -2,7 +2,8 @@
 # Measures gctrace on one processor, beside a plain collector of the same traces (plain.rs, which rustc builds): objects
 # copied a second, by traces that are collected again and again, and on a large live tree beside GHC's collector too
 # (live_tree.hs, which ghc builds); what a collection costs that finds nothing, and one of ten young objects without and with
-# many old ones; and lines carried out a second, beside what `wc -l` reads of the same file. It builds gctrace first, or
+# many old ones, what the members of a remembered set cost, and what the write barrier does; and lines carried out a second, beside
+# what `wc -l` reads of the same file. It builds gctrace first, or
 # takes the program that GCTRACE names. Not part of the tests.
 #   run.sh                  all of it, which takes some minutes
 #   run.sh live [NODES]     the large live tree alone
@@ -129,6 +130,24 @@ young() {
   generations=2 blocks=4096 little "ten young objects with their lines, $1" 20000
 }
 
+# members MEMBERS: what a collection pays for members of the old generation's set
+members() {
+  "$here/traces.sh" members old "$1" 200 > "$work/made"
+  "$here/traces.sh" members young "$1" 200 > "$work/all"
+  generations=2 blocks=4096 little "$1 members of the old generation's set, each noted once in two collections" 400
+}
+
+# stores: a store that the barrier notes, beside one that it doesn't
+stores() {
+  local noted other
+  "$here/traces.sh" stores young 1000000 > "$work/all"
+  "$here/traces.sh" stores old 1000000 > "$work/made"
+  noted=$(generations=2 blocks=4096 measure gctrace "$work/all")
+  other=$(generations=2 blocks=4096 measure gctrace "$work/made")
+  awk -v noted="$noted" -v other="$other" 'BEGIN {
+    printf "a million stores of a young object in an old one in %.3f s, of an old one in %.3f s: %.2f times that\n", noted, other, noted / other }'
+}
+
 # collections_of_little OBJECTS
 collections_of_little() {
   empty 4096
@@ -136,6 +155,9 @@ collections_of_little() {
   young "no old ones" 0
   young "$1 old ones gone" "$1" gone
   young "$1 old ones" "$1"
+  members 1000
+  members 10000
+  stores
 }
 
 case "${1:-}" in

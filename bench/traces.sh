@@ -5,6 +5,9 @@
 #   traces.sh mixed [NODES] [COLLECTIONS]     the same tree, laid out in random order by a name for each node, in that order
 #   traces.sh young [OBJECTS] [COLLECTIONS] [gone]   such a tree in random order, which has become old, reached from one name (gone: freed then);
 #                                             and ten objects made before each collection of the young and dropped after it
+#   traces.sh members young|old [MEMBERS] [ROUNDS]   old objects with names, whose pointers are made to lead to a young object (old: to
+#                                             an old one) before every second collection of the young
+#   traces.sh stores young|old [STORES]       such an old object, whose pointer is made to lead to a young one (old: to an old one) so often
 #   traces.sh empty [COLLECTIONS]             collections of a heap without objects
 #   traces.sh commands [BATCHES]              batches of 10,000 commands: new, put, set and drop of 2,500 names, and a collection after each
 # The nursery has to hold 8,000 objects of 4 words.
@@ -73,6 +76,35 @@ young() {
   }'
 }
 
+# old_ones OBJECTS: old objects with names, and one more, old
+old_ones() {
+  awk -v objects="$1" 'BEGIN {
+    for (i = 0; i < objects; i++) printf "new n%d 0 2 1\n", i
+    print "new old 0 2 1\ncollect 0\ncollect 0"
+  }'
+}
+
+members() {
+  old_ones "$2"
+  awk -v target="$1" -v objects="$2" -v rounds="$3" 'BEGIN {
+    for (r = 0; r < rounds; r++) {
+      print "new young 0 2 1"
+      for (i = 0; i < objects; i++) printf "set n%d 0 %s\n", i, target
+      print "drop young\ncollect 0\ncollect 0"
+    }
+    print "census"
+  }'
+}
+
+stores() {
+  old_ones 1
+  awk -v target="$1" -v stores="$2" 'BEGIN {
+    print "new young 0 2 1"
+    for (i = 0; i < stores; i++) printf "set n0 %d %s\n", i % 2, target
+    print "census"
+  }'
+}
+
 empty() {
   awk -v collections="$1" 'BEGIN {
     for (i = 0; i < collections; i++) print "collect 0"
@@ -96,7 +128,9 @@ case "${1:-}" in
   tree) tree "${2:-80000}" "${3:-100}" ;;
   mixed) mixed "${2:-80000}" "${3:-100}" ;;
   young) young "${2:-100000}" "${3:-20000}" "${4:-}" ;;
+  members) members "${2:-young}" "${3:-1000}" "${4:-200}" ;;
+  stores) stores "${2:-young}" "${3:-1000000}" ;;
   empty) empty "${2:-20000}" ;;
   commands) commands "${2:-100}" ;;
-  *) sed -n '2,10s/^# //p' "$0" >&2; exit 2 ;;
+  *) sed -n '2,13s/^# //p' "$0" >&2; exit 2 ;;
 esac
