@@ -25,11 +25,7 @@ fn flags_are_found_lowest_first(rt: HostRuntime) -> Result<(), Fail> {
 }
 
 /// Notes places one after another, where there is such a generation.
-fn note_all(
-    sets: &mut Remembered,
-    generation: usize,
-    places: &[Place],
-) -> Result<(), AllocError> {
+fn note_all(sets: &mut Remembered, generation: usize, places: &[Place]) -> Result<(), AllocError> {
     for place in places {
         if generation < sets.generations() {
             sets.note(generation, *place)?;

@@ -1,5 +1,5 @@
 -- The remembered sets have at least the objects with a pointer to a younger one, after each change.
-use Rattle.std.proofs.Common.{◌≡◌, ◌≢◌, ℕ, zero, suc, ◌+◌, ◌<◌, Bool, true, false, cond, List, [], ◌∷◌, length, replicate, set, Option, Some, None, refl, sym, ap, subst, ◌∙◌, arith, ◌⊎◌, inl, inr, ⊎_elim}
+use Rattle.std.proofs.Common.{◌≡◌, ◌≢◌, ℕ, zero, suc, true, false, List, [], ◌∷◌, replicate, set, Option, Some, None, refl, sym, ap, subst, ◌∙◌, arith, ◌⊎◌, inl, inr, ⊎_elim}
 use Rattle.std.proofs.lemmas.Bool.{true≢false, cases_eq}
 use Rattle.std.proofs.lemmas.Bool.Decides.{nat_tests}
 use Rattle.std.specs.Prelude.{slice_get, nat_lt}
@@ -12,7 +12,7 @@ use Rattle.model.specs.Reached.{has}
 use Rattle.model.proofs.ClosedLemmas.{field_is}
 use Rattle.model.proofs.NatMap.{get-insert_same, get-insert_other}
 use Rattle.model.proofs.Options.{some_is, some_not_none}
-use Rattle.heap_data.specs.Remembered.{CoversYounger, is_holder, object_of_generation}
+use Rattle.heap_data.specs.Remembered.{CoversYounger, object_of_generation}
 use Rattle.block_table.proofs.HeldObjects.{held}
 use Rattle.remembered_set.specs.Sets.{members_of}
 use Rattle.remembering.specs.Growth.{AreGrown}

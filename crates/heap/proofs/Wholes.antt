@@ -3,9 +3,9 @@ use Rattle.std.proofs.Common.{◌≡◌, ℕ, ◌<◌, Bool, true, false, cond, 
 use Rattle.std.proofs.lemmas.Bool.{true≢false}
 use Rattle.std.proofs.lemmas.List.{length-replicate}
 use Rattle.std.specs.Option.{option_map_or, option_and_then}
-use Rattle.std.specs.Prelude.{nat_eq, IsTrue}
+use Rattle.std.specs.Prelude.{nat_eq}
 use Rattle.std.specs.Ordering.{nat_cmp}
-use Rattle.std.specs.FinMap.{FinMap, get, insert, get-empty}
+use Rattle.std.specs.FinMap.{get, insert, get-empty}
 use Rattle.model.specs.Config.{Config}
 use Rattle.model.specs.Graph.{Object, with_pointer, with_object, with_root, fresh_object}
 use Rattle.model.specs.Census.{points_younger}
@@ -13,7 +13,6 @@ use Rattle.model.specs.Reached.{has}
 use Rattle.model.proofs.ClosedLemmas.{closed_empty, closed_fresh}
 use Rattle.layout.specs.declared.place.Place.{Place}
 use Rattle.heap_data.specs.HeapValue.{HeapValue, empty_heap}
-use Rattle.heap_data.specs.Remembered.{CoversYounger, is_holder}
 use Rattle.heap_space.specs.Space.{SpaceValue, IsSpace}
 use Rattle.heap_commit.specs.HeapView.{heap_of, heap_with}
 use Rattle.heap_commit.specs.IsHeap.{IsHeap}

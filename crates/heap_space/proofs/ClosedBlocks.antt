@@ -1,5 +1,5 @@
 -- Each pointer in the blocks leads to an object.
-use Rattle.std.proofs.Common.{◌≡◌, ℕ, List, Option, Some, ap, ◌∙◌}
+use Rattle.std.proofs.Common.{List, Option, ap, ◌∙◌}
 use Rattle.std.specs.Prelude.{slice_get, is_some}
 use Rattle.std.specs.Option.{option_and_then}
 use Rattle.model.specs.Config.{Config}

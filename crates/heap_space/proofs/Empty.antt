@@ -6,7 +6,7 @@ use Rattle.std.specs.Ordering.{nat_cmp}
 use Rattle.std.specs.FinMap.{from_entries, empty}
 use Rattle.model.specs.Config.{Config}
 use Rattle.model.specs.Destination.{numbers_from}
-use Rattle.model.proofs.Has.{has_none, has_numbers, has_numbers_from}
+use Rattle.model.proofs.Has.{has_numbers, has_numbers_from}
 use Rattle.block_pool.specs.BlockValue.{BlockValue, used_of}
 use Rattle.block_pool.specs.PoolValue.{PoolValue, numbers_below}
 use Rattle.steps.specs.ConfigRange.{IsInRange}
@@ -21,7 +21,6 @@ use Rattle.model.specs.Room.{Room, full_room}
 use Rattle.model.specs.Store.{full_rooms}
 use Rattle.heap_data.specs.HeapValue.{nursery_count}
 use Rattle.block_table.proofs.TableSteps.{get_or_end, in_list}
-use Rattle.block_table.proofs.Installing.{none_distinct}
 
 range-numbers : (a n : ℕ) → range_with_len a n ≡ numbers_from a n
 range-numbers a zero = refl

@@ -6,13 +6,13 @@ use Rattle.layout.specs.declared.place.Place.{Place}
 use Rattle.layout.specs.Place.{place_word}
 use Rattle.nursery.specs.declared.filling.NurseryFull.{NurseryFull}
 use Rattle.model.proofs.Options.{some_is}
-use Rattle.std.proofs.Common.{◌≡◌, ℕ, ◌+◌, ◌/◌, ◌<◌, ◌≤◌, List, length, map, get_or, set, Option, Some, None, refl, sym, ap, subst, ◌∙◌, arith}
+use Rattle.std.proofs.Common.{◌≡◌, ℕ, ◌+◌, ◌/◌, ◌<◌, ◌≤◌, List, get_or, set, Option, Some, refl, sym, ap, subst, ◌∙◌, arith}
 use Rattle.std.proofs.lemmas.Option.{slice_get-get_or}
 use Rattle.std.specs.Prelude.{slice_get, option_and_then}
 use Rattle.std.specs.FinMap.{insert, get}
 use Rattle.model.specs.Config.{Config}
-use Rattle.model.specs.Graph.{Object, fresh_object}
-use Rattle.model.specs.Room.{Room, room_after}
+use Rattle.model.specs.Graph.{fresh_object}
+use Rattle.model.specs.Room.{room_after}
 use Rattle.block_pool.specs.BlockValue.{BlockValue, used_of, new_object}
 use Rattle.block_pool.specs.PoolValue.{PoolValue}
 use Rattle.heap_data.specs.BlockObjects.{object_of}

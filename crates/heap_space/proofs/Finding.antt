@@ -1,13 +1,11 @@
 -- What a look into the blocks finds.
-use Rattle.std.proofs.Common.{◌≡◌, ℕ, ◌+◌, ◌<◌, ◌≤◌, List, length, get_or, Option, Some, None, refl, sym, ap, subst, ◌∙◌, arith}
+use Rattle.std.proofs.Common.{◌≡◌, ℕ, ◌+◌, ◌<◌, ◌≤◌, List, length, get_or, Option, Some, refl, sym, ap, subst, ◌∙◌, arith}
 use Rattle.std.specs.Prelude.{IsSome, IsSomeAnd, slice_get}
 use Rattle.std.specs.Option.{option_map}
 use Rattle.std.specs.FinMap.{get}
 use Rattle.model.specs.Config.{Config}
-use Rattle.model.specs.Graph.{Object}
 use Rattle.model.specs.Live.{IsYoung}
 use Rattle.model.proofs.Options.{some_is}
-use Rattle.layout.specs.Object.{Raw}
 use Rattle.layout.specs.ObjectRef.{raw_of}
 use Rattle.layout.specs.declared.object.ObjectRef.{ObjectRef}
 use Rattle.layout.specs.Place.{small_word}
@@ -17,12 +15,12 @@ use Rattle.steps.specs.StepPairs.{step_pair, stands_at}
 use Rattle.steps.specs.declared.step_id.StepId.{StepId}
 use Rattle.heap_data.specs.BlockObjects.{object_of}
 use Rattle.heap_data.specs.Words.{IsShownAs}
-use Rattle.block_table.specs.Table.{slot_at, slot_len, objects_before, objects_map, young_table}
+use Rattle.block_table.specs.Table.{slot_at, objects_before, objects_map, young_table}
 use Rattle.nursery.specs.NurseryValue.{NurseryValue}
 use Rattle.heap_space.specs.Space.{IsSoundSpace, space_of, graph_in}
 use Rattle.heap_space.specs.Collecting.{AreBases, IsNumbered}
 use Rattle.heap_space.proofs.Sound.{sound_fits, few_blocks}
-use Rattle.block_table.proofs.Located.{Begins, IsBeginning, begins_at, object_found, number_in_range}
+use Rattle.block_table.proofs.Located.{Begins, IsBeginning, begins_at, object_found}
 use Rattle.heap_space.proofs.YoungNumbers.{is_young_there, begins_among, begins_young, BeginsYoung, numbered, base_at, few_young, young_count}
 
 module _ (config : Config) (table : List (Option BlockValue)) (nurseries : List NurseryValue) (pool : PoolValue) (sound : IsSoundSpace config table nurseries pool) (number offset : ℕ) (lt : offset < 512)

@@ -1,5 +1,5 @@
 -- The first step of a heap.
-use Rattle.std.proofs.Common.{◌≡◌, ℕ, ◌-◌, ◌<◌, ◌≤◌, Bool, true, false, cond, arith}
+use Rattle.std.proofs.Common.{◌-◌, ◌<◌, ◌≤◌, Bool, true, false, cond, arith}
 use Rattle.std.specs.Prelude.{nat_lt}
 use Rattle.model.specs.Destination.{Shape, IsStep}
 

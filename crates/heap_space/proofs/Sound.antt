@@ -13,7 +13,7 @@ use Rattle.block_pool.specs.BlockValue.{BlockValue, used_of, new_object}
 use Rattle.block_pool.specs.PoolValue.{PoolValue}
 use Rattle.heap_data.specs.HeapValue.{nursery_count}
 use Rattle.block_table.specs.Table.{slot_at, AreSmall, IsHeapBlock, AreHeapBlocks, with_more}
-use Rattle.nursery.specs.NurseryValue.{NurseryValue, nursery_room, IsNursery, Pushes}
+use Rattle.nursery.specs.NurseryValue.{NurseryValue, nursery_room, Pushes}
 use Rattle.heap_space.specs.Space.{IsSoundSpace, IsNurseryOf, rooms_of}
 use Rattle.block_table.proofs.TableLemmas.{SlotFits, TableFits}
 use Rattle.block_table.proofs.TableSteps.{in_list}

@@ -1,10 +1,10 @@
 -- The objects of the generations that are collected, by number.
-use Rattle.std.proofs.Common.{◌≡◌, ℕ, ◌+◌, ◌*◌, ◌<◌, ◌≤◌, true, cond, List, length, get_or, map, Option, Some, None, sum_by, refl, sym, ap, subst, ◌∙◌, arith}
+use Rattle.std.proofs.Common.{◌≡◌, ℕ, ◌+◌, ◌*◌, ◌<◌, ◌≤◌, true, cond, List, length, get_or, Option, Some, None, sum_by, refl, sym, ap, subst, ◌∙◌, arith}
 use Rattle.std.proofs.lemmas.Bool.Decides.{nat_tests}
 use Rattle.std.proofs.lemmas.List.{length-map}
 use Rattle.std.specs.Prelude.{nat_le}
-use Rattle.std.specs.FinMap.{get, keys}
-use Rattle.model.specs.Graph.{Graph, Object}
+use Rattle.std.specs.FinMap.{keys}
+use Rattle.model.specs.Graph.{Graph}
 use Rattle.model.specs.Live.{IsYoung}
 use Rattle.model.proofs.Options.{some_is}
 use Rattle.layout.specs.Object.{Raw}
@@ -13,7 +13,7 @@ use Rattle.block_pool.specs.BlockValue.{BlockValue}
 use Rattle.block_pool.specs.PoolValue.{PoolValue}
 use Rattle.model.specs.Config.{Config}
 use Rattle.heap_data.specs.CollectionValue.{rank_below, young_names}
-use Rattle.block_table.specs.Table.{slot_at, slot_len, objects_before, objects_map, young_slot, young_table}
+use Rattle.block_table.specs.Table.{slot_len, objects_before, objects_map, young_slot, young_table}
 use Rattle.block_table.proofs.TableLemmas.{TableFits}
 use Rattle.block_table.proofs.YoungBlocks.{young_fits, young_names-table, young_at}
 use Rattle.nursery.specs.NurseryValue.{NurseryValue}

@@ -1,16 +1,16 @@
 -- After a collection the remembered sets are exactly those of the objects.
-use Rattle.std.proofs.Common.{◌≡◌, ℕ, zero, suc, ◌<◌, ◌≤◌, ◌/◌, true, false, List, [], ◌∷◌, length, map, get_or, Option, Some, None, refl, sym, ap, subst, ◌∙◌, arith, ⊎_elim, inl, inr}
+use Rattle.std.proofs.Common.{◌≡◌, ℕ, suc, ◌<◌, ◌≤◌, ◌/◌, true, false, List, [], ◌∷◌, length, map, get_or, Option, Some, None, refl, sym, ap, subst, ◌∙◌, arith, ⊎_elim}
 use Rattle.std.proofs.lemmas.Bool.{true≢false, cases_lt, cases_eq}
 use Rattle.std.proofs.lemmas.Bool.Decides.{nat_tests}
 use Rattle.std.proofs.lemmas.Option.{slice_get-map}
-use Rattle.std.specs.Prelude.{◌↔◌, IsTrue, slice_get, unwrap_or, is_some, nat_eq}
+use Rattle.std.specs.Prelude.{◌↔◌, IsTrue, slice_get, unwrap_or, nat_eq}
 use Rattle.std.specs.Option.{option_map, option_map_or, option_and_then}
 use Rattle.std.specs.List.{IsDistinct}
 use Rattle.std.specs.Ordering.{nat_cmp}
 use Rattle.std.specs.FinMap.{get, find}
-use Rattle.model.specs.Graph.{Graph, Object, IsClosed, object_at, field_at, size_of, is_large}
+use Rattle.model.specs.Graph.{Graph, Object, IsClosed, size_of, is_large}
 use Rattle.model.specs.Census.{points_younger}
-use Rattle.model.specs.Live.{Live, IsOlder}
+use Rattle.model.specs.Live.{Live}
 use Rattle.model.specs.Reached.{has}
 use Rattle.model.specs.Collected.{renamed, moved_to}
 use Rattle.model.proofs.LiveLemmas.{Live-young}

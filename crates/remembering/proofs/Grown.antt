@@ -1,11 +1,11 @@
 -- Sets that grow, and sets that are taken back.
-use Rattle.std.proofs.Common.{◌≡◌, ◌≢◌, ℕ, zero, suc, ◌+◌, ◌<◌, ◌≤◌, Bool, true, false, cond, List, [], ◌∷◌, ◌++◌, length, map, take, get_or, set, Result, Ok, Err, refl, sym, ap, ◌∙◌, arith, ⊎_elim, append_assoc, get_or-set_other, get_or-set_same}
-use Rattle.std.proofs.lemmas.Bool.{cases_eq, cases_lt}
-use Rattle.std.proofs.lemmas.List.{append-nil, length-set, length-map, same_lists}
+use Rattle.std.proofs.Common.{◌≡◌, ℕ, zero, suc, ◌+◌, ◌<◌, ◌≤◌, Bool, true, false, cond, List, [], ◌∷◌, ◌++◌, length, map, take, get_or, set, Result, Ok, Err, refl, sym, ap, ◌∙◌, arith, ⊎_elim, append_assoc, get_or-set_other, get_or-set_same}
+use Rattle.std.proofs.lemmas.Bool.{cases_eq}
+use Rattle.std.proofs.lemmas.List.{append-nil, length-set, same_lists}
 use Rattle.std.specs.Prelude.{OnOk, OnErr}
 use Rattle.model.specs.Reached.{has}
 use Rattle.model.proofs.Has.{has_left, has_right, has_head}
-use Rattle.block_table.proofs.TableSteps.{get_or_any, get_or_end}
+use Rattle.block_table.proofs.TableSteps.{get_or_any}
 use Rattle.remembered_set.specs.Sets.{members_of, noted}
 use Rattle.remembering.specs.Growth.{AreGrown}
 

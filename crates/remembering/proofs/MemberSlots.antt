@@ -1,17 +1,16 @@
 -- The slots of a generation are those of the members of its set.
 use Rattle.std.proofs.Common.{◌≡◌, ℕ, ◌+◌, ◌<◌, Bool, true, false, cond, ◌||◌, List, [], ◌∷◌, ◌++◌, map, Option, Some, None, refl, sym, ap, ◌∙◌, arith, inl, inr}
-use Rattle.std.proofs.lemmas.Bool.{true≢false, or_left, or_right}
+use Rattle.std.proofs.lemmas.Bool.{true≢false}
 use Rattle.std.proofs.lemmas.Bool.Decides.{nat_tests}
 use Rattle.std.proofs.lemmas.List.Kept.{AllPairs-from_increasing}
 use Rattle.std.specs.Prelude.{flat_map, filter, nat_eq, nat_le, nat_lt, option_and_then}
 use Rattle.std.specs.Option.{option_map_or}
 use Rattle.std.specs.List.{list_any}
 use Rattle.std.specs.List.Sorted.{IsStrictlyIncreasing}
-use Rattle.std.specs.Ordering.{nat_cmp}
-use Rattle.std.specs.FinMap.{entries, keys, entries_sorted, find, get-entries}
+use Rattle.std.specs.FinMap.{entries, keys, entries_sorted, get-entries}
 use Rattle.model.specs.Graph.{Graph, Object, object_at}
 use Rattle.model.specs.Census.{points_to, points_younger}
-use Rattle.model.specs.OldSlots.{Slot, is_young_name, slots_of_fields, slots_of_generation}
+use Rattle.model.specs.OldSlots.{Slot, slots_of_fields, slots_of_generation}
 use Rattle.model.specs.Reached.{has}
 use Rattle.model.proofs.Among.{Among}
 use Rattle.model.proofs.KeyLists.{has_key}

@@ -3,7 +3,7 @@ use Rattle.std.proofs.Common.{◌≡◌, ◌≢◌, ℕ, zero, suc, ◌+◌, ◌
 use Rattle.std.proofs.lemmas.Bool.{true≢false}
 use Rattle.std.specs.Prelude.{slice_get}
 use Rattle.model.specs.Reached.{has}
-use Rattle.model.proofs.Has.{has-cons, has_none}
+use Rattle.model.proofs.Has.{has-cons}
 use Rattle.model.proofs.Options.{some_is}
 
 pub at_get : (xs : List ℕ) (k x d : ℕ) → Some x ≡ slice_get xs k → get_or xs k d ≡ x

@@ -1,5 +1,5 @@
 -- Two rising lists that hold each number that matters come to the same.
-use Rattle.std.proofs.Common.{◌≡◌, ◌≢◌, ℕ, zero, suc, ◌+◌, ◌<◌, ◌≤◌, Bool, true, false, List, [], ◌∷◌, ◌++◌, length, get_or, refl, sym, ap, ◌∙◌, arith, ⊎_elim}
+use Rattle.std.proofs.Common.{◌≡◌, ℕ, zero, suc, ◌+◌, ◌<◌, ◌≤◌, false, List, [], ◌∷◌, ◌++◌, length, get_or, refl, sym, ap, ◌∙◌, arith, ⊎_elim}
 use Rattle.std.proofs.lemmas.Bool.{cases_eq, cases_lt, or_from}
 use Rattle.std.proofs.lemmas.Bool.Decides.{nat_tests}
 use Rattle.std.specs.Prelude.{flat_map, nat_eq}
@@ -13,10 +13,11 @@ RisesFrom low (x ∷ xs) = (low ≤ x) × RisesFrom (x + 1) xs
 
 rises : (low : ℕ) (xs : List ℕ) → AllPairs (λ x y. x < y) xs → ((i d : ℕ) → i < length xs → low ≤ get_or xs i d) → RisesFrom low xs
 rises low [] pairs above = tt
-rises low (x ∷ xs) pairs above =
-    (above 0 0 (omega arith),
-    rises (x + 1) xs (λ i j d lt in_range. pairs (suc i) (suc j) d (omega (arith, lt)) (omega (arith, in_range)))
-    (λ i d lt. let next : x < get_or xs i d = pairs 0 (suc i) d (omega arith) (omega (arith, lt)) in omega (arith, next)))
+rises low (x ∷ xs) pairs above = (
+  above 0 0 (omega arith),
+  rises (x + 1) xs (λ i j d lt in_range. pairs (suc i) (suc j) d (omega (arith, lt)) (omega (arith, in_range)))
+      (λ i d lt. let next : x < get_or xs i d = pairs 0 (suc i) d (omega arith) (omega (arith, lt)) in omega (arith, next)),
+)
 
 weaker : (low high : ℕ) (xs : List ℕ) → low ≤ high → RisesFrom high xs → RisesFrom low xs
 weaker low high [] le r = tt

@@ -13,7 +13,12 @@ use std::alloc::Allocator;
 
 /// Takes the `k`-th member out of the set of generation `h` where it is no object of that generation with a pointer to a
 /// younger one. The last member may take its place.
-fn keep_or_remove<A: Allocator + Clone>(space: &Space<A>, sets: &mut Remembered<A>, h: usize, k: usize)
+fn keep_or_remove<A: Allocator + Clone>(
+    space: &Space<A>,
+    sets: &mut Remembered<A>,
+    h: usize,
+    k: usize,
+)
     requires closed { IsClosed (graph_in space.now) }
     requires generation { h < length sets.old }
     requires in_range { k < length (members_of sets.old h) }

@@ -1,4 +1,4 @@
-use Rattle.std.proofs.Common.{◌≡◌, ◌<◌, arith}
+use Rattle.std.proofs.Common.{◌<◌, arith}
 use Rattle.layout.specs.Place.{place_word}
 use Rattle.heap.proofs.Noting.{generation_in_range, err_not}
 use Rattle.heap.proofs.barrier.note.Goals as goal

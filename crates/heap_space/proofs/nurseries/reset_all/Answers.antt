@@ -1,11 +1,11 @@
-use Rattle.std.proofs.Common.{◌≡◌, ℕ, ◌+◌, ◌<◌, Some, length, set, refl, sym, ap, subst, ◌∙◌, arith, ⊎_elim}
+use Rattle.std.proofs.Common.{◌≡◌, ◌<◌, Some, length, set, refl, sym, ap, subst, ◌∙◌, arith, ⊎_elim}
 use Rattle.std.proofs.lemmas.Option.{slice_get-get_or}
 use Rattle.std.proofs.lemmas.Bool.{cases_eq}
 use Rattle.std.proofs.lemmas.List.{length-set}
 use Rattle.std.specs.Prelude.{slice_get}
 use Rattle.model.proofs.Options.{some_is}
 use Rattle.heap_space.specs.Nursery.{from_first}
-use Rattle.heap_space.proofs.Pushing.{same_map, get_there}
+use Rattle.heap_space.proofs.Pushing.{same_map}
 use Rattle.heap_space.proofs.Sound.{get-set_same, get-set_other, get_below}
 use Rattle.heap_space.proofs.nurseries.reset_all.Goals as goal
 

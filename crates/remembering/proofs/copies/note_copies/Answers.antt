@@ -1,4 +1,4 @@
-use Rattle.std.proofs.Common.{sym, ap, subst, take_all}
+use Rattle.std.proofs.Common.{sym, subst, take_all}
 use Rattle.heap_data.specs.BlockObjects.{copies_of}
 use Rattle.remembering.specs.Noted.{AreNoted}
 use Rattle.remembering.proofs.NotedCopies.{copies_noted}

@@ -1,4 +1,4 @@
-use Rattle.std.proofs.Common.{◌≡◌, sym, ap, ◌∙◌}
+use Rattle.std.proofs.Common.{◌∙◌}
 use Rattle.heap_data.specs.ReportValue.{all_won}
 use Rattle.heap_commit.proofs.OpenedBases.{closed_in}
 use Rattle.remembering.proofs.WithSets.{settled_without}

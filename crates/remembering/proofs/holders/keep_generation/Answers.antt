@@ -1,4 +1,4 @@
-use Rattle.std.proofs.Common.{◌≡◌, ◌+◌, ◌-◌, ◌≤◌, true, length, drop, refl, subst, ◌∙◌, arith, ⊎_elim}
+use Rattle.std.proofs.Common.{◌≡◌, ◌+◌, ◌-◌, true, drop, refl, subst, ◌∙◌, arith, ⊎_elim}
 use Rattle.model.specs.Reached.{has}
 use Rattle.remembered_set.specs.Sets.{members_of}
 use Rattle.remembering.proofs.Pointing.{none_past, all_from}
@@ -27,6 +27,7 @@ loop-k-preserved g c =
     }
 
 pub returns-clause-members : goal.returns-clause-members
-returns-clause-members g c = λ n.
-    (λ h. (c.loop-k.invariant.members n h, c.loop-k.invariant.from n (all_from (members_of c.loop-k.sets c.args.h) c.loop-k.k n (omega (arith, c.loop-k-test.false)) h)),
-    λ h. c.loop-k.invariant.kept n h.0 h.1)
+returns-clause-members g c = λ n. (
+  λ h. (c.loop-k.invariant.members n h, c.loop-k.invariant.from n (all_from (members_of c.loop-k.sets c.args.h) c.loop-k.k n (omega (arith, c.loop-k-test.false)) h)),
+  λ h. c.loop-k.invariant.kept n h.0 h.1,
+)

@@ -12,5 +12,7 @@ returns-then-is_holder-clause-from g c =
 
 pub returns-clause-kept : goal.returns-clause-kept
 returns-clause-kept g c = λ n old holder.
-    (c.remove.ensures.members n).1 (old,
-    other_than (is_holder (graph_in c.args.space.now) c.args.h) (members_of c.args.sets.now c.args.h) c.args.k (place_word c.member-place.result) n c.member-place.ensures (sym c.is_holder.ensures ∙ c.if-is_holder.false) holder)
+    (c.remove.ensures.members n).1 (
+      old,
+      other_than (is_holder (graph_in c.args.space.now) c.args.h) (members_of c.args.sets.now c.args.h) c.args.k (place_word c.member-place.result) n c.member-place.ensures (sym c.is_holder.ensures ∙ c.if-is_holder.false) holder,
+    )

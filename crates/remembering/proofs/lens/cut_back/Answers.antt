@@ -1,6 +1,5 @@
-use Rattle.std.proofs.Common.{◌≡◌, ◌<◌, ◌≤◌, length, map, sym, ap, ◌∙◌, arith}
+use Rattle.std.proofs.Common.{◌≡◌, ◌<◌, ◌≤◌, length, sym, ap, ◌∙◌, arith}
 use Rattle.std.proofs.lemmas.List.{length-map, length-set}
-use Rattle.remembered_set.specs.Sets.{members_of}
 use Rattle.remembering.proofs.Grown.{cut_next, cut_all, lens_at}
 use Rattle.remembering.proofs.lens.cut_back.Goals as goal
 

@@ -1,4 +1,4 @@
-use Rattle.std.proofs.Common.{◌++◌, map, ap, sym, ◌∙◌, true, ◌≡◌, ℕ}
+use Rattle.std.proofs.Common.{◌++◌, map, ap, ◌∙◌, true, ◌≡◌, ℕ}
 use Rattle.std.proofs.lemmas.Result.{on_ok_weaker}
 use Rattle.model.specs.Reached.{has}
 use Rattle.layout.specs.Place.{place_word}

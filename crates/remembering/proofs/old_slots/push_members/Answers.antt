@@ -6,7 +6,7 @@ use Rattle.layout.specs.Place.{place_word}
 use Rattle.heap_data.specs.CollectionValue.{field_slot_of}
 use Rattle.heap_data.specs.SlotView.{slot_value}
 use Rattle.block_table.specs.TableGraph.{slots_at}
-use Rattle.block_table.proofs.FieldSlots.{pushed_more, pushed_none}
+use Rattle.block_table.proofs.FieldSlots.{pushed_more}
 use Rattle.heap_space.specs.Space.{graph_in}
 use Rattle.remembering.proofs.old_slots.push_members.Goals as goal
 

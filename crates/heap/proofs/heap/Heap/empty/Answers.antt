@@ -1,4 +1,4 @@
-use Rattle.std.proofs.Common.{◌≡◌, [], sym, subst}
+use Rattle.std.proofs.Common.{sym, subst}
 use Rattle.heap_commit.specs.HeapView.{heap_with}
 use Rattle.heap.specs.Whole.{IsWhole}
 use Rattle.heap.proofs.HeapLemmas.{empty_view}

@@ -1,4 +1,4 @@
-use Rattle.std.proofs.Common.{◌≡◌, ◌+◌, Option, Some, None, Result, Ok, Err, set, arith, refl, sym, ap, subst, ◌∙◌}
+use Rattle.std.proofs.Common.{◌≡◌, ◌+◌, Option, Some, None, Result, Ok, Err, set, arith, refl, ap, subst, ◌∙◌}
 use Rattle.std.specs.Prelude.{IsSome, IfOk}
 use Rattle.std.specs.Result.{OnErr}
 use Rattle.model.specs.Room.{Room}

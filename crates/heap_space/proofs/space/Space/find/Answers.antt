@@ -1,4 +1,4 @@
-use Rattle.std.proofs.Common.{◌≡◌, ◌<◌, ◌≤◌, length, get_or, refl, sym, ap, ◌∙◌, arith}
+use Rattle.std.proofs.Common.{◌≡◌, ◌≤◌, arith}
 use Rattle.std.specs.Prelude.{IsSome}
 use Rattle.model.specs.Graph.{Object}
 use Rattle.std.proofs.Common.{Option, Some, None}

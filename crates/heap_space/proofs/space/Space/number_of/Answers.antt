@@ -1,4 +1,4 @@
-use Rattle.std.proofs.Common.{◌≡◌, ◌<◌, length, get_or, refl, sym, ap, ◌∙◌, arith}
+use Rattle.std.proofs.Common.{refl, sym, ◌∙◌, arith}
 use Rattle.model.proofs.Options.{some_not_none}
 use Rattle.heap_space.proofs.Sound.{sound_fits, few_blocks}
 use Rattle.block_table.proofs.Located.{large_none, covered}
