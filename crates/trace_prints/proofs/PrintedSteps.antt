@@ -14,6 +14,7 @@ use Rattle.heap_data.specs.declared.report.Delivery.{Delivery}
 use Rattle.collector.specs.Collects.{CollectsAlone, IsShortOfBlocks}
 use Rattle.trace_lines.specs.CollectsFirst.{auto_line}
 use Rattle.trace_lines.specs.Outcome.{command_step}
+use Rattle.trace_lines.specs.Sound.{IsSoundCommand}
 use Rattle.trace_lines.specs.Stepped.{StepsTo}
 use Rattle.trace_session.specs.Refusals.{CommandMayBeFull}
 use Rattle.trace_session.specs.Made as made_by
@@ -46,6 +47,11 @@ module _ (heap : HeapValue) (names : List (List ℕ × ℕ)) (config : Config) (
             subst (λ k. Appends old new (collection_line (codes "collected") g k (freed_count store g))) (kept_same heap names config store stands g kept freed workers heap' collects)
             (subst (λ f. Appends old new (collection_line (codes "collected") g kept f)) (freed_same heap names config store stands g kept freed workers heap' collects) held);
       }
+
+  pub collect_sound : (g : ℕ) → g < heap.config.shape.generations → IsSoundCommand config store (Collect g)
+  collect_sound g in_range =
+      let known : nat_lt g config.shape.generations ≡ true = lt-ltb g config.shape.generations (rw (← stands.config_is) in_range) in
+      rw known refl
 
   -- where the heap is short of blocks a collection may be refused
   pub collect_full : (g : ℕ) → g < heap.config.shape.generations → IsShortOfBlocks heap g → CommandMayBeFull config store (Collect g)

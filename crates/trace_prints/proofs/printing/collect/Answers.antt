@@ -1,5 +1,5 @@
 use Rattle.std.proofs.Common.{Err, refl, ap, arith}
-use Rattle.trace_prints.proofs.PrintedSteps.{steps_collect, collect_full}
+use Rattle.trace_prints.proofs.PrintedSteps.{steps_collect, collect_full, collect_sound}
 use Rattle.trace_prints.proofs.printing.collect.Goals as goal
 
 pub returns-in-Ok-write_collection-clause-ok : goal.returns-in-Ok-write_collection-clause-ok
@@ -15,5 +15,23 @@ returns-in-Err-HeapFull-clause-err g c = (
       collect_full _ _ config store stands c.args.generation
       (omega (arith, c.if-generation-generations.false, c.generations.ensures.value, ap (λ x. x.shape.generations) c.config.ensures))
       (c.in-Err-HeapFull.ensures.full (ap (λ e. Err e) c.in-Err-HeapFull.field-0-is)),
+  refl,
+)
+
+pub returns-in_default-clause-err : goal.returns-in_default-clause-err
+returns-in_default-clause-err g c = (
+  refl,
+  λ config store stands.
+      collect_sound _ _ config store stands c.args.generation
+      (omega (arith, c.if-generation-generations.false, c.generations.ensures.value, ap (λ x. x.shape.generations) c.config.ensures)),
+  refl,
+)
+
+pub returns-in-Err-NoMemory-clause-err : goal.returns-in-Err-NoMemory-clause-err
+returns-in-Err-NoMemory-clause-err g c = (
+  refl,
+  λ config store stands.
+      collect_sound _ _ config store stands c.args.generation
+      (omega (arith, c.if-generation-generations.false, c.generations.ensures.value, ap (λ x. x.shape.generations) c.config.ensures)),
   refl,
 )

@@ -70,3 +70,6 @@ returns-in-Ok-write_report-clause-ok g c = λ config store stands.
 
 pub returns-in-Ok-write_report-clause-later : goal.returns-in-Ok-write_report-clause-later
 returns-in-Ok-write_report-clause-later g c = omega (arith, c.in-Ok-settled_by_schedule.ensures.ok.schedule.number_is)
+
+pub overflow_add-result : goal.overflow_add-result
+overflow_add-result g c = omega (arith, c.in-Ok-settled_by_schedule.ensures.left, c.requires.room)
