@@ -1,4 +1,4 @@
-use Rattle.std.proofs.Common.{◌≡◌, ◌<◌, ◌≤◌, sym, ap, subst, ◌∙◌, ⊎_elim, arith, rules}
+use Rattle.std.proofs.Common.{◌≡◌, ◌<◌, ◌≤◌, inl, inr, refl, sym, ap, subst, ◌∙◌, ⊎_elim, arith}
 use Rattle.heap_data.specs.CollectionValue.{IsOpened}
 use Rattle.interleaved.specs.IsSerial.{IsReadyToCollect}
 use Rattle.interleaved.specs.InterleavedValue.{destinations_in, targets_in}
@@ -14,7 +14,7 @@ ready g c =
     record { opened = subst (λ k. IsOpened c.args.heap.now k c.in_ok-collection.collection) (sym e.ok.generation) e.ok; sound = e.sound; range = e.range }
 
 few : (g : given.Over) → (c : In_ok-workers g) → (0 < c.args.n) × (c.args.n ≤ 16)
-few g c = (search rules, search rules)
+few g c = (omega arith, omega arith)
 
 pub invariant_of-result : goal.invariant_of-result
 invariant_of-result g c =
@@ -33,4 +33,13 @@ pub returns-clause-config : goal.returns-clause-config
 returns-clause-config g c = let f = few g c in (
   λ is. absurd (cc),
   λ bad. absurd (⊎_elim (λ (e : c.args.n ≡ 0). let l = f.0 in omega (arith, e, l)) (λ (m : 16 < c.args.n). let l = f.1 in omega (arith, m, l)) bad),
+)
+
+pub returns-then-n-eq0-clause-config : goal.returns-then-n-eq0-clause-config
+returns-then-n-eq0-clause-config g c = (λ _. ⊎_elim (λ (e : c.args.n ≡ 0). inl e) (λ p. inr p.1) c.then-n-eq0.either, λ _. refl)
+
+pub returns-then-n-eq0-clause-generation : goal.returns-then-n-eq0-clause-generation
+returns-then-n-eq0-clause-generation g c = (
+  λ e. absurd (cc),
+  λ p. absurd (⊎_elim (λ (e : c.args.n ≡ 0). let l = p.0 in omega (arith, e, l)) (λ q. let l = p.1 in let m = q.1 in omega (arith, l, m)) c.then-n-eq0.either),
 )
