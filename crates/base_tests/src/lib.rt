@@ -1,8 +1,10 @@
-//! Tests of words, blocks, sets of numbers and of places, and the pool, by public calls.
+//! Tests of words, blocks, large objects, sets of numbers and of places, and the pool, by public calls.
 #![tactic(auto)]
 
 #[cfg(test)]
 mod block_tests;
+#[cfg(test)]
+mod large_object_tests;
 #[cfg(test)]
 mod layout_tests;
 #[cfg(test)]

@@ -8,14 +8,12 @@ pub mod TableSteps
 pub mod TableReads
 pub mod Installed
 pub mod Areas
+pub mod AreaLaws
+pub mod AreaTables
 pub mod Installing
 pub mod SmallBlocks
 pub mod CanCommit
 pub mod YoungBlocks
 pub mod StepBlocks
 pub mod Numbers
-pub mod GraphObjects
 pub mod Located
-pub mod HeldObjects
-pub mod FieldSlots
-pub mod Remembering

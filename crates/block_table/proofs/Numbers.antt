@@ -1,6 +1,6 @@
 -- Numbers from one on that pass a test.
-use Rattle.std.proofs.Common.{◌≡◌, ◌≢◌, ℕ, ◌+◌, ◌≤◌, Bool, true, false, ◌||◌, ◌&&◌, List, [], ◌∷◌, ◌++◌, refl, sym, ap, ◌∙◌, arith, ⊎_elim}
-use Rattle.std.proofs.lemmas.Bool.{cases_eq, true≢false, eq-eqb, ne_eqb}
+use Rattle.std.proofs.Common.{◌≡◌, ◌≢◌, ℕ, ◌+◌, ◌<◌, ◌≤◌, Bool, true, false, ◌||◌, ◌&&◌, List, [], ◌∷◌, ◌++◌, refl, sym, ap, ◌∙◌, arith, ⊎_elim}
+use Rattle.std.proofs.lemmas.Bool.{cases_eq, cases_lt, true≢false, eq-eqb, ne_eqb}
 use Rattle.std.proofs.lemmas.Bool.Decides.{nat_tests}
 use Rattle.std.proofs.lemmas.Map.Keys.{IsDistinct-push}
 use Rattle.std.specs.Prelude.{nat_eq, nat_le, nat_lt}
@@ -65,6 +65,30 @@ module _ (p : ℕ → Bool) (from : ℕ) where
         or_false : (b : Bool) → (b || false) ≡ b
         or_false true = refl
         or_false false = refl
+
+  -- none of those up to a number passes
+  pub skip_to : (end number : ℕ) (numbers : List ℕ) → HasNumbers p from end numbers → end ≤ number → ((n : ℕ) → end ≤ n → n < number → p n ≡ false) → HasNumbers p from number numbers
+  skip_to end number numbers so_far le none = record {
+    each = λ n. so_far.each n ∙ go n (p n) refl;
+    once = so_far.once;
+  }
+    where
+      and_false : (t u : Bool) → (t && false) ≡ (u && false)
+      and_false true true = refl
+      and_false true false = refl
+      and_false false true = refl
+      and_false false false = refl
+
+      go : (n : ℕ) (b : Bool) → p n ≡ b → ((nat_le from n && nat_lt n end) && b) ≡ ((nat_le from n && nat_lt n number) && b)
+      go n true is = ap (λ t. (nat_le from n && t) && true) (same (nat_lt n number) refl)
+        where
+          same : (t : Bool) → nat_lt n number ≡ t → nat_lt n end ≡ nat_lt n number
+          same true e = ⊎_elim
+              (λ lt. let below : n < end = lt in let yes : nat_lt n end ≡ true = grind (arith, nat_tests, below) in yes ∙ sym e)
+              (λ past. absurd (true≢false (sym is ∙ none n past (grind (arith, nat_tests, e)))))
+              (cases_lt n end)
+          same false e = let no : nat_lt n end ≡ false = grind (arith, nat_tests, e, le) in no ∙ sym e
+      go n false is = and_false (nat_le from n && nat_lt n end) (nat_le from n && nat_lt n number)
 
   -- none at or past the end passes
   pub all_numbers : (end : ℕ) (numbers : List ℕ) → HasNumbers p from end numbers → ((n : ℕ) → end ≤ n → p n ≡ false) → (n : ℕ) → has numbers n ≡ (nat_le from n && p n)

@@ -1,5 +1,5 @@
 -- The objects of the blocks of a table.
 pub mod Table
+pub mod Areas
 pub mod Installed
 pub mod Begins
-pub mod TableGraph

@@ -43,10 +43,6 @@ AreHeapBlocks config number table = (n : ℕ) (block : BlockValue) → slot_at t
 abbrev pub objects_map : List (Option BlockValue) → FinMap nat_cmp Object
 objects_map table = from_entries (table_objects 0 table)
 
--- each pointer of an object leads to an object
-abbrev pub IsClosedTable : List (Option BlockValue) → Type 0
-IsClosedTable table = (name i target : ℕ) (o : Object) → get (objects_map table) name ≡ Some o → slice_get o.pointers i ≡ Some (Some target) → IsSome (get (objects_map table) target)
-
 -- the block where its generation is at most g
 abbrev pub young_slot : ℕ → Option BlockValue → Option BlockValue
 young_slot g None = None

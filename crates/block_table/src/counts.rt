@@ -1,5 +1,5 @@
 //! The objects of some of a heap's blocks, counted.
-ghost use Rattle.std.specs.Prelude.{◌≡◌, ℕ, ◌<◌, ◌≤◌, ◌&&◌, length, IfOk, None, sum_by, slice_index, slice_index_or, nat_eq, nat_le, is_some};
+ghost use Rattle.std.specs.Prelude.{◌≡◌, true, ℕ, ◌<◌, ◌≤◌, ◌&&◌, length, IfOk, None, sum_by, slice_index, slice_index_or, nat_eq, nat_le, is_some};
 ghost use Rattle.std.specs.List.{IsDistinct};
 ghost use Rattle.std.specs.FinMap.{values};
 ghost use Rattle.model.specs.Census.{step_count};
@@ -8,8 +8,10 @@ ghost use Rattle.model.specs.Reached.{has};
 ghost use Rattle.steps.specs.ConfigRange.{IsInRange};
 ghost use Rattle.steps.specs.StepPairs.{step_pair};
 ghost use Rattle.heap_data.specs.CensusView.{step_value};
+ghost use Rattle.block_table.specs.Areas.{is_flagged, AreAreas};
 ghost use Rattle.block_table.specs.Table.{AreHeapBlocks, objects_map, slot_at, slot_len, slot_words, objects_before, young_slot, young_table, step_slot};
 
+use crate::area_flags::AreaFlags;
 use block_pool::Block;
 use heap_data::StepCount;
 use std::alloc::{AllocError, Allocator};
@@ -72,52 +74,46 @@ fn young_len<A: Allocator>(slot: &Option<Block<A>>, g: u8) -> u32
     }
 }
 
-/// How many objects of generation at most `g` the blocks before each one hold, and how many all hold.
+/// How many objects of generation at most `g` the blocks before each one hold, up to the last block of such a
+/// generation, and how many all hold.
 pub fn bases<A: Allocator, B: Allocator>(
     alloc: B,
     table: &[Option<Block<A>>],
+    areas: &AreaFlags<A>,
     g: u8,
 ) -> Result<(Vec<u32, B>, u32), AllocError>
     requires short { length table.now ≤ 65535 }
-    ensures len { IfOk result (λ r. length r.0.items ≡ length table.now) }
-    ensures bases { IfOk result (λ r. (b : ℕ) → b < length table.now → slice_index r.0.items b ≡ objects_before (young_table g table.now) b) }
+    requires areas { AreAreas table.now areas.now }
+    ensures len { IfOk result (λ r. length r.0.items ≤ length table.now) }
+    ensures covers { IfOk result (λ r. (b : ℕ) → is_some (young_slot g (slot_at table.now b)) ≡ true → b < length r.0.items) }
+    ensures bases { IfOk result (λ r. (b : ℕ) → b < length r.0.items → slice_index r.0.items b ≡ objects_before (young_table g table.now) b) }
     ensures all { IfOk result (λ r. r.1 ≡ sum_by slot_len (young_table g table.now)) }
 {
-    let mut bases = Vec::with_capacity(alloc, table.len())?;
+    let mut bases = Vec::new(alloc);
     let mut objects = 0;
-    for slot in table {
-        bases.push(objects)?;
-        objects += young_len(slot, g);
+    while let Some(number) = areas.next_young(g, bases.len()) {
+        bases.resize(number + 1, objects)?;
+        objects += young_len(&table[number], g);
     }
     Ok((bases, objects))
-}
-
-/// Whether the slot has a block of generation at most `g`.
-fn is_young<A: Allocator>(slot: &Option<Block<A>>, g: u8) -> bool
-    ensures { result ≡ is_some (young_slot g slot.now) }
-{
-    match slot {
-        Some(block) => block.generation() <= g,
-        None => false,
-    }
 }
 
 /// The numbers, from `from` on, of the blocks of generation at most `g`.
 pub fn young_blocks<A: Allocator, B: Allocator>(
     alloc: B,
-    table: &[Option<Block<A>>],
+    areas: &AreaFlags<A>,
     from: usize,
     g: u8,
 ) -> Result<Vec<u32, B>, AllocError>
-    requires short { length table.now ≤ 65535 }
-    ensures numbers { IfOk result (λ numbers. (n : ℕ) → has numbers.items n ≡ (nat_le from n && is_some (young_slot g (slot_at table.now n)))) }
+    requires short { (n : ℕ) → is_flagged areas.now g n ≡ true → n < 65535 }
+    ensures numbers { IfOk result (λ numbers. (n : ℕ) → has numbers.items n ≡ (nat_le from n && is_flagged areas.now g n)) }
     ensures once { IfOk result (λ numbers. IsDistinct nat_eq numbers.items) }
 {
     let mut numbers = Vec::new(alloc);
-    for number in from..table.len() {
-        if is_young(&table[number], g) {
-            numbers.push(number as u32)?;
-        }
+    let mut next = from;
+    while let Some(number) = areas.next_young(g, next) {
+        numbers.push(number as u32)?;
+        next = number + 1;
     }
     Ok(numbers)
 }

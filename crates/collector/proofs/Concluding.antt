@@ -1,10 +1,10 @@
 -- What a collection that ended, or that wants a block, concludes.
-use Rattle.std.proofs.Common.{◌≡◌, ◌≢◌, ℕ, zero, suc, ◌+◌, ◌*◌, ◌/◌, ◌<◌, ◌≤◌, Bool, true, false, cond, not, nat_lt, nat_eq, List, [], ◌∷◌, ◌++◌, map, flat_map, filter, length, Option, Some, None, refl, sym, ap, subst, ◌∙◌, arith, true≢false, ne_eqb, lt-ltb, ⊎_elim, inl, inr}
+use Rattle.std.proofs.Common.{◌≡◌, ◌≢◌, ℕ, zero, suc, ◌+◌, ◌*◌, ◌<◌, ◌≤◌, Bool, true, false, cond, not, nat_lt, nat_eq, List, [], ◌∷◌, ◌++◌, map, flat_map, filter, length, Option, Some, None, refl, sym, ap, subst, ◌∙◌, arith, true≢false, ne_eqb, lt-ltb, ⊎_elim, inl, inr}
 use Rattle.std.specs.Prelude.{sum_by, slice_get, slice_index, slice_index_or, All}
 use Rattle.std.specs.List.{Contains}
 use Rattle.std.specs.Option.{option_map_or}
 use Rattle.std.proofs.lemmas.Bool.{cases_eq, cases_lt}
-use Rattle.model.specs.Graph.{Object, object_at, is_large, size_of}
+use Rattle.model.specs.Graph.{Object, object_at, is_large}
 use Rattle.model.specs.LiveCount.{LiveCount, LiveWords}
 use Rattle.model.specs.SpaceBound.{space_bound}
 use Rattle.model.specs.Destination.{dest_count}
@@ -14,7 +14,7 @@ use Rattle.heap_data.specs.CollectionValue.{CollectionValue, AreFreeBlocks, targ
 use Rattle.heap_data.specs.CollectedHeap.{CollectedHeap}
 use Rattle.heap_data.specs.ReportValue.{WorkerLists, renaming_of, all_won}
 use Rattle.heap_data.specs.declared.report.Delivery.{Delivery}
-use Rattle.heap.proofs.SoundHeap.{heap_free, heap_object}
+use Rattle.heap.proofs.SoundHeap.{heap_free, heap_large_name}
 use Rattle.workers.specs.Setting.{Setting, is_large_name}
 use Rattle.workers.specs.Worker.{Worker, Hand, Nothing, current_in, current_object}
 use Rattle.workers.specs.WorkerSteps.{current_slot, slot_of_starts, IsOutOfWork}
@@ -84,12 +84,12 @@ tells_small : (v : SerialValue) → IsReadyToCollect v.heap v.collection → Tel
 tells_small v r =
     record {
       in_block = λ number offset here l. (let b = has_below v.heap.config.blocks number v.heap.free (heap_free v.heap r.sound).in_range here in let m = r.range.most_blocks in let k : (number + 1) * 65536 + offset < 9223372036854775808 + 0 = omega (arith, b, m, l) in lt-ltb _ _ k);
-      large = λ name is. absurd (true≢false (sym is ∙ none name (object_at v.heap.graph name) refl));
+      large = λ name is. not_small name (object_at v.heap.graph name) refl is;
     }
   where
-    none : (name : ℕ) (o : Option Object) → object_at v.heap.graph name ≡ o → option_map_or (is_large v.heap.config.block_words) o false ≡ false
-    none name None e = refl
-    none name (Some x) e = let s = (heap_object v.heap r.sound name x e).small in grind (arith, s)
+    not_small : (name : ℕ) (o : Option Object) → object_at v.heap.graph name ≡ o → option_map_or (is_large v.heap.config.block_words) o false ≡ true → is_small_word name ≡ false
+    not_small name None e is = absurd (true≢false (sym is))
+    not_small name (Some x) e is = let above = heap_large_name v.heap r.sound name x e is in grind (arith, above)
 
 same_places : (names : List ℕ) (won : List (ℕ × ℕ)) → map (λ (q : ℕ × ℕ). q.1) (renaming_of names won) ≡ map (λ (q : ℕ × ℕ). q.1) won
 same_places names [] = refl

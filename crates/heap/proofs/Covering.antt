@@ -13,7 +13,7 @@ use Rattle.model.proofs.ClosedLemmas.{field_is}
 use Rattle.model.proofs.NatMap.{get-insert_same, get-insert_other}
 use Rattle.model.proofs.Options.{some_is, some_not_none}
 use Rattle.heap_data.specs.Remembered.{CoversYounger, object_of_generation}
-use Rattle.block_table.proofs.HeldObjects.{held}
+use Rattle.heap_graph.proofs.HeldObjects.{held}
 use Rattle.remembered_set.specs.Sets.{members_of}
 use Rattle.remembering.specs.Growth.{AreGrown}
 use Rattle.remembering.proofs.Grown.{grown_has}

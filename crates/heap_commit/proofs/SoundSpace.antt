@@ -1,8 +1,9 @@
 -- Blocks and roots make a sound heap.
-use Rattle.std.proofs.Common.{◌≡◌, ℕ, ◌<◌, true, List, Option, Some, None, refl, sym, ◌∙◌, arith}
+use Rattle.std.proofs.Common.{◌≡◌, ℕ, ◌/◌, ◌<◌, ◌≤◌, true, false, true≢false, List, Option, Some, None, refl, sym, ◌∙◌, arith}
+use Rattle.std.proofs.lemmas.Bool.Decides.{nat_tests}
 use Rattle.std.specs.Ordering.{nat_cmp}
 use Rattle.std.specs.FinMap.{get, get-empty}
-use Rattle.model.specs.Graph.{Object, IsClosed}
+use Rattle.model.specs.Graph.{Object, IsClosed, size_of, is_large}
 use Rattle.model.specs.Reached.{has}
 use Rattle.model.proofs.Options.{some_not_none}
 use Rattle.layout.specs.declared.place.Place.{Place}
@@ -16,14 +17,17 @@ pub is_heap : (space : SpaceValue) (slots : List (Option Place)) → IsSpace spa
 is_heap space slots sound closed = record {
   range = sound.in_range;
   closed = closed;
-  objects = λ name o is. record { step = sound.steps name o is; small = sound.small name o is };
-  places = sound.places;
+  objects = λ name o is. (let small = sound.small name o is in let most = sound.in_range.most_words in record { step = sound.steps name o is; pointers = omega arith; plain = omega arith });
+  places = λ name o is. record { small = λ _. sound.places name o is; large = λ large. absurd (true≢false (sym large ∙ not_large o (sound.small name o is))) };
   mutators = sound.mutators;
   rooms = sound.rooms;
   free = λ block. (now_free block, λ free. sound.all_free block free.in_pool free.in_range (λ offset lt. empty block free offset lt (get space.objects (small_word block offset)) refl));
   rising = sound.rising;
 }
   where
+    not_large : (o : Object) → size_of o ≤ space.config.block_words / 4 → is_large space.config.block_words o ≡ false
+    not_large o small = grind (arith, nat_tests, small)
+
     now_free : (block : ℕ) → has space.free block ≡ true → IsFreeBlock (heap_of space slots) block
     now_free block h =
         let free = sound.free block h in

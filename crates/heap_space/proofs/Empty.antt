@@ -46,6 +46,10 @@ no_objects number [] none = refl
 no_objects number (None ∷ table) none = no_objects (number + 1) table (λ n. none (suc n))
 no_objects number (Some block ∷ table) none = rw (none 0 block refl) (no_objects (number + 1) table (λ n. none (suc n)))
 
+-- the nurseries' blocks are of generation 0
+pub youngest : (table : List (Option BlockValue)) (count words : ℕ) → length table ≡ count → ((n : ℕ) → n < count → slot_at table n ≡ Some (empty_block n words)) → (n : ℕ) (block : BlockValue) → slot_at table n ≡ Some block → block.generation ≡ 0
+youngest table count words len slots n block is = ap (λ b. b.generation) (some_is (sym is ∙ slots n (omega (arith, in_list table n block is, len))))
+
 rooms-full : (blocks words : ℕ) (nurseries : List NurseryValue) (table : List (Option BlockValue)) → ((m : ℕ) (n : NurseryValue) → slice_get nurseries m ≡ Some n → nursery_room n table ≡ full_room blocks) → rooms_of nurseries table ≡ replicate (length nurseries) (full_room blocks)
 rooms-full blocks words [] table each = refl
 rooms-full blocks words (n ∷ nurseries) table each = rw (each 0 n refl) (ap (λ rooms. full_room blocks ∷ rooms) (rooms-full blocks words nurseries table (λ m x is. each (suc m) x is)))

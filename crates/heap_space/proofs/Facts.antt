@@ -25,7 +25,7 @@ use Rattle.heap_space.proofs.Sound.{sound_fits, sound_blocks, few_blocks}
 use Rattle.block_table.proofs.Located.{no_block, at_word}
 use Rattle.heap_space.proofs.Places.{each_place}
 
-first_object : (number : ℕ) (block : BlockValue) → 0 < length block.objects → (o : Object) × (find nat_cmp (small_word number 0) (slot_objects number (Some block)) ≡ Some o)
+pub first_object : (number : ℕ) (block : BlockValue) → 0 < length block.objects → (o : Object) × (find nat_cmp (small_word number 0) (slot_objects number (Some block)) ≡ Some o)
 first_object number block some = go block.objects some
   where
     go : (raws : List Raw) → 0 < length raws → (o : Object) × (find nat_cmp (small_word number 0) (objects_from (small_word number 0) block.generation block.step raws) ≡ Some o)

@@ -15,6 +15,7 @@ use Rattle.block_pool.specs.BlockValue.{BlockValue, offset_of, with_pointer_word
 use Rattle.block_pool.specs.PoolValue.{PoolValue}
 use Rattle.heap_data.specs.BlockObjects.{object_of}
 use Rattle.block_table.specs.Table.{slot_at, objects_map}
+use Rattle.block_table.proofs.AreaTables.{SameGenerations, set_generations}
 use Rattle.nursery.specs.NurseryValue.{NurseryValue}
 use Rattle.heap_space.specs.Space.{IsSoundSpace, space_of}
 use Rattle.heap_data.specs.Words.{target_of_word}
@@ -41,6 +42,7 @@ target_of_pointer (Some place) = target_of_positive (place_word place) (place_wo
 -- the space after the object of a name was changed
 pub record IsChanged (config : Config) (table table' : List (Option BlockValue)) (nurseries : List NurseryValue) (pool : PoolValue) (name : ℕ) (new : Object) : Type 0 where
   pub sound : IsSoundSpace config table' nurseries pool
+  pub generations : SameGenerations table table'
   pub space_is : space_of config table' nurseries pool ≡ record (space_of config table nurseries pool) { objects = insert (objects_map table) name new }
 
 -- the table after a raw object was changed
@@ -59,6 +61,7 @@ module _ (config : Config) (table table' : List (Option BlockValue)) (nurseries 
       let table_is : table' ≡ set table number (Some (record begins.block { objects = set begins.block.objects found.ordinal (change raw) })) = writes begins.block found.ordinal raw begins.there begins.in_block begins.at begins.is about.0 in
       rw table_is (record {
         sound = changed_sound config table nurseries pool sound number offset found.ordinal raw (change raw) lt begins about.1;
+        generations = set_generations table number begins.block (record begins.block { objects = set begins.block.objects found.ordinal (change raw) }) begins.there refl;
         space_is =
             changed_space config table nurseries pool sound number offset found.ordinal raw (change raw) lt begins about.1
             ∙ ap (λ (x : Object). record (space_of config table nurseries pool) { objects = insert (objects_map table) (small_word number offset) x }) about.2;

@@ -18,6 +18,7 @@ use Rattle.block_pool.specs.PoolValue.{PoolValue}
 use Rattle.heap_data.specs.BlockObjects.{object_of}
 use Rattle.layout.specs.Place.{small_word}
 use Rattle.block_table.specs.Table.{objects_map, with_more}
+use Rattle.block_table.proofs.AreaTables.{SameGenerations, set_generations}
 use Rattle.block_table.proofs.TableLemmas.{TableFits}
 use Rattle.block_table.proofs.TableMap.{objects_map-push, pushed_new}
 use Rattle.block_table.proofs.TableCensus.{map-nil}
@@ -82,6 +83,10 @@ module _ (config : Config) (table : List (Option BlockValue)) (nurseries : List 
   module _ (p q : ℕ) (new : NurseryValue) (table' : List (Option BlockValue)) (small : 1 + p + q ≤ config.block_words / 4) where
     pub stays : (new ≡ n) × (table' ≡ table) → set nurseries mutator new ≡ nurseries
     stays same = ap (set nurseries mutator) same.0 ∙ set_there nurseries mutator n there
+
+    pub generations_after : (result : Result Place NurseryFull) → IfOk result (λ place. Pushes config.block_words n table p q (place_word place) new table') → OnErr result ((new ≡ n) × (table' ≡ table)) → SameGenerations table table'
+    generations_after (Ok place) ok err = rw ok.table_is (set_generations table ok.number ok.block (with_more ok.block (new_object p q)) ok.there refl)
+    generations_after (Err e) ok err = rw err.1 (record { each = λ g n. refl })
 
     pub sound_after : (result : Result Place NurseryFull) → IfOk result (λ place. Pushes config.block_words n table p q (place_word place) new table') → OnErr result ((new ≡ n) × (table' ≡ table)) → IsSoundSpace config table' (set nurseries mutator new) pool
     sound_after (Ok place) ok err = now_sound p q (place_word place) new table' small ok

@@ -5,7 +5,7 @@ pub mod Shapes
 pub mod Filling
 pub mod YoungNumbers
 pub mod Finding
-pub mod ClosedBlocks
+pub mod BesideLarge
 pub mod Places
 pub mod Facts
 pub mod Replacing

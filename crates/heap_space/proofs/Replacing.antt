@@ -18,18 +18,22 @@ use Rattle.layout.specs.Object.{Raw, raw_size}
 use Rattle.layout.specs.Place.{small_word}
 use Rattle.heap_data.specs.HeapValue.{nursery_count}
 use Rattle.heap_data.specs.BlockObjects.{object_of, objects_from, copies_of}
+use Rattle.block_table.specs.Areas.{is_flagged, AreAreas, HasRoom}
 use Rattle.block_table.specs.Installed.{installed}
 use Rattle.block_table.specs.Table.{slot_at, slot_objects, cleared, slot_words, objects_map, young_slot, IsHeapBlock}
 use Rattle.nursery.specs.NurseryValue.{NurseryValue, nursery_room}
 use Rattle.nursery.proofs.Nurseries.{same_nursery}
 use Rattle.heap_space.specs.Nursery.{from_first}
-use Rattle.heap_space.specs.Space.{IsSoundSpace, IsNurseryOf, space_of, rooms_of}
-use Rattle.heap_space.specs.Collecting.{CanReplace, IsReplaced}
+use Rattle.heap_space.specs.Space.{IsSoundSpace, IsFlaggedSpace, IsNurseryOf, space_of, rooms_of}
+use Rattle.heap_space.specs.Collecting.{CanReplace, IsReplaced, StandsYoung, HoldsNone}
+use Rattle.heap_space.proofs.Facts.{first_object}
+use Rattle.std.proofs.lemmas.Bool.{or_left, or_right}
 use Rattle.block_table.proofs.TableLemmas.{TableFits, IsWordOf, word_cases, find-at, find-first}
 use Rattle.block_table.proofs.TableMap.{get-objects_map}
 use Rattle.block_table.proofs.Installed.{installed-all, installed-some, each_fits, find-copies, find-copies_first, EachFits}
+use Rattle.block_table.proofs.AreaTables.{young_inside}
 use Rattle.block_table.proofs.TableSteps.{in_list}
-use Rattle.heap_space.proofs.Sound.{sound_fits, below_all, get_below}
+use Rattle.heap_space.proofs.Sound.{sound_fits, few_blocks, below_all, get_below}
 
 -- two tables with the same blocks hold the same objects
 pub same_objects : (a b : List (Option BlockValue)) → TableFits a → TableFits b → ((n : ℕ) → slot_at a n ≡ slot_at b n) → objects_map a ≡ objects_map b
@@ -73,6 +77,18 @@ older_slot g slot = cond (is_some (young_slot g slot)) None slot
 -- the numbers of the blocks that go: those past the nurseries, of a generation that is collected
 abbrev pub Goes : ℕ → ℕ → List (Option BlockValue) → List ℕ → Type 0
 Goes from g table gone = (n : ℕ) → has gone n ≡ (nat_le from n && is_some (young_slot g (slot_at table n)))
+
+-- the flagged numbers past the nurseries are those of the blocks that go
+pub goes_flagged : (from g : ℕ) (table : List (Option BlockValue)) (areas : List (List Bool)) (gone : List ℕ) → AreAreas table areas → ((n : ℕ) → has gone n ≡ (nat_le from n && is_flagged areas g n)) → Goes from g table gone
+goes_flagged from g table areas gone are each n = each n ∙ ap (λ t. nat_le from n && t) (are.each g n)
+
+-- a table with the same blocks, and flags that mean the same
+pub grown_areas : (old new : List (Option BlockValue)) (areas areas' : List (List Bool)) → ((n : ℕ) → slot_at new n ≡ slot_at old n) → ((g n : ℕ) → is_flagged areas' g n ≡ is_flagged areas g n) → AreAreas old areas → AreAreas new areas'
+grown_areas old new areas areas' same flags are = record { each = λ g n. flags g n ∙ are.each g n ∙ sym (ap (λ o. is_some (young_slot g o)) (same n)) }
+
+-- no flag is set past the last number
+pub few_flagged : (config : Config) (table : List (Option BlockValue)) (nurseries : List NurseryValue) (pool : PoolValue) (areas : List (List Bool)) → IsFlaggedSpace config table nurseries pool areas → (g n : ℕ) → is_flagged areas g n ≡ true → n < 65535
+few_flagged config table nurseries pool areas sound g n is = omega (arith, young_inside table g n (sym (sound.flags.each g n) ∙ is), few_blocks config table nurseries pool sound.space)
 
 both_of : (a b : Bool) → (a && b) ≡ true → (a ≡ true) × (b ≡ true)
 both_of true true h = (refl, refl)
@@ -381,6 +397,66 @@ module _ (config : Config) (old new : List (Option BlockValue)) (nurseries : Lis
       from n word (inr none) = absurd (no_find n q (slot_at new n) o none (sym (found_now n q word) ∙ is))
       from n word (inl found) = from_block n found.0 word (sym (ap (λ s. find nat_cmp q (slot_objects n s)) found.1) ∙ sym (found_now n q word) ∙ is) (now n found.0 found.1)
 
+  no_such_block : {b : BlockValue} → None ≡ Some b → ⊥
+  no_such_block e = cc
+
+  -- where no object stands in a block of the pool there is no block
+  no_slot : (n : ℕ) → nursery_count config ≤ n → ((offset : ℕ) → offset < 512 → get (objects_map new) (small_word n offset) ≡ None) → slot_at new n ≡ None
+  no_slot n le none = go (slot_at new n) refl
+    where
+      go : (slot : Option BlockValue) → slot_at new n ≡ slot → slot_at new n ≡ None
+      go None is = is
+      go (Some b) is =
+          let first = first_object n b (replaced_sound.filled n b le is) in
+          absurd (some_not_none (sym first.1 ∙ sym (found_now n (small_word n 0) (record { low = omega arith; high = omega arith }) ∙ ap (λ s. find nat_cmp (small_word n 0) (slot_objects n s)) is) ∙ none 0 (omega arith)))
+
+  -- a block whose objects are collected held one
+  stood : (n : ℕ) → has gone n ≡ true → StandsYoung (space_of config old nurseries pool) g n
+  stood n h =
+      let parts = both_of (nat_le (nursery_count config) n) (is_some (young_slot g (slot_at old n))) (sym (goes n) ∙ h) in
+      let block = young_some g (slot_at old n) parts.1 in
+      let there = gone_there config old g gone goes n h in
+      let first = first_object n block.0 (sound.filled n block.0 there.0 block.1) in
+      let here : get (objects_map old) (small_word n 0) ≡ Some first.0 = found_before n (small_word n 0) (record { low = omega arith; high = omega arith }) ∙ ap (λ s. find nat_cmp (small_word n 0) (slot_objects n s)) block.1 ∙ first.1 in
+      let generation : first.0.generation ≡ block.0.generation = find-generation (small_word n 0) block.0.generation block.0.step block.0.objects (small_word n 0) first.0 first.1 in
+      record { in_pool = there.0; offset = 0; object = first.0; in_range = omega arith; there = here; young = omega (arith, generation, block.2) }
+
+  -- and the block of an object that is collected is one of these
+  stood_gone : (n : ℕ) → StandsYoung (space_of config old nurseries pool) g n → has gone n ≡ true
+  stood_gone n at = go (slot_at old n) refl
+    where
+      found : find nat_cmp (small_word n at.offset) (slot_objects n (slot_at old n)) ≡ Some at.object
+      found = sym (found_before n (small_word n at.offset) (record { low = omega arith; high = omega (arith, at.in_range) })) ∙ at.there
+
+      from : nat_le (nursery_count config) n ≡ true
+      from = grind (arith, nat_tests, at.in_pool)
+
+      go : (slot : Option BlockValue) → slot_at old n ≡ slot → has gone n ≡ true
+      go None is = absurd (no_find n (small_word n at.offset) (slot_at old n) at.object is found)
+      go (Some b) is =
+          let here : find nat_cmp (small_word n at.offset) (slot_objects n (Some b)) ≡ Some at.object = ap (λ s. find nat_cmp (small_word n at.offset) (slot_objects n s)) (sym is) ∙ found in
+          let generation : at.object.generation ≡ b.generation = find-generation (small_word n 0) b.generation b.step b.objects (small_word n at.offset) at.object here in
+          let young : nat_le b.generation g ≡ true = grind (arith, nat_tests, generation, at.young) in
+          goes n ∙ ap (λ t. t && is_some (young_slot g (slot_at old n))) from ∙ ap (λ s. is_some (young_slot g s)) is ∙ ap (λ t. is_some (cond {A = Option BlockValue} t (Some b) None)) young
+
+  free_now : (n : ℕ) → has pool'.free n ≡ true → ((has pool.free n ≡ true) ⊎ StandsYoung (space_of config old nurseries pool) g n) × HoldsNone (space_of config new reset pool') n
+  free_now n h =
+      let parts = and_not (has gone n || has pool.free n) (is_some (installed blocks n)) (sym (frees n) ∙ h) in
+      (⊎_elim (λ a. inr (stood n a)) (λ f. inl f) (either_of (has gone n) (has pool.free n) parts.0),
+      λ offset lt. found_now n (small_word n offset) (record { low = omega arith; high = omega (arith, lt) }) ∙ ap (λ s. find nat_cmp (small_word n offset) (slot_objects n s)) (now_free n h).2)
+
+  now_again : (n : ℕ) → ((has pool.free n ≡ true) ⊎ StandsYoung (space_of config old nurseries pool) g n) × HoldsNone (space_of config new reset pool') n → has pool'.free n ≡ true
+  now_again n h = ⊎_elim
+      (λ f. here (or_right (has gone n) (has pool.free n) f) (sound.are_free n f).0)
+      (λ at. here (or_left (has gone n) (has pool.free n) (stood_gone n at)) at.in_pool)
+      h.0
+    where
+      here : (has gone n || has pool.free n) ≡ true → nursery_count config ≤ n → has pool'.free n ≡ true
+      here either le = ⊎_elim
+          (λ found. absurd (no_such_block (sym (no_slot n le h.1) ∙ slot_installed n found.0 found.1)))
+          (λ none. frees n ∙ ap (λ t. t && not (is_some (installed blocks n))) either ∙ ap (λ o. true && not (is_some o)) none)
+          (some_or_none (installed blocks n))
+
   reset_room : (m : ℕ) (n : NurseryValue) → slice_get nurseries m ≡ Some n → nursery_room (record n { current = 0 }) new ≡ full_room config.nursery_blocks
   reset_room m n is =
       let was = sound.nurseries m n is in
@@ -399,8 +475,23 @@ module _ (config : Config) (old new : List (Option BlockValue)) (nurseries : Lis
     rooms = reset_rooms nurseries (λ n m is. reset_room m n is) ∙ ap (λ m. replicate m (full_room config.nursery_blocks)) sound.count;
     copies = copies_there;
     older = older_there;
+    free = λ n. (free_now n, now_again n);
     no_others = no_others;
   }
+
+-- a block that is put in was free before
+pub free_before : (config : Config) (table : List (Option BlockValue)) (nurseries : List NurseryValue) (pool : PoolValue) (blocks : List BlockValue) → IsSoundSpace config table nurseries pool → CanReplace (space_of config table nurseries pool) blocks → (n : ℕ) (block : BlockValue) → installed blocks n ≡ Some block → slot_at table n ≡ None
+free_before config table nurseries pool blocks sound can n block is =
+    let found = installed-all (λ b. has pool.free b.number ≡ true) blocks n block can.were_free is in
+    (sound.are_free n (subst (λ m. has pool.free m ≡ true) found.1 found.0)).2
+
+-- there is a flag for each block that is put in
+pub each_room : (areas : List (List Bool)) (blocks : List BlockValue) (end : ℕ) → HasRoom areas end → All (λ b. b.number < end) blocks → All (λ b. HasRoom areas (b.number + 1)) blocks
+each_room areas blocks end room below = λ k d lt. record { each = λ h inside. omega (arith, room.each h inside, below k d lt) }
+
+-- each block that is put in is of a generation of the heap, where it holds an object
+pub each_generation : (config : Config) (table : List (Option BlockValue)) (nurseries : List NurseryValue) (pool : PoolValue) (blocks : List BlockValue) (generations : ℕ) → CanReplace (space_of config table nurseries pool) blocks → generations ≡ config.shape.generations → All (λ b. (b.objects ≡ []) ⊎ (b.generation < generations)) blocks
+each_generation config table nurseries pool blocks generations can same = λ k d lt. ⊎_elim (λ e. inl e) (λ h. let of_shape = h.step.generation in inr (omega (arith, of_shape, same))) (can.sound k d lt)
 
 -- the numbers of blocks that were free are below the number of blocks
 pub free_below : (config : Config) (table : List (Option BlockValue)) (nurseries : List NurseryValue) (pool : PoolValue) (blocks : List BlockValue) → IsSoundSpace config table nurseries pool → CanReplace (space_of config table nurseries pool) blocks → All (λ b. b.number < config.blocks) blocks

@@ -2,25 +2,26 @@
 use Rattle.std.proofs.Common.{◌≡◌, ℕ, ◌+◌, ◌*◌, ◌<◌, ◌≤◌, true, cond, List, length, get_or, Option, Some, None, sum_by, refl, sym, ap, subst, ◌∙◌, arith}
 use Rattle.std.proofs.lemmas.Bool.Decides.{nat_tests}
 use Rattle.std.proofs.lemmas.List.{length-map}
-use Rattle.std.specs.Prelude.{nat_le}
-use Rattle.std.specs.FinMap.{keys}
+use Rattle.std.specs.Prelude.{nat_le, is_some}
+use Rattle.std.specs.Ordering.{nat_cmp}
+use Rattle.std.specs.FinMap.{find, keys}
 use Rattle.model.specs.Graph.{Graph}
 use Rattle.model.specs.Live.{IsYoung}
-use Rattle.model.proofs.Options.{some_is}
+use Rattle.model.proofs.Options.{some_is, some_not_none}
 use Rattle.layout.specs.Object.{Raw}
 use Rattle.layout.specs.Place.{small_word}
 use Rattle.block_pool.specs.BlockValue.{BlockValue}
 use Rattle.block_pool.specs.PoolValue.{PoolValue}
 use Rattle.model.specs.Config.{Config}
 use Rattle.heap_data.specs.CollectionValue.{rank_below, young_names}
-use Rattle.block_table.specs.Table.{slot_len, objects_before, objects_map, young_slot, young_table}
+use Rattle.block_table.specs.Table.{slot_at, slot_objects, slot_len, objects_before, objects_map, young_slot, young_table}
 use Rattle.block_table.proofs.TableLemmas.{TableFits}
-use Rattle.block_table.proofs.YoungBlocks.{young_fits, young_names-table, young_at}
+use Rattle.block_table.proofs.YoungBlocks.{young_fits, young_names-table, young_at, found-generation}
 use Rattle.nursery.specs.NurseryValue.{NurseryValue}
 use Rattle.heap_space.specs.Space.{IsSoundSpace, space_of, graph_in}
 use Rattle.heap_space.specs.Collecting.{AreBases, IsNumbered}
 use Rattle.heap_space.proofs.Sound.{sound_fits, few_blocks}
-use Rattle.block_table.proofs.Located.{Begins, IsBeginning, begins_at, object_found, rank_is, count_is, few_objects, number_in_range, number_names, covered}
+use Rattle.block_table.proofs.Located.{Begins, IsBeginning, begins_at, object_found, rank_is, count_is, few_objects, number_in_range, number_names, at_word}
 
 module _ (config : Config) (table : List (Option BlockValue)) (nurseries : List NurseryValue) (pool : PoolValue) (sound : IsSoundSpace config table nurseries pool) (g : ℕ) where
   abbrev graph : Graph
@@ -95,10 +96,19 @@ module _ (config : Config) (table : List (Option BlockValue)) (nurseries : List 
       let below = are.covers number offset (omega (arith, lt)) is in
       (below, are.each number below ∙ young_rank number)
 
-  pub are_bases : (bases : List ℕ) → length bases ≡ length table → ((b : ℕ) → b < length table → get_or bases b 0 ≡ objects_before young b) → AreBases (space_of config table nurseries pool) g bases
-  are_bases bases len each = record {
-    each = λ block lt. each block (omega (arith, len)) ∙ sym (young_rank block);
-    covers = λ block offset lt is.
-        let below = covered table (sound_fits config table nurseries pool sound) (few_blocks config table nurseries pool sound) block offset lt (rw is.there refl) in
-        omega (arith, below, len);
+  -- where an object of a generation that is collected stands, its block is of it
+  young_block : (block offset : ℕ) → offset < 65536 → IsYoung graph g (small_word block offset) → is_some (young_slot g (slot_at table block)) ≡ true
+  young_block block offset lt is = of_slot (slot_at table block) (sym (at_word table (sound_fits config table nurseries pool sound) (few_blocks config table nurseries pool sound) block offset lt) ∙ is.there)
+    where
+      of_slot : (slot : Option BlockValue) → find nat_cmp (small_word block offset) (slot_objects block slot) ≡ Some is.object → is_some (young_slot g slot) ≡ true
+      of_slot None found = absurd (some_not_none (sym found))
+      of_slot (Some b) found =
+          let same : is.object.generation ≡ b.generation = found-generation block (small_word block offset) b is.object found in
+          let yes : nat_le b.generation g ≡ true = grind (arith, nat_tests, same, is.young) in
+          ap (λ t. is_some (cond {A = Option BlockValue} t (Some b) None)) yes
+
+  pub are_bases : (bases : List ℕ) → ((b : ℕ) → is_some (young_slot g (slot_at table b)) ≡ true → b < length bases) → ((b : ℕ) → b < length bases → get_or bases b 0 ≡ objects_before young b) → AreBases (space_of config table nurseries pool) g bases
+  are_bases bases covers each = record {
+    each = λ block lt. each block lt ∙ sym (young_rank block);
+    covers = λ block offset lt is. covers block (young_block block offset lt is);
   }

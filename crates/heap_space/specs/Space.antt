@@ -1,5 +1,5 @@
 -- What contracts see of the blocks of a heap, and what holds of them inside.
-use Rattle.std.specs.Prelude.{◌≡◌, ℕ, ◌+◌, ◌*◌, ◌-◌, ◌/◌, ◌<◌, ◌≤◌, List, map, Option, Some, None, true, slice_get, slice_set, length, option_and_then, All, refl}
+use Rattle.std.specs.Prelude.{◌≡◌, ℕ, ◌+◌, ◌*◌, ◌-◌, ◌/◌, ◌<◌, ◌≤◌, Bool, List, map, Option, Some, None, true, slice_get, slice_set, length, option_and_then, All, refl}
 use Rattle.std.specs.List.Sorted.{IsStrictlyIncreasing}
 use Rattle.std.specs.Ordering.{nat_cmp}
 use Rattle.std.specs.FinMap.{FinMap, empty, get, insert, code}
@@ -16,6 +16,7 @@ use Rattle.block_pool.specs.BlockValue.{BlockValue}
 use Rattle.block_pool.specs.PoolValue.{PoolValue}
 use Rattle.steps.specs.ConfigRange.{IsInRange}
 use Rattle.heap_data.specs.HeapValue.{room_code, nursery_count}
+use Rattle.block_table.specs.Areas.{AreAreas}
 use Rattle.block_table.specs.Table.{slot_at, objects_map, IsHeapBlock}
 use Rattle.nursery.specs.NurseryValue.{NurseryValue, nursery_room, IsNursery}
 
@@ -65,6 +66,12 @@ pub record IsSoundSpace (config : Config) (table : List (Option BlockValue)) (fi
   pub limit : pool.limit ≡ config.blocks
   pub are_free : (n : ℕ) → has pool.free n ≡ true → (nursery_count config ≤ n) × (n < config.blocks) × (slot_at table n ≡ None)
   pub all_free : (n : ℕ) → nursery_count config ≤ n → n < config.blocks → slot_at table n ≡ None → has pool.free n ≡ true
+
+-- the flags are those of the blocks, for each generation of the shape
+pub record IsFlaggedSpace (config : Config) (table : List (Option BlockValue)) (filling : List NurseryValue) (pool : PoolValue) (areas : List (List Bool)) : Type 0 where
+  pub space : IsSoundSpace config table filling pool
+  pub flags : AreAreas table areas
+  pub generations : length areas ≡ config.shape.generations
 
 -- no object yet: the blocks after those of the nurseries are free
 abbrev pub empty_space : Config → SpaceValue

@@ -15,17 +15,16 @@ ghost use Rattle.heap_data.specs.Words.{IsShownAs};
 ghost use Rattle.heap_data.specs.CensusView.{step_value};
 ghost use Rattle.heap_data.specs.SlotView.{slot_value};
 ghost use Rattle.heap_data.specs.CollectionValue.{young_names, field_slot_of};
-ghost use Rattle.block_table.specs.TableGraph.{slots_at};
+ghost use Rattle.heap_graph.specs.HeapGraph.{slots_at};
 ghost use Rattle.heap_space.specs.Space.{SpaceAllocates, empty_space, room_in, graph_in, IsSpace};
 ghost use Rattle.heap_space.specs.Collecting.{AreBases, IsNumbered, CanReplace, IsReplaced};
 
+use crate::no_large::NoLarge;
 use crate::nurseries::{nurseries_of, nursery_table, reset_all};
 use block_pool::{Block, Pool, RankedSet};
-use block_table::{
-    Table, bases, block_object, count_remembered, count_step, end_of, exchange, grow, is_holder,
-    object_from, ordinal_at, push_slots_of, set_plain, set_pointer, step_at, young_blocks,
-};
+use block_table::{AreaFlags, Table, add_blocks, areas_of, bases, block_object, count_step, end_of, exchange, grow, object_from, ordinal_at, remove_blocks, set_plain, set_pointer, step_at, young_blocks};
 use heap_data::{Slot, StepCount};
+use heap_graph::{count_remembered, is_holder, push_slots_of};
 use layout::{ObjectRef, Place};
 use nursery::Nursery;
 use std::alloc::{AllocError, Allocator, Global};
@@ -51,10 +50,13 @@ pub struct Space<A: Allocator = Global> {
     // One for each mutator.
     nurseries: Vec<Nursery, A>,
     pool: Pool<A>,
+    // By generation the numbers of the blocks, so that a collection needn't look at the others.
+    areas: AreaFlags<A>,
+    large: NoLarge<A>,
 }
 
 impl<A: Allocator> Model for Space<A> {
-    ghost use Rattle.heap_space.specs.Space.{SpaceValue, space_code, space_of, IsSoundSpace};
+    ghost use Rattle.heap_space.specs.Space.{SpaceValue, space_code, space_of, IsFlaggedSpace};
 
     ghost Value = { SpaceValue };
 
@@ -62,7 +64,7 @@ impl<A: Allocator> Model for Space<A> {
 
     ghost view = { λ s. space_of s.config s.table.items s.nurseries.items s.pool };
 
-    ghost invariant = { λ s. IsSoundSpace s.config s.table.items s.nurseries.items s.pool };
+    ghost invariant = { λ s. IsFlaggedSpace s.config s.table.items s.nurseries.items s.pool s.areas };
 }
 
 /// How many blocks the nurseries take together.
@@ -81,7 +83,9 @@ impl<A: Allocator + Clone> Space<A> {
     {
         let count = nursery_blocks(config);
         let table = nursery_table(alloc.clone()?, count, config.block_words())?;
+        let areas = areas_of(alloc.clone()?, &table, config.generations())?;
         let nurseries = nurseries_of(alloc.clone()?, config.mutators(), config.nursery_blocks())?;
+        let large = NoLarge::new(alloc.clone()?)?;
         let mut pool = Pool::new(alloc.clone()?, config.blocks() as u32)?;
         let Ok(_granted) = pool.grant(alloc, count) else {
             return Err(AllocError);
@@ -91,6 +95,8 @@ impl<A: Allocator + Clone> Space<A> {
             table,
             nurseries,
             pool,
+            areas,
+            large,
         })
     }
 
@@ -218,7 +224,7 @@ impl<A: Allocator + Clone> Space<A> {
         requires { IsClosed (graph_in self.now) }
         ensures { result ≡ count_by (points_younger (get self.now.objects)) (values self.now.objects) }
     {
-        count_remembered(&self.table)
+        count_remembered(&self.table, self.large.table())
     }
 
     /// Puts the pointers of the object of generation `h` at a place, where there is one, at the end of the slots, those
@@ -234,7 +240,7 @@ impl<A: Allocator + Clone> Space<A> {
         ensures { OnOk result (map slot_value slots.new.items ≡ map slot_value slots.old.items
             ++ map field_slot_of (slots_at (graph_in self.now) g h (place_word place))) }
     {
-        push_slots_of(slots, &self.table, g, h, place)
+        push_slots_of(slots, &self.table, self.large.table(), g, h, place)
     }
 
     /// Whether the object at a place is of generation `h` and has a pointer to an object of a younger one.
@@ -242,7 +248,7 @@ impl<A: Allocator + Clone> Space<A> {
         requires { IsClosed (graph_in self.now) }
         ensures { result ≡ is_holder (graph_in self.now) h (place_word place) }
     {
-        is_holder(&self.table, h, place)
+        is_holder(&self.table, self.large.table(), h, place)
     }
 
     /// The number of the first object of generation at most `g` of each block, and how many such objects there are.
@@ -250,7 +256,7 @@ impl<A: Allocator + Clone> Space<A> {
         ensures bases { IfOk result (λ r. AreBases self.now g r.0.items) }
         ensures all { IfOk result (λ r. r.1 ≡ length (young_names (graph_in self.now) g)) }
     {
-        let found = bases(alloc, &self.table, g)?;
+        let found = bases(alloc, &self.table, &self.areas, g)?;
         Ok(found)
     }
 
@@ -324,9 +330,12 @@ impl<A: Allocator + Clone> Space<A> {
         ensures err { OnErr result (self.new ≡ self.old) }
     {
         let count = nursery_blocks(self.config);
-        let old = young_blocks(alloc, &self.table, count, g)?;
+        let old = young_blocks(alloc, &self.areas, count, g)?;
         let end = end_of(&blocks);
         grow(&mut self.table, end)?;
+        self.areas.reserve(end)?;
+        remove_blocks(&mut self.areas, &old);
+        add_blocks(&mut self.areas, &blocks);
         exchange(&mut self.table, &mut self.pool, count, &old, blocks);
         reset_all(&mut self.nurseries);
         Ok(())

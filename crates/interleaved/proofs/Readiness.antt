@@ -1,13 +1,13 @@
 -- What the calls of each worker may rely on.
-use Rattle.std.proofs.Common.{◌≡◌, ℕ, ◌/◌, ◌<◌, ◌≤◌, true, [], length, map, Option, Some, None, refl, sym, subst, arith}
+use Rattle.std.proofs.Common.{◌≡◌, ℕ, ◌<◌, ◌≤◌, true, [], length, map, Option, Some, None, refl, sym, subst, arith}
 use Rattle.std.specs.Prelude.{IsSome}
 use Rattle.std.specs.Option.{option_map_or}
-use Rattle.model.specs.Graph.{Object, object_at, size_of}
+use Rattle.model.specs.Graph.{Object, object_at}
 use Rattle.model.specs.Live.{IsYoung}
 use Rattle.model.specs.Destination.{dest_count}
 use Rattle.heap_data.specs.HeapValue.{HeapValue}
 use Rattle.heap_data.specs.CollectionValue.{CollectionValue, target_of_slot}
-use Rattle.heap.proofs.SoundHeap.{heap_object}
+use Rattle.heap.proofs.SoundHeap.{heap_fields}
 use Rattle.workers.specs.Setting.{is_collected, destination_of, old_pointers}
 use Rattle.workers.specs.Joined.{Roomy}
 use Rattle.workers.specs.Ready.{IsReady}
@@ -46,18 +46,15 @@ module _ (heap : HeapValue) (c : CollectionValue) (ready : IsReadyToCollect heap
 
     pub few_of : m.workspace.worker.fields < 4294967296
     few_of =
-        let l : m.workspace.worker.fields ≤ 512 = few_fields (setting_for heap c n) m.workspace.worker ready_of 512 few in
+        let l : m.workspace.worker.fields ≤ 100000 = few_fields (setting_for heap c n) m.workspace.worker ready_of 100000 few in
         omega arith
       where
-        few : (name : ℕ) → length (old_pointers (setting_for heap c n) name) ≤ 512
+        few : (name : ℕ) → length (old_pointers (setting_for heap c n) name) ≤ 100000
         few name = go (object_at heap.graph name) refl
           where
-            go : (o : Option Object) → object_at heap.graph name ≡ o → length (option_map_or (λ (x : Object). x.pointers) o []) ≤ 512
+            go : (o : Option Object) → object_at heap.graph name ≡ o → length (option_map_or (λ (x : Object). x.pointers) o []) ≤ 100000
             go None e = omega arith
-            go (Some o) e =
-                let s : size_of o ≤ heap.config.block_words / 4 = (heap_object heap ready.sound name o e).small in
-                let b = ready.range.most_words in
-                omega arith
+            go (Some o) e = heap_fields heap ready.sound name o e
 
     -- what is proposed is young
     pub young_of : IsSome m.workspace.worker.proposal → IsYoung heap.graph c.generation (name_of m.workspace.worker.proposal)

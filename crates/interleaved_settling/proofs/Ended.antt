@@ -1,12 +1,10 @@
 -- Where all workers ended: what they hold may be committed.
-use Rattle.std.proofs.Common.{◌≡◌, ℕ, ◌<◌, ◌≤◌, Bool, true, false, List, length, map, Option, Some, None, refl, sym, ap, subst, ◌∙◌, arith, cond}
-use Rattle.std.proofs.lemmas.Bool.{true≢false}
+use Rattle.std.proofs.Common.{◌≡◌, ℕ, ◌<◌, ◌≤◌, List, length, map, Option, Some, None, refl, sym, ap, subst, ◌∙◌, arith}
 use Rattle.std.proofs.lemmas.List.{length-map}
-use Rattle.std.specs.Prelude.{flat_map, slice_index, slice_index_or}
-use Rattle.std.specs.Option.{option_map, option_map_or}
+use Rattle.std.specs.Prelude.{flat_map, slice_index}
+use Rattle.std.specs.Option.{option_map}
 use Rattle.std.specs.Ordering.{nat_cmp}
 use Rattle.std.specs.FinMap.{find}
-use Rattle.model.specs.Graph.{Object, object_at, is_large}
 use Rattle.model.specs.Live.{IsYoung}
 use Rattle.model.proofs.LiveLemmas.{Live-young}
 use Rattle.layout.specs.declared.place.Place.{Place}
@@ -16,9 +14,8 @@ use Rattle.heap_data.specs.ReportValue.{WorkerLists, all_won, renaming_of}
 use Rattle.heap_data.specs.HeapValue.{HeapValue}
 use Rattle.heap_data.specs.CollectionValue.{CollectionValue, young_names}
 use Rattle.heap_data.specs.SettledValue.{IsSettled}
-use Rattle.heap.proofs.SoundHeap.{heap_empty, heap_object}
+use Rattle.heap.proofs.SoundHeap.{heap_empty}
 use Rattle.plain_cells.specs.Plain.{place_of, place_held}
-use Rattle.workers.specs.Setting.{is_large_name}
 use Rattle.workers.specs.Worker.{Worker}
 use Rattle.workers.specs.Total.{times, wins_of, ones}
 use Rattle.workers.specs.Joined.{Each, blocks_of}
@@ -29,11 +26,12 @@ use Rattle.workers.specs.Alone.{RunBrings, AreEmpty}
 use Rattle.workers.proofs.RunBrings.{ended_brings}
 use Rattle.workers.proofs.Reached.{reached_left}
 use Rattle.workers.proofs.Kept.{kept}
-use Rattle.scavenge.specs.Slots.{cell_of, seen}
 use Rattle.settling.specs.Brings.{left_blocks}
 use Rattle.settling.proofs.Bridge.{settled}
 use Rattle.interleaved.proofs.Starts.{has_starts, targets_live}
-use Rattle.serial_settling.proofs.SettleBrings.{stands_has, times-places, not_below}
+use Rattle.serial_settling.specs.Settling.{shown_after}
+use Rattle.serial_settling.proofs.ShownLarge.{shown_in, places_show}
+use Rattle.serial_settling.proofs.SettleBrings.{stands_has, times-places}
 use Rattle.serial_settling.proofs.SettleWhole.{held_place}
 use Rattle.interleaved.specs.InterleavedValue.{InterleavedValue, MemberValue, worker_of, system_of, setting_in, targets_in, destinations_in}
 use Rattle.interleaved.specs.IsInterleaved.{IsInterleaved}
@@ -91,28 +89,21 @@ module _ (v : InterleavedValue) (k : IsInterleaved v) (ended : AllEnded (system_
         young = each_name (IsYoung v.heap.graph v.collection.generation) m.workspace.worker.won (λ name l. young name (let a = wins_among name (system_of v).workers t m.workspace.worker (get-map worker_of v.members t m at) in omega (arith, l, a)));
       })
 
-  -- each cell holds the place of its name: no object is large
-  cells_show : (number : ℕ) → number < v.collection.cells → option_map place_word (place_held v.cells.held number) ≡ placed (slice_index (young_names v.heap.graph v.collection.generation) number)
-  cells_show number lt = by_size (is_large_name (seen v.heap v.collection) name) refl ∙ k.cells.shown name number (record { in_range = lt; is = refl })
-    where
-      name : ℕ
-      name = slice_index (young_names v.heap.graph v.collection.generation) number
-
-      small : (o : Option Object) → object_at v.heap.graph name ≡ o → option_map_or (is_large v.heap.config.block_words) o false ≡ false
-      small None e = refl
-      small (Some o) e = not_below _ _ (heap_object v.heap k.ready.sound name o e).small
-
-      by_size : (b : Bool) → is_large_name (seen v.heap v.collection) name ≡ b → option_map place_word (place_held v.cells.held number) ≡ cell_of (seen v.heap v.collection) (Some name) (place_held v.cells.held number)
-      by_size true e = absurd (true≢false (sym e ∙ small (object_at v.heap.graph name) refl))
-      by_size false e = ap (λ t. option_map (λ place. cond t name (place_word place)) (place_held v.cells.held number)) (sym e)
-
   module _ (reports : List WorkerLists) (blocks : List BlockValue) (b : AreBrought v.heap v.collection v.members reports blocks) where
     renamed_is : renaming_of (young_names v.heap.graph v.collection.generation) (all_won reports) ≡ all_of (λ (w : Worker). w.won)
     renamed_is = renamed_joined (young_names v.heap.graph v.collection.generation) reports ∙ ap joined_lists b.reported.won ∙ sym (joined_map (λ (w : Worker). w.won) (system_of v).workers)
 
+    -- each cell shows the place of its name, once the large objects that were won stand at their own places
+    cells_show : (number : ℕ) → number < v.collection.cells
+        → shown_after number (all_won reports) (option_map place_word (place_held v.cells.held number)) ≡ placed (slice_index (young_names v.heap.graph v.collection.generation) number)
+    cells_show number lt =
+        places_show v.heap v.collection k.ready.sound k.ready.opened v.workers placed brings.parts parts_kept (all_won reports) (renamed_is ∙ sym won_is) b.numbers number lt (place_held v.cells.held number)
+        (k.cells.shown (slice_index (young_names v.heap.graph v.collection.generation) number) number (record { in_range = lt; is = refl }))
+
     -- what they hold may be committed
-    pub settles : (places : List (Option Place)) → places ≡ map place_of v.cells.held → IsSettled v.heap v.collection places blocks (all_won reports)
-    settles places are =
+    pub settles : (held places : List (Option Place)) → held ≡ map place_of v.cells.held → length places ≡ length held → ((number : ℕ) → shown_in places number ≡ shown_after number (all_won reports) (shown_in held number))
+        → IsSettled v.heap v.collection places blocks (all_won reports)
+    settles held places are count shown =
         settled v.heap v.collection v.workers placed brings.parts places blocks (all_won reports)
         (record {
           opened = k.ready.opened;
@@ -124,8 +115,8 @@ module _ (v : InterleavedValue) (k : IsInterleaved v) (ended : AllEnded (system_
           drawn_free = λ number l. stands_has number v.heap.free (brings.drawn number l);
           won_are = renamed_is ∙ sym won_is;
           numbers = b.numbers;
-          places_count = ap length are ∙ length-map v.cells.held place_of ∙ k.cells.count;
-          places_are = λ number lt. ap (λ ps. option_map place_word (slice_index_or ps number None)) are ∙ ap (option_map place_word) (held_place v.cells.held number) ∙ cells_show number lt;
+          places_count = count ∙ ap length are ∙ length-map v.cells.held place_of ∙ k.cells.count;
+          places_are = λ number lt. shown number ∙ ap (λ ps. shown_after number (all_won reports) (shown_in ps number)) are ∙ ap (λ h. shown_after number (all_won reports) (option_map place_word h)) (held_place v.cells.held number) ∙ cells_show number lt;
         })
 
     -- each name was won once, and each place that was won was scanned once
@@ -142,6 +133,10 @@ module _ (v : InterleavedValue) (k : IsInterleaved v) (ended : AllEnded (system_
         at_most_one : (o : Option ℕ) → ones o ≤ 1
         at_most_one None = omega arith
         at_most_one (Some x) = omega arith
+
+-- there is a place for each cell
+pub held_count : (v : InterleavedValue) → IsInterleaved v → (held : List (Option Place)) → held ≡ map place_of v.cells.held → length held ≡ v.collection.cells
+held_count v k held are = ap length are ∙ length-map v.cells.held place_of ∙ k.cells.count
 
 -- the same, of the heap, the collection and the members that the calls have
 module _ (v : InterleavedValue) (heap : HeapValue) (c : CollectionValue) (members : List MemberValue) (same_heap : heap ≡ v.heap) (same_collection : c ≡ v.collection) (same_members : members ≡ v.members) where

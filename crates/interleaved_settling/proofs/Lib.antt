@@ -4,3 +4,4 @@ pub mod Parted
 pub mod EndedLists
 pub mod Ended
 pub mod Delivered
+pub mod ShownAll

@@ -1,5 +1,7 @@
 //! What the workers bring to the commit of their collection.
-ghost use Rattle.std.specs.Prelude.{◌≡◌, ◌↔◌, Err, IfOk, OnOk};
+ghost use Rattle.std.specs.Prelude.{◌≡◌, ◌<◌, ◌↔◌, ℕ, All, Err, IfOk, None, OnOk, length, slice_index_or};
+ghost use Rattle.std.specs.Option.{option_map};
+ghost use Rattle.layout.specs.Place.{place_word};
 ghost use Rattle.heap_data.specs.CollectionValue.{IsOpened};
 ghost use Rattle.heap_data.specs.ReportValue.{all_won};
 ghost use Rattle.heap_data.specs.SettledValue.{IsSettled};
@@ -9,6 +11,7 @@ ghost use Rattle.interleaved.specs.InterleavedValue.{system_of};
 ghost use Rattle.interleaved.specs.IsInterleaved.{HasReached};
 ghost use Rattle.collector.specs.Collects.{ScansOnce};
 ghost use Rattle.collector.specs.Together.{Reports};
+ghost use Rattle.serial_settling.specs.Settling.{shown_after};
 ghost use Rattle.interleaved_settling.specs.Telling.{IsAtRest, IsPartOf, AreBrought};
 
 use crate::settle_error::SettleError;
@@ -16,8 +19,9 @@ use crate::told::all_delivered;
 use block_pool::Block;
 use heap::{Collection, Heap, Settled, WorkerReport};
 use interleaved::{InterleavedCollection, InterleavedParts, Member};
+use layout::Place;
 use scavenge::{Parts, Workspace};
-use serial_settling::{in_one_list, numbered, places_in};
+use serial_settling::{in_one_list, numbered, places_in, show_large};
 use std::alloc::{AllocError, Allocator};
 
 /// One worker's report, and the blocks that it leaves.
@@ -65,6 +69,18 @@ fn brought<A: Allocator + Clone>(
     Ok((reports, blocks))
 }
 
+/// Puts each large object that some worker won at its own place, where its cell shows a claim. Takes no memory.
+fn show_all<A: Allocator>(places: &mut [Option<Place>], reports: &[WorkerReport<A>])
+    requires { All (λ e. e.0 < length places.now) (all_won reports.now) }
+    ensures count { length places.new ≡ length places.old }
+    ensures shown { (number : ℕ) → option_map place_word (slice_index_or places.new number None)
+        ≡ shown_after number (all_won reports.now) (option_map place_word (slice_index_or places.old number None)) }
+{
+    for report in reports {
+        show_large(places, report.won());
+    }
+}
+
 /// What the workers, who all ended, bring to the commit of their collection. An error says that memory ran out.
 fn gathered<A: Allocator + Clone>(
     alloc: A,
@@ -89,7 +105,8 @@ fn gathered<A: Allocator + Clone>(
     } = workers.into_parts();
     let n = members.len() as u32;
     let (reports, blocks) = brought(alloc.clone()?, heap, &collection, members)?;
-    let places = places_in(alloc.clone()?, cells, pass)?;
+    let mut places = places_in(alloc.clone()?, cells, pass)?;
+    show_all(&mut places, &reports);
     let told = queues.close(alloc.clone()?, Vec::new(alloc.clone()?))?;
     let deliveries = all_delivered(alloc, &told, n)?;
     Ok(Settled {

@@ -5,6 +5,19 @@ ghost use Rattle.number_sets.specs.Words.{bits_of, AreRanks};
 
 use std::alloc::{AllocError, Allocator};
 
+/// How many flags of a word are set. Most words of a set have all of them, or none.
+fn flags_in(word: u64) -> u32
+    ensures { result ≡ count_ones word }
+{
+    if word == u64::MAX {
+        return 64;
+    }
+    if word == 0 {
+        return 0;
+    }
+    word.count_ones()
+}
+
 /// How many members stand in the words before each word. An error says that memory ran out.
 pub(crate) fn counts_before<A: Allocator>(
     alloc: A,
@@ -17,7 +30,7 @@ pub(crate) fn counts_before<A: Allocator>(
     let mut count = 0;
     for word in words {
         before.push(count)?;
-        count += word.count_ones();
+        count += flags_in(*word);
     }
     Ok(before)
 }

@@ -24,7 +24,7 @@ use Rattle.heap_data.specs.ReportValue.{renaming_of}
 use Rattle.heap_data.specs.SettledValue.{IsSettled}
 use Rattle.heap_data.specs.CollectedHeap.{CollectedHeap}
 use Rattle.heap_data.specs.Remembered.{CoversYounger, RemembersExactly, is_holder, object_of_generation}
-use Rattle.block_table.proofs.HeldObjects.{held}
+use Rattle.heap_graph.proofs.HeldObjects.{held}
 use Rattle.heap_space.specs.Space.{SpaceValue, IsSpace, graph_in}
 use Rattle.heap_commit.specs.Ended.{IsEnded}
 use Rattle.heap_commit.specs.HeapView.{heap_of, heap_with}

@@ -17,8 +17,8 @@ use Rattle.model.proofs.KeyLists.{has_key}
 use Rattle.model.proofs.OldSlotsExact.{entry_found}
 use Rattle.model.proofs.RisingKeys.{keys-rise, entries-rise}
 use Rattle.heap_data.specs.Remembered.{object_of_generation, is_holder}
-use Rattle.block_table.specs.TableGraph.{slots_at}
-use Rattle.block_table.proofs.HeldObjects.{held}
+use Rattle.heap_graph.specs.HeapGraph.{slots_at}
+use Rattle.heap_graph.proofs.HeldObjects.{held}
 use Rattle.remembering.proofs.SameSupport.{same_support}
 
 neither : (a b : Bool) → (a || b) ≡ false → (a ≡ false) × (b ≡ false)

@@ -14,7 +14,7 @@ use Rattle.layout.specs.Place.{small_word}
 use Rattle.block_pool.specs.BlockValue.{BlockValue, offset_of}
 use Rattle.heap_data.specs.BlockObjects.{object_of, block_objects, copies_of}
 use Rattle.heap_data.specs.Words.{target_of_word}
-use Rattle.block_table.proofs.FieldSlots.{length-entries, entry_is}
+use Rattle.heap_graph.proofs.FieldSlots.{length-entries, entry_is}
 use Rattle.remembered_set.specs.Sets.{members_of}
 use Rattle.remembering.specs.Growth.{AreGrown}
 use Rattle.remembering.specs.Noted.{IsNoted, AreNoted, IsNotedAt}

@@ -6,7 +6,7 @@ ghost use Rattle.layout.specs.Place.{place_word};
 ghost use Rattle.heap_data.specs.CollectionValue.{field_slot_of};
 ghost use Rattle.heap_data.specs.Remembered.{CoversYounger};
 ghost use Rattle.heap_data.specs.SlotView.{slot_value};
-ghost use Rattle.block_table.specs.TableGraph.{slots_at};
+ghost use Rattle.heap_graph.specs.HeapGraph.{slots_at};
 ghost use Rattle.heap_space.specs.Space.{graph_in};
 
 use heap_data::Slot;

@@ -1,12 +1,12 @@
 -- A race of the worker, as its cells end it, is a race of the system.
-use Rattle.std.proofs.Common.{◌≡◌, ◌≢◌, ℕ, ◌/◌, ◌<◌, ◌≤◌, cond, List, [], ◌∷◌, ◌++◌, Option, Some, None, Result, Ok, Err, refl, sym, ap, subst, ◌∙◌, ⊎_elim, length, arith, is_some, true≢false, eq-eqb, ne_eqb}
+use Rattle.std.proofs.Common.{◌≡◌, ◌≢◌, ℕ, ◌<◌, ◌≤◌, cond, List, [], ◌∷◌, ◌++◌, Option, Some, None, Result, Ok, Err, refl, sym, ap, subst, ◌∙◌, ⊎_elim, length, arith, is_some, true≢false, eq-eqb, ne_eqb}
 use Rattle.std.proofs.lemmas.Bool.{cases_eq, cond-true, cond-false}
 use Rattle.std.specs.Prelude.{IsSome, OnOk, OnErr, slice_index, if◌then◌else◌}
 use Rattle.std.specs.Option.{option_map_or}
 use Rattle.std.specs.Ordering.{nat_cmp}
 use Rattle.std.specs.Cmp.{unsigned_tied}
 use Rattle.std.specs.FinMap.{find}
-use Rattle.model.specs.Graph.{Object, object_at, size_of}
+use Rattle.model.specs.Graph.{Object, object_at}
 use Rattle.model.specs.Live.{IsYoung}
 use Rattle.model.specs.OldSlots.{is_young_name}
 use Rattle.model.proofs.RisingKeys.{same_index, keys-filter_rise}
@@ -27,7 +27,7 @@ use Rattle.workers.specs.System.{System, Race, opening_worker}
 use Rattle.workers.proofs.Acts.{ProposalFit}
 use Rattle.workers.proofs.Kept.{collected-young}
 use Rattle.workers.proofs.ReadyLemmas.{few_fields}
-use Rattle.heap.proofs.SoundHeap.{heap_object}
+use Rattle.heap.proofs.SoundHeap.{heap_fields}
 use Rattle.workers.proofs.Starts.{opens}
 use Rattle.workers.proofs.SystemFalls.{Sound, run_sound}
 use Rattle.workers.proofs.SystemParts.{find-new}
@@ -49,18 +49,15 @@ sound_of v k = run_sound (setting_in v) (opening_worker (destinations_in v) 1 (t
 
 pub few_of : (v : SerialValue) → IsSerial v → v.workspace.worker.fields < 4294967296
 few_of v k =
-    let l : v.workspace.worker.fields ≤ 512 = few_fields (setting_in v) v.workspace.worker (ready_of v k) 512 few in
+    let l : v.workspace.worker.fields ≤ 100000 = few_fields (setting_in v) v.workspace.worker (ready_of v k) 100000 few in
     omega arith
   where
-    few : (name : ℕ) → length (old_pointers (setting_in v) name) ≤ 512
+    few : (name : ℕ) → length (old_pointers (setting_in v) name) ≤ 100000
     few name = go (object_at v.heap.graph name) refl
       where
-        go : (o : Option Object) → object_at v.heap.graph name ≡ o → length (option_map_or (λ (x : Object). x.pointers) o []) ≤ 512
+        go : (o : Option Object) → object_at v.heap.graph name ≡ o → length (option_map_or (λ (x : Object). x.pointers) o []) ≤ 100000
         go None e = omega arith
-        go (Some o) e =
-            let s : size_of o ≤ v.heap.config.block_words / 4 = (heap_object v.heap k.ready.sound name o e).small in
-            let m = k.ready.range.most_words in
-            omega arith
+        go (Some o) e = heap_fields v.heap k.ready.sound name o e
 
 -- what is proposed is young
 pub young_of : (v : SerialValue) → IsSerial v → IsSome v.workspace.worker.proposal → IsYoung v.heap.graph v.collection.generation (name_of v.workspace.worker.proposal)

@@ -1,3 +1,4 @@
 pub mod SettleBrings
 pub mod SettleLists
 pub mod SettleWhole
+pub mod ShownLarge

@@ -1,11 +1,9 @@
 -- A worker that is out of work, with an empty queue, has ended its collection: what it holds may be committed.
-use Rattle.std.proofs.Common.{◌≡◌, ℕ, zero, suc, ◌+◌, ◌<◌, ◌≤◌, Bool, true, false, cond, List, [], ◌∷◌, ◌++◌, length, map, Option, Some, None, refl, sym, ap, subst, ◌∙◌, arith, nat_eq, nat_lt, eqb-true}
-use Rattle.std.proofs.lemmas.Bool.{true≢false}
+use Rattle.std.proofs.Common.{◌≡◌, ℕ, zero, suc, ◌+◌, ◌<◌, ◌≤◌, Bool, true, false, List, [], ◌∷◌, ◌++◌, length, map, Option, Some, None, refl, sym, ap, subst, ◌∙◌, arith, nat_eq, eqb-true}
 use Rattle.std.specs.Prelude.{All, IsTrue, slice_index, slice_index_or}
-use Rattle.std.specs.Option.{option_map, option_map_or}
+use Rattle.std.specs.Option.{option_map}
 use Rattle.std.specs.Ordering.{nat_cmp}
 use Rattle.std.specs.FinMap.{find}
-use Rattle.model.specs.Graph.{Object, object_at, is_large}
 use Rattle.model.specs.Live.{Live}
 use Rattle.model.specs.Reached.{has}
 use Rattle.model.proofs.Has.{has_head, has_tail}
@@ -15,9 +13,8 @@ use Rattle.block_pool.specs.BlockValue.{BlockValue}
 use Rattle.heap_data.specs.ReportValue.{renaming_of}
 use Rattle.heap_data.specs.CollectionValue.{young_names}
 use Rattle.heap_data.specs.SettledValue.{IsSettled}
-use Rattle.heap.proofs.SoundHeap.{heap_empty, heap_object}
+use Rattle.heap.proofs.SoundHeap.{heap_empty}
 use Rattle.plain_cells.specs.Plain.{place_held}
-use Rattle.workers.specs.Setting.{is_large_name}
 use Rattle.workers.specs.Worker.{Worker}
 use Rattle.workers.specs.WorkerSteps.{IsOutOfWork}
 use Rattle.workers.specs.System.{System, Idle, End}
@@ -31,13 +28,13 @@ use Rattle.workers.proofs.OneMore.{reached_more}
 use Rattle.workers.proofs.RunBrings.{ended_brings}
 use Rattle.workers.proofs.Kept.{kept}
 use Rattle.to_space.specs.Named.{named, IsWhole}
-use Rattle.scavenge.specs.Slots.{cell_of}
 use Rattle.settling.specs.Brings.{left_blocks}
 use Rattle.settling.proofs.Bridge.{settled}
 use Rattle.serial.specs.SerialValue.{SerialValue, lane_of, waiting_in, system_of, setting_in, targets_in, destinations_in}
 use Rattle.serial.specs.IsSerial.{IsSerial}
 use Rattle.serial.proofs.Starts.{has_starts, targets_live}
-use Rattle.serial_settling.specs.Settling.{ScansWhatItWon}
+use Rattle.serial_settling.specs.Settling.{ScansWhatItWon, shown_after}
+use Rattle.serial_settling.proofs.ShownLarge.{places_show}
 
 append_nil : {A : Type 0} (xs : List A) → xs ++ [] ≡ xs
 append_nil [] = refl
@@ -54,9 +51,6 @@ stands_has x (y ∷ ys) l = by_test (nat_eq y x) refl (stands_has x ys)
 pub times-places : (place : ℕ) (won : List (ℕ × ℕ)) → times place (map (λ e. e.1) won) ≡ total (λ (q : ℕ × ℕ). one_if (nat_eq q.1 place)) won
 times-places place [] = refl
 times-places place (e ∷ es) = ap (λ n. one_if (nat_eq e.1 place) + n) (times-places place es)
-
-pub not_below : (a b : ℕ) → b ≤ a → nat_lt a b ≡ false
-not_below a b l = grind arith
 
 module _ (v : SerialValue) (k : IsSerial v) (r : IsReached (setting_in v) (destinations_in v) 1 (targets_in v) v.heap.free (system_of v)) (out : IsOutOfWork v.workspace.worker) (queue : waiting_in (lane_of v) ≡ []) where
   -- the worker is idle, and has ended
@@ -159,17 +153,9 @@ module _ (v : SerialValue) (k : IsSerial v) (r : IsReached (setting_in v) (desti
         places_are = shown;
       })
 
-  -- each cell holds the place of its name: no object is large
-  pub cells_show : (number : ℕ) → number < v.collection.cells → option_map place_word (place_held v.cells.held number) ≡ placed (slice_index (young_names v.heap.graph v.collection.generation) number)
-  cells_show number lt = by_size (is_large_name (setting_in v) name) refl ∙ k.cells.shown name number (record { in_range = lt; is = refl })
-    where
-      name : ℕ
-      name = slice_index (young_names v.heap.graph v.collection.generation) number
-
-      small : (o : Option Object) → object_at v.heap.graph name ≡ o → option_map_or (is_large v.heap.config.block_words) o false ≡ false
-      small None e = refl
-      small (Some o) e = not_below _ _ (heap_object v.heap k.ready.sound name o e).small
-
-      by_size : (b : Bool) → is_large_name (setting_in v) name ≡ b → option_map place_word (place_held v.cells.held number) ≡ cell_of (setting_in v) (Some name) (place_held v.cells.held number)
-      by_size true e = absurd (true≢false (sym e ∙ small (object_at v.heap.graph name) refl))
-      by_size false e = ap (λ t. option_map (λ place. cond t name (place_word place)) (place_held v.cells.held number)) (sym e)
+  -- each cell shows the place of its name, once the large objects that were won stand at their own places
+  pub cells_show : (won : List (ℕ × ℕ)) → renaming_of (young_names v.heap.graph v.collection.generation) won ≡ v.workspace.worker.won → All (λ e. e.0 < v.collection.cells) won → (number : ℕ) → number < v.collection.cells
+      → shown_after number won (option_map place_word (place_held v.cells.held number)) ≡ placed (slice_index (young_names v.heap.graph v.collection.generation) number)
+  cells_show won renames numbers number lt =
+      places_show v.heap v.collection k.ready.sound k.ready.opened 1 placed brings.parts parts_kept won (renames ∙ sym won_is) numbers number lt (place_held v.cells.held number)
+      (k.cells.shown (slice_index (young_names v.heap.graph v.collection.generation) number) number (record { in_range = lt; is = refl }))

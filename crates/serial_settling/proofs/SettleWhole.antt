@@ -30,7 +30,8 @@ use Rattle.to_space.specs.Fronts.{slot_at}
 use Rattle.scavenge.specs.Shown.{pair_of}
 use Rattle.serial.specs.SerialValue.{SerialValue, lane_of, waiting_in, system_of, setting_in, targets_in, destinations_in}
 use Rattle.serial.specs.IsSerial.{IsSerial}
-use Rattle.serial_settling.specs.Settling.{IsReportOf, ScansWhatItWon, exports_of}
+use Rattle.serial_settling.specs.Settling.{IsReportOf, ScansWhatItWon, exports_of, shown_after}
+use Rattle.serial_settling.proofs.ShownLarge.{shown_in}
 use Rattle.serial_settling.proofs.SettleBrings.{won_live, settles, cells_show, scans_won}
 
 -- what holds of each name that is found holds of each name
@@ -79,17 +80,22 @@ module _ (v : SerialValue) (k : IsSerial v) (heap : HeapValue) (c : CollectionVa
   pub renames_at_end : (won : List (ℕ × ℕ)) → renaming_of (young_names heap.graph c.generation) won ≡ v.workspace.worker.won → renaming_of (young_names v.heap.graph v.collection.generation) won ≡ v.workspace.worker.won
   renames_at_end won is = ap (λ (h : HeapValue). renaming_of (young_names h.graph v.collection.generation) won) (sym e.heap_is) ∙ ap (λ (x : CollectionValue). renaming_of (young_names heap.graph x.generation) won) (sym e.collection_is) ∙ is
 
-  pub settled_at_end : (allocation : List (Option BlockValue)) (done blocks : List BlockValue) (won : List (ℕ × ℕ)) (places : List (Option Place))
+  pub settled_at_end : (allocation : List (Option BlockValue)) (done blocks : List BlockValue) (won : List (ℕ × ℕ)) (held places : List (Option Place))
       → map (option_map (named v.workspace.config.shape)) allocation ≡ v.workspace.worker.allocation → map (named v.workspace.config.shape) done ≡ v.workspace.worker.done
       → ((d : ℕ) → OnSome (IsWhole v.workspace.config.shape v.workspace.config.block_words) (slot_at allocation d)) → Each (IsWhole v.workspace.config.shape v.workspace.config.block_words) done
-      → blocks ≡ somes allocation ++ done → renaming_of (young_names heap.graph c.generation) won ≡ v.workspace.worker.won → All (λ p. p.0 < c.cells) won → places ≡ map place_of v.cells.held
+      → blocks ≡ somes allocation ++ done → renaming_of (young_names heap.graph c.generation) won ≡ v.workspace.worker.won → All (λ p. p.0 < c.cells) won
+      → held ≡ map place_of v.cells.held → length places ≡ length held → ((number : ℕ) → shown_in places number ≡ shown_after number won (shown_in held number))
       → IsSettled v.heap c places blocks won
-  settled_at_end allocation done blocks won places a d aw dw blocks_are renames numbers places_are =
+  settled_at_end allocation done blocks won held places a d aw dw blocks_are renames numbers held_are count shown =
       subst (λ (x : CollectionValue). IsSettled v.heap x places blocks won) (sym e.collection_is)
-      (settles v k e.reached e.out e.queue places blocks won named_are whole (renames_at_end won renames) (subst (λ (x : CollectionValue). All (λ (p : ℕ × ℕ). p.0 < x.cells) won) e.collection_is numbers)
-      (ap length places_are ∙ length-map v.cells.held place_of ∙ k.cells.count)
-      (λ number lt. ap (λ ps. option_map place_word (slice_index_or ps number None)) places_are ∙ ap (option_map place_word) (held_place v.cells.held number) ∙ cells_show v k e.reached e.out e.queue number lt))
+      (settles v k e.reached e.out e.queue places blocks won named_are whole (renames_at_end won renames) in_cells
+      (count ∙ ap length held_are ∙ length-map v.cells.held place_of ∙ k.cells.count)
+      (λ number lt. shown number ∙ ap (λ ps. shown_after number won (shown_in ps number)) held_are ∙ ap (λ h. shown_after number won (option_map place_word h)) (held_place v.cells.held number)
+      ∙ cells_show v k e.reached e.out e.queue won (renames_at_end won renames) in_cells number lt))
     where
+      in_cells : All (λ (p : ℕ × ℕ). p.0 < v.collection.cells) won
+      in_cells = subst (λ (x : CollectionValue). All (λ (p : ℕ × ℕ). p.0 < x.cells) won) e.collection_is numbers
+
       named_by : map (named v.workspace.config.shape) blocks ≡ blocks_of v.workspace.worker
       named_by =
           ap (map (named v.workspace.config.shape)) blocks_are ∙ map-append (named v.workspace.config.shape) (somes allocation) done
@@ -100,6 +106,10 @@ module _ (v : SerialValue) (k : IsSerial v) (heap : HeapValue) (c : CollectionVa
 
       whole : Each (IsWhole v.heap.config.shape v.heap.config.block_words) blocks
       whole = subst (λ config. Each (IsWhole config.shape config.block_words) blocks) k.config (subst (Each (IsWhole v.workspace.config.shape v.workspace.config.block_words)) (sym blocks_are) (somes_each (IsWhole v.workspace.config.shape v.workspace.config.block_words) allocation done aw dw))
+
+  -- there is a place for each cell
+  pub held_count : (held : List (Option Place)) → held ≡ map place_of v.cells.held → length held ≡ c.cells
+  held_count held are = ap length are ∙ length-map v.cells.held place_of ∙ k.cells.count ∙ ap (λ (x : CollectionValue). x.cells) (sym e.collection_is)
 
   pub scans_at_end : ScansWhatItWon v.workspace.worker
   scans_at_end = scans_won v k e.reached e.out e.queue

@@ -3,4 +3,4 @@
 
 mod settled;
 
-pub use settled::{in_one_list, numbered, places_in, settle};
+pub use settled::{in_one_list, numbered, places_in, settle, show_large};

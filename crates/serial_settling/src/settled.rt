@@ -1,5 +1,6 @@
 //! What the worker brings to the commit of its collection.
-ghost use Rattle.std.specs.Prelude.{◌≡◌, ◌<◌, ◌++◌, ◌∷◌, [], All, IfOk, OnOk, length, map};
+ghost use Rattle.std.specs.Prelude.{◌≡◌, ◌<◌, ◌++◌, ◌∷◌, [], ℕ, All, IfOk, OnOk, None, length, map, slice_index_or};
+ghost use Rattle.std.specs.Option.{option_map};
 ghost use Rattle.layout.specs.Place.{place_word};
 ghost use Rattle.model.specs.Live.{IsYoung};
 ghost use Rattle.heap_data.specs.CollectionValue.{IsOpened, young_names};
@@ -13,7 +14,7 @@ ghost use Rattle.workers.specs.Finish.{IsReached};
 ghost use Rattle.workers.specs.WorkerSteps.{IsOutOfWork};
 ghost use Rattle.scavenge.specs.Shown.{pair_of};
 ghost use Rattle.serial.specs.SerialValue.{lane_of, waiting_in, system_of, setting_in, targets_in, destinations_in};
-ghost use Rattle.serial_settling.specs.Settling.{IsReportOf, ScansWhatItWon, deliveries_of, own_deliveries, exports_of};
+ghost use Rattle.serial_settling.specs.Settling.{IsReportOf, ScansWhatItWon, deliveries_of, own_deliveries, exports_of, shown_after};
 
 use block_pool::Block;
 use copies::Copies;
@@ -81,6 +82,20 @@ pub fn places_in<A: Allocator + Clone>(
     match cells.settle(alloc, passes) {
         Ok(forwards) => Ok(forwards.into_places()),
         Err(_) => Err(AllocError),
+    }
+}
+
+/// Puts each large object that was won at its own place, where its cell shows a claim. Takes no memory.
+pub fn show_large(places: &mut [Option<Place>], won: &[Won])
+    requires { All (λ e. e.0 < length places.now) (map won_value won.now) }
+    ensures count { length places.new ≡ length places.old }
+    ensures shown { (number : ℕ) → option_map place_word (slice_index_or places.new number None)
+        ≡ shown_after number (map won_value won.now) (option_map place_word (slice_index_or places.old number None)) }
+{
+    for win in won {
+        if let Place::Large(_) = win.place {
+            places[win.number as usize] = Some(win.place);
+        }
     }
 }
 
@@ -161,7 +176,8 @@ pub fn settle<A: Allocator + Clone>(
     } = workspace.into_parts();
     let won = numbered(alloc.clone()?, heap, &collection, &won)?;
     let blocks = in_one_list(alloc.clone()?, allocation, done)?;
-    let places = places_in(alloc.clone()?, cells, pass)?;
+    let mut places = places_in(alloc.clone()?, cells, pass)?;
+    show_large(&mut places, &won);
     let deliveries = exported(alloc.clone()?, queues, seat)?;
     let workers = reported(alloc, won, scanned)?;
     Ok(Settled {

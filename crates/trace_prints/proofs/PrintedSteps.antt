@@ -1,11 +1,13 @@
 -- What a census and a collection do to a session that stands for a store.
-use Rattle.std.proofs.Common.{◌≡◌, ℕ, ◌<◌, true, List, Option, refl, ap, subst, ◌∙◌, codes}
+use Rattle.std.proofs.Common.{◌≡◌, ℕ, ◌<◌, ◌≤◌, true, false, Err, arith, List, Option, refl, ap, subst, ◌∙◌, codes}
 use Rattle.std.specs.Prelude.{nat_lt}
 use Rattle.std.specs.Io.KnownBytes.{Appends}
 use Rattle.std.proofs.lemmas.Bool.{lt-ltb}
+use Rattle.std.proofs.lemmas.Bool.Decides.{nat_tests}
 use Rattle.model.specs.Config.{Config}
 use Rattle.model.specs.Text.{census_text, collection_line}
 use Rattle.model.specs.Store.{Store, collected, kept_count, freed_count, store_census}
+use Rattle.model.specs.declared.kind.Kind.TheVariants.{NoGeneration}
 use Rattle.model.specs.Commands.{Collect, Census}
 use Rattle.heap.specs.HeapValue.{HeapValue}
 use Rattle.heap.specs.Commands.{heap_census}
@@ -51,6 +53,12 @@ module _ (heap : HeapValue) (names : List (List ℕ × ℕ)) (config : Config) (
   pub collect_sound : (g : ℕ) → g < heap.config.shape.generations → IsSoundCommand config store (Collect g)
   collect_sound g in_range =
       let known : nat_lt g config.shape.generations ≡ true = lt-ltb g config.shape.generations (rw (← stands.config_is) in_range) in
+      rw known refl
+
+  -- past the last generation it is a fault
+  pub collect_nowhere : (g : ℕ) → heap.config.shape.generations ≤ g → command_step config store (Collect g) ≡ Err NoGeneration
+  collect_nowhere g past =
+      let known : nat_lt g config.shape.generations ≡ false = grind (arith, nat_tests, past, ap (λ (c : Config). c.shape.generations) stands.config_is) in
       rw known refl
 
   -- where the heap is short of blocks a collection may be refused

@@ -1,6 +1,13 @@
+use Rattle.std.proofs.Common.{◌-◌, ◌≤◌, length}
 use Rattle.block_table.specs.Table.{young_table}
 use Rattle.block_table.proofs.TableReads.{HasCounted}
 use Rattle.block_table.proofs.counts.bases.Given as goal
 
-abbrev pub invariant-loop-slot : goal.invariant-loop-slot
-invariant-loop-slot g l = HasCounted (young_table l.g l.table) l.bases.items l.slot-index l.objects
+abbrev pub invariant-loop-number : goal.invariant-loop-number
+invariant-loop-number g l = record {
+  so_far : HasCounted (young_table l.g l.table) l.bases.items (length l.bases.items) l.objects;
+  within : length l.bases.items ≤ length l.table;
+}
+
+abbrev pub decreases-loop-number : goal.decreases-loop-number
+decreases-loop-number g l = length l.table - length l.bases.items

@@ -1,11 +1,13 @@
-use Rattle.std.proofs.Common.{◌≤◌}
-use Rattle.std.specs.Prelude.{is_some}
-use Rattle.block_table.specs.Table.{slot_at, young_slot}
+use Rattle.std.proofs.Common.{◌≤◌, ◌-◌}
+use Rattle.block_table.specs.Areas.{is_flagged}
 use Rattle.block_table.proofs.Numbers.{HasNumbers}
 use Rattle.block_table.proofs.counts.young_blocks.Given as goal
 
 abbrev pub invariant-loop-number : goal.invariant-loop-number
 invariant-loop-number g l = record {
-  so_far : HasNumbers (λ n. is_some (young_slot l.g (slot_at l.table n))) l.from l.number l.numbers.items;
-  low : l.from ≤ l.number;
+  so_far : HasNumbers (is_flagged l.areas l.g) l.from l.next l.numbers.items;
+  low : l.from ≤ l.next;
 }
+
+abbrev pub decreases-loop-number : goal.decreases-loop-number
+decreases-loop-number g l = 65535 - l.next

@@ -1,4 +1,4 @@
-use Rattle.std.proofs.Common.{◌≡◌, All, length, map, sym, ap, subst, ◌∙◌, arith}
+use Rattle.std.proofs.Common.{◌≡◌, ℕ, ◌<◌, All, length, map, sym, ap, subst, ◌∙◌, arith}
 use Rattle.std.specs.Prelude.{IsSome}
 use Rattle.std.proofs.lemmas.List.{length-map}
 use Rattle.exports.specs.declared.deliveries.Delivery.{Delivery as Outcome}
@@ -11,7 +11,9 @@ use Rattle.plain_queues.specs.PlainValue.{PlainValue as PlainQueuesValue}
 use Rattle.interleaved.specs.InterleavedValue.{system_of}
 use Rattle.collector.specs.Together.{AreDelivered}
 use Rattle.interleaved_settling.specs.Telling.{all_deliveries}
-use Rattle.interleaved_settling.proofs.Ended.{at_rest_in, brought_in, settles, scans_once, nothing_left}
+use Rattle.interleaved_settling.proofs.Ended.{at_rest_in, brought_in, held_count, settles, scans_once, nothing_left}
+use Rattle.serial_settling.specs.Settling.{shown_after}
+use Rattle.serial_settling.proofs.ShownLarge.{shown_in, written_back}
 use Rattle.interleaved.specs.Handed.{CopiesKeyValue}
 use Rattle.interleaved_settling.proofs.Delivered.{told_is, each_taken, delivered}
 use Rattle.interleaved_settling.proofs.settled.gathered.Goals as goal
@@ -30,12 +32,26 @@ pub all_delivered-requires-clause-taken : goal.all_delivered-requires-clause-tak
 all_delivered-requires-clause-taken g c =
     subst (All (λ es. All (λ (e : Outcome). IsSome e.taker) es)) (sym (told_is c.args.workers c.into_parts-cells.result.queues c.in_ok-told.told c.into_parts-cells.ensures.queues (c.in_ok-told.ensures ∙ ap (λ (q : PlainQueuesValue CopiesKeyValue). map outcomes_of q.lanes) c.queues.view_is))) (each_taken c.args.workers c.into_parts-cells.ensures.interleaved c.requires.ended)
 
+pub show_all-requires : goal.show_all-requires
+show_all-requires g c =
+    let count : length c.deref_mut.result.now ≡ c.args.workers.collection.cells =
+    ap length c.deref_mut.ensures.value
+    ∙ held_count c.args.workers c.into_parts-cells.ensures.interleaved c.in_ok-places.places.items (c.in_ok-places.ensures ∙ ap (λ (k : PlainCellsValue). map place_of k.held) c.into_parts-cells.ensures.cells) in
+    subst (λ rs. All (λ (e : ℕ × ℕ). e.0 < length c.deref_mut.result.now) (all_won rs)) (sym c.deref.ensures.value)
+    (subst (λ n. All (λ (e : ℕ × ℕ). e.0 < n) (all_won c.in_ok-reports.reports.items)) (sym count)
+    (brought_in c.args.workers c.args.heap.now c.args.collection c.into_parts-cells.result.members.items c.requires.heap c.requires.collection c.into_parts-cells.ensures.members c.in_ok-reports.reports.items c.in_ok-reports.blocks.items c.in_ok-reports.ensures).numbers)
+
 pub returns-clause-settled : goal.returns-clause-settled
 returns-clause-settled g c =
-    subst (λ d. IsSettled c.args.workers.heap d c.in_ok-places.places.items c.in_ok-reports.blocks.items (all_won c.in_ok-reports.reports.items)) (sym c.requires.collection)
+    let count : length c.show_all.new.places ≡ length c.in_ok-places.places.items = c.show_all.ensures.count ∙ ap length c.deref_mut.ensures.value in
+    let all : c.in_ok-places.places.len ≡ length c.in_ok-places.places.items = c.in_ok-places.places.ok.0 in
+    let shown : (number : ℕ) → shown_in c.show_all.new.places number ≡ shown_after number (all_won c.in_ok-reports.reports.items) (shown_in c.in_ok-places.places.items number) =
+    λ number. c.show_all.ensures.shown number ∙ ap (λ rs. shown_after number (all_won rs) (shown_in c.deref_mut.result.now number)) c.deref.ensures.value ∙ ap (λ ps. shown_after number (all_won c.in_ok-reports.reports.items) (shown_in ps number)) c.deref_mut.ensures.value in
+    subst (λ ps. IsSettled c.args.workers.heap c.args.collection ps c.in_ok-reports.blocks.items (all_won c.in_ok-reports.reports.items)) (sym (written_back c.show_all.new.places c.in_ok-places.places.items c.in_ok-places.places.len all count))
+    (subst (λ d. IsSettled c.args.workers.heap d c.show_all.new.places c.in_ok-reports.blocks.items (all_won c.in_ok-reports.reports.items)) (sym c.requires.collection)
     (settles c.args.workers c.into_parts-cells.ensures.interleaved c.requires.ended c.in_ok-reports.reports.items c.in_ok-reports.blocks.items
     (brought_in c.args.workers c.args.heap.now c.args.collection c.into_parts-cells.result.members.items c.requires.heap c.requires.collection c.into_parts-cells.ensures.members c.in_ok-reports.reports.items c.in_ok-reports.blocks.items c.in_ok-reports.ensures)
-    c.in_ok-places.places.items (c.in_ok-places.ensures ∙ ap (λ (k : PlainCellsValue). map place_of k.held) c.into_parts-cells.ensures.cells))
+    c.in_ok-places.places.items c.show_all.new.places (c.in_ok-places.ensures ∙ ap (λ (k : PlainCellsValue). map place_of k.held) c.into_parts-cells.ensures.cells) count shown))
 
 pub returns-clause-once : goal.returns-clause-once
 returns-clause-once g c =

@@ -17,7 +17,7 @@ loop-word-init g c =
 pub overflow_add-count : goal.overflow_add-count
 overflow_add-count g c =
     let below : get_or c.args.words.now c.loop-word.word-index 0 < 2 ^ 64 = search rules in
-    omega (arith, c.loop-word.invariant.count_is, rank-le c.args.words.now c.loop-word.word-index, ones-le 64 _ below, c.requires, c.loop-word-test.true)
+    omega (arith, c.flags_in-count.ensures, c.loop-word.invariant.count_is, rank-le c.args.words.now c.loop-word.word-index, ones-le 64 _ below, c.requires, c.loop-word-test.true)
 
 pub loop-word-preserved : goal.loop-word-preserved
 loop-word-preserved g c =
@@ -38,6 +38,7 @@ loop-word-preserved g c =
           ]
           );
       count_is =
-          ap (λ n. n + count_ones (get_or c.args.words.now c.loop-word.word-index 0)) c.loop-word.invariant.count_is
+          ap (λ n. c.loop-word.count + n) c.flags_in-count.ensures
+          ∙ ap (λ n. n + count_ones (get_or c.args.words.now c.loop-word.word-index 0)) c.loop-word.invariant.count_is
           ∙ sym (rank-more c.args.words.now c.loop-word.word-index _ c.loop-word-test.true refl below);
     }

@@ -2,8 +2,8 @@ use Rattle.std.proofs.Common.{◌<◌, get_or, map, sym, ap, ◌∙◌, take_all
 use Rattle.std.specs.Prelude.{is_some}
 use Rattle.std.specs.List.{list_any}
 use Rattle.heap_data.specs.Words.{target_of_word}
-use Rattle.block_table.proofs.GraphObjects.{target-some}
-use Rattle.block_table.proofs.Remembering.{any-more, any-here}
+use Rattle.heap_graph.proofs.GraphObjects.{target-some}
+use Rattle.heap_graph.proofs.Remembering.{any-more, any-here}
 use Rattle.remembering.proofs.copies.has_pointer.Goals as goal
 
 pub returns-then-word-ne0 : goal.returns-then-word-ne0

@@ -4,7 +4,7 @@ use Rattle.model.specs.Destination.{numbers_from}
 use Rattle.model.specs.OldSlots.{slots_of_generation}
 use Rattle.heap_data.specs.CollectionValue.{field_slot_of}
 use Rattle.heap_data.specs.SlotView.{slot_value}
-use Rattle.block_table.proofs.FieldSlots.{pushed_more, pushed_none, generations-more}
+use Rattle.heap_graph.proofs.FieldSlots.{pushed_more, pushed_none, generations-more}
 use Rattle.heap_space.specs.Space.{graph_in}
 use Rattle.remembering.proofs.old_slots.push_old_slots.Goals as goal
 

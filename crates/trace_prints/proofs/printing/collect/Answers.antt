@@ -1,5 +1,5 @@
 use Rattle.std.proofs.Common.{Err, refl, ap, arith}
-use Rattle.trace_prints.proofs.PrintedSteps.{steps_collect, collect_full, collect_sound}
+use Rattle.trace_prints.proofs.PrintedSteps.{steps_collect, collect_full, collect_sound, collect_nowhere}
 use Rattle.trace_prints.proofs.printing.collect.Goals as goal
 
 pub returns-in-Ok-write_collection-clause-ok : goal.returns-in-Ok-write_collection-clause-ok
@@ -7,6 +7,15 @@ returns-in-Ok-write_collection-clause-ok g c = λ config store stands.
     steps_collect _ _ config store stands c.args.generation _ _ _ _ _ _ _ c.in-Ok-collect_one.ensures.ok
     (omega (arith, c.if-generation-generations.false, c.generations.ensures.value, ap (λ x. x.shape.generations) c.config.ensures))
     c.in-Ok-write_collection.ensures.bytes
+
+pub returns-then-generation-generations-clause-err : goal.returns-then-generation-generations-clause-err
+returns-then-generation-generations-clause-err g c = (
+  refl,
+  λ config store stands.
+      collect_nowhere _ _ config store stands c.args.generation
+      (omega (arith, c.if-generation-generations.true, c.generations.ensures.value, ap (λ x. x.shape.generations) c.config.ensures)),
+  refl,
+)
 
 pub returns-in-Err-HeapFull-clause-err : goal.returns-in-Err-HeapFull-clause-err
 returns-in-Err-HeapFull-clause-err g c = (

@@ -1,14 +1,18 @@
 use Rattle.std.proofs.Common.{sym, ◌∙◌}
+use Rattle.heap_space.proofs.Sound.{few_blocks}
 use Rattle.heap_space.proofs.YoungNumbers.{are_bases, young_count}
 use Rattle.heap_space.proofs.space.Space.bases.Goals as goal
 
+pub bases-requires : goal.bases-requires
+bases-requires g c = record { short = rw c.deref.ensures.value (few_blocks _ _ _ _ c.self.invariant.space); areas = rw c.deref.ensures.value c.self.invariant.flags }
+
 pub returns-clause-bases : goal.returns-clause-bases
 returns-clause-bases g c =
-    let len = rw c.deref.ensures.value at c.in_ok-found.ensures.len in
+    let covers = rw c.deref.ensures.value at c.in_ok-found.ensures.covers in
     let each = rw c.deref.ensures.value at c.in_ok-found.ensures.bases in
-    rw (← c.self.view_is) (are_bases _ _ _ _ c.self.invariant c.args.g c.in_ok-found.found.0.items len each)
+    rw (← c.self.view_is) (are_bases _ _ _ _ c.self.invariant.space c.args.g c.in_ok-found.found.0.items covers each)
 
 pub returns-clause-all : goal.returns-clause-all
 returns-clause-all g c =
     let all = rw c.deref.ensures.value at c.in_ok-found.ensures.all in
-    rw (← c.self.view_is) (all ∙ sym (young_count _ _ _ _ c.self.invariant c.args.g))
+    rw (← c.self.view_is) (all ∙ sym (young_count _ _ _ _ c.self.invariant.space c.args.g))

@@ -15,54 +15,54 @@ no_some (Some x) e h = cc
 pub unreachable-requires : goal.unreachable-requires
 unreachable-requires g c =
     let there = rw (← c.self.view_is, c.in_default.is) at c.requires.there in
-    no_some _ (large_none c.self.inside.table.items (sound_fits _ _ _ _ c.self.invariant) (few_blocks _ _ _ _ c.self.invariant) c.in_default.field-0.number) there
+    no_some _ (large_none c.self.inside.table.items (sound_fits _ _ _ _ c.self.invariant.space) (few_blocks _ _ _ _ c.self.invariant.space) c.in_default.field-0.number) there
 
 pub object_from-object-requires : goal.object_from-object-requires
 object_from-object-requires g c =
     let there = rw (← c.self.view_is, c.in-Small.is) at c.requires.there in
-    let found = beginning _ _ _ _ c.self.invariant c.in-Small.at.block c.in-Small.at.offset c.in-Small.at.offset_in_range there in
+    let found = beginning _ _ _ _ c.self.invariant.space c.in-Small.at.block c.in-Small.at.offset c.in-Small.at.offset_in_range there in
     let has : HasObjectAt c.self.inside.table.items c.in-Small.at.block c.in-Small.at.offset = record { block = found.begins.block; ordinal = found.ordinal; there = found.begins.there; in_block = found.begins.in_block; at = found.begins.at } in
     rw c.deref.ensures.value has
 
 pub step_at-step-requires : goal.step_at-step-requires
 step_at-step-requires g c =
     let there = rw (← c.self.view_is, c.in-Small.is) at c.requires.there in
-    record { in_range = rw c.deref-2.ensures.value (covered c.self.inside.table.items (sound_fits _ _ _ _ c.self.invariant) (few_blocks _ _ _ _ c.self.invariant) c.in-Small.at.block c.in-Small.at.offset (omega (arith, c.in-Small.at.offset_in_range)) there) }
+    record { in_range = rw c.deref-2.ensures.value (covered c.self.inside.table.items (sound_fits _ _ _ _ c.self.invariant.space) (few_blocks _ _ _ _ c.self.invariant.space) c.in-Small.at.block c.in-Small.at.offset (omega (arith, c.in-Small.at.offset_in_range)) there) }
 
 pub returns-then-step-g-clause-object : goal.returns-then-step-g-clause-object
 returns-then-step-g-clause-object g c =
     let there = rw (← c.self.view_is, c.in-Small.is) at c.requires.there in
     let read = rw c.deref.ensures.value at c.object_from-object.ensures in
     let stands = rw c.deref-2.ensures.value at c.step_at-step.ensures in
-    rw (← c.self.view_is, c.in-Small.is) (shown _ _ _ _ c.self.invariant c.in-Small.at.block c.in-Small.at.offset c.in-Small.at.offset_in_range there c.object_from-object.result c.step_at-step.result read stands)
+    rw (← c.self.view_is, c.in-Small.is) (shown _ _ _ _ c.self.invariant.space c.in-Small.at.block c.in-Small.at.offset c.in-Small.at.offset_in_range there c.object_from-object.result c.step_at-step.result read stands)
 
 pub returns-then-step-g-clause-step : goal.returns-then-step-g-clause-step
 returns-then-step-g-clause-step g c =
     let there = rw (← c.self.view_is, c.in-Small.is) at c.requires.there in
     let read = rw c.deref.ensures.value at c.object_from-object.ensures in
     let stands = rw c.deref-2.ensures.value at c.step_at-step.ensures in
-    rw (← c.self.view_is, c.in-Small.is) (at_step _ _ _ _ c.self.invariant c.in-Small.at.block c.in-Small.at.offset c.in-Small.at.offset_in_range there c.object_from-object.result c.step_at-step.result read stands)
+    rw (← c.self.view_is, c.in-Small.is) (at_step _ _ _ _ c.self.invariant.space c.in-Small.at.block c.in-Small.at.offset c.in-Small.at.offset_in_range there c.object_from-object.result c.step_at-step.result read stands)
 
 pub returns-clause-object : goal.returns-clause-object
 returns-clause-object g c =
     let there = rw (← c.self.view_is, c.in-Small.is) at c.requires.there in
     let read = rw c.deref.ensures.value at c.object_from-object.ensures in
     let stands = rw c.deref-2.ensures.value at c.step_at-step.ensures in
-    rw (← c.self.view_is, c.in-Small.is) (shown _ _ _ _ c.self.invariant c.in-Small.at.block c.in-Small.at.offset c.in-Small.at.offset_in_range there c.object_from-object.result c.step_at-step.result read stands)
+    rw (← c.self.view_is, c.in-Small.is) (shown _ _ _ _ c.self.invariant.space c.in-Small.at.block c.in-Small.at.offset c.in-Small.at.offset_in_range there c.object_from-object.result c.step_at-step.result read stands)
 
 pub returns-clause-step : goal.returns-clause-step
 returns-clause-step g c =
     let there = rw (← c.self.view_is, c.in-Small.is) at c.requires.there in
     let read = rw c.deref.ensures.value at c.object_from-object.ensures in
     let stands = rw c.deref-2.ensures.value at c.step_at-step.ensures in
-    rw (← c.self.view_is, c.in-Small.is) (at_step _ _ _ _ c.self.invariant c.in-Small.at.block c.in-Small.at.offset c.in-Small.at.offset_in_range there c.object_from-object.result c.step_at-step.result read stands)
+    rw (← c.self.view_is, c.in-Small.is) (at_step _ _ _ _ c.self.invariant.space c.in-Small.at.block c.in-Small.at.offset c.in-Small.at.offset_in_range there c.object_from-object.result c.step_at-step.result read stands)
 
 pub returns-then-step-g-clause-number : goal.returns-then-step-g-clause-number
 returns-then-step-g-clause-number g c =
     let there = rw (← c.self.view_is, c.in-Small.is) at c.requires.there in
     let read = rw c.deref.ensures.value at c.object_from-object.ensures in
     let stands = rw c.deref-2.ensures.value at c.step_at-step.ensures in
-    rw (← c.self.view_is, c.in-Small.is) (not_young _ _ _ _ c.self.invariant c.in-Small.at.block c.in-Small.at.offset c.in-Small.at.offset_in_range there c.object_from-object.result c.step_at-step.result read stands c.args.g c.if-step-g.true)
+    rw (← c.self.view_is, c.in-Small.is) (not_young _ _ _ _ c.self.invariant.space c.in-Small.at.block c.in-Small.at.offset c.in-Small.at.offset_in_range there c.object_from-object.result c.step_at-step.result read stands c.args.g c.if-step-g.true)
 
 pub bounds-bases-number : goal.bounds-bases-number
 bounds-bases-number g c =
@@ -71,7 +71,7 @@ bounds-bases-number g c =
     let stands = rw c.deref-2.ensures.value at c.step_at-step.ensures in
     let bases = rw (← c.self.view_is) at c.requires.bases in
     let le : c.step_at-step.result.generation ≤ c.args.g = omega (arith, c.if-step-g.false) in
-    (sum_is _ _ _ _ c.self.invariant c.in-Small.at.block c.in-Small.at.offset c.in-Small.at.offset_in_range there c.object_from-object.result c.step_at-step.result read stands c.args.g c.args.bases.now le bases).0
+    (sum_is _ _ _ _ c.self.invariant.space c.in-Small.at.block c.in-Small.at.offset c.in-Small.at.offset_in_range there c.object_from-object.result c.step_at-step.result read stands c.args.g c.args.bases.now le bases).0
 
 pub overflow_add-named : goal.overflow_add-named
 overflow_add-named g c =
@@ -80,7 +80,7 @@ overflow_add-named g c =
     let stands = rw c.deref-2.ensures.value at c.step_at-step.ensures in
     let bases = rw (← c.self.view_is) at c.requires.bases in
     let le : c.step_at-step.result.generation ≤ c.args.g = omega (arith, c.if-step-g.false) in
-    omega (arith, (sum_is _ _ _ _ c.self.invariant c.in-Small.at.block c.in-Small.at.offset c.in-Small.at.offset_in_range there c.object_from-object.result c.step_at-step.result read stands c.args.g c.args.bases.now le bases).1, sum_few _ _ _ _ c.self.invariant c.in-Small.at.block c.in-Small.at.offset c.in-Small.at.offset_in_range there c.object_from-object.result c.step_at-step.result read stands c.args.g le)
+    omega (arith, (sum_is _ _ _ _ c.self.invariant.space c.in-Small.at.block c.in-Small.at.offset c.in-Small.at.offset_in_range there c.object_from-object.result c.step_at-step.result read stands c.args.g c.args.bases.now le bases).1, sum_few _ _ _ _ c.self.invariant.space c.in-Small.at.block c.in-Small.at.offset c.in-Small.at.offset_in_range there c.object_from-object.result c.step_at-step.result read stands c.args.g le)
 
 pub returns-clause-number : goal.returns-clause-number
 returns-clause-number g c =
@@ -89,4 +89,4 @@ returns-clause-number g c =
     let stands = rw c.deref-2.ensures.value at c.step_at-step.ensures in
     let bases = rw (← c.self.view_is) at c.requires.bases in
     let le : c.step_at-step.result.generation ≤ c.args.g = omega (arith, c.if-step-g.false) in
-    rw (← c.self.view_is, c.in-Small.is) (young_here _ _ _ _ c.self.invariant c.in-Small.at.block c.in-Small.at.offset c.in-Small.at.offset_in_range there c.object_from-object.result c.step_at-step.result read stands c.args.g le, rw (sum_is _ _ _ _ c.self.invariant c.in-Small.at.block c.in-Small.at.offset c.in-Small.at.offset_in_range there c.object_from-object.result c.step_at-step.result read stands c.args.g c.args.bases.now le bases).1 (numbered_here _ _ _ _ c.self.invariant c.in-Small.at.block c.in-Small.at.offset c.in-Small.at.offset_in_range there c.object_from-object.result c.step_at-step.result read stands c.args.g le))
+    rw (← c.self.view_is, c.in-Small.is) (young_here _ _ _ _ c.self.invariant.space c.in-Small.at.block c.in-Small.at.offset c.in-Small.at.offset_in_range there c.object_from-object.result c.step_at-step.result read stands c.args.g le, rw (sum_is _ _ _ _ c.self.invariant.space c.in-Small.at.block c.in-Small.at.offset c.in-Small.at.offset_in_range there c.object_from-object.result c.step_at-step.result read stands c.args.g c.args.bases.now le bases).1 (numbered_here _ _ _ _ c.self.invariant.space c.in-Small.at.block c.in-Small.at.offset c.in-Small.at.offset_in_range there c.object_from-object.result c.step_at-step.result read stands c.args.g le))

@@ -3,7 +3,7 @@ use Rattle.heap_space.proofs.Facts.{is_space}
 use Rattle.heap_space.proofs.space.Space.free_count.Goals as goal
 
 pub returns-clause-space : goal.returns-clause-space
-returns-clause-space g c = rw (← c.self.view_is) (is_space _ _ _ _ c.self.invariant c.free_count.ensures.rising)
+returns-clause-space g c = rw (← c.self.view_is) (is_space _ _ _ _ c.self.invariant.space c.free_count.ensures.rising)
 
 pub returns-clause-value : goal.returns-clause-value
 returns-clause-value g c = search rules

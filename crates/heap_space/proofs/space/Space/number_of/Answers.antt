@@ -9,25 +9,25 @@ use Rattle.heap_space.proofs.space.Space.number_of.Goals as goal
 pub returns-in_default : goal.returns-in_default
 returns-in_default g c =
     let young = rw (← c.self.view_is, c.in_default.is) at c.requires.young in
-    absurd (some_not_none (sym young.there ∙ large_none c.self.inside.table.items (sound_fits _ _ _ _ c.self.invariant) (few_blocks _ _ _ _ c.self.invariant) c.in_default.field-0.number))
+    absurd (some_not_none (sym young.there ∙ large_none c.self.inside.table.items (sound_fits _ _ _ _ c.self.invariant.space) (few_blocks _ _ _ _ c.self.invariant.space) c.in_default.field-0.number))
 
 pub ordinal_at-requires : goal.ordinal_at-requires
 ordinal_at-requires g c =
     let young = rw (← c.self.view_is, c.in-Small.is) at c.requires.young in
-    rw c.deref.ensures.value (covered c.self.inside.table.items (sound_fits _ _ _ _ c.self.invariant) (few_blocks _ _ _ _ c.self.invariant) c.in-Small.at.block c.in-Small.at.offset (omega (arith, c.in-Small.at.offset_in_range)) (rw young.there refl))
+    rw c.deref.ensures.value (covered c.self.inside.table.items (sound_fits _ _ _ _ c.self.invariant.space) (few_blocks _ _ _ _ c.self.invariant.space) c.in-Small.at.block c.in-Small.at.offset (omega (arith, c.in-Small.at.offset_in_range)) (rw young.there refl))
 
 pub bounds-bases-number : goal.bounds-bases-number
 bounds-bases-number g c =
     let young = rw (← c.self.view_is, c.in-Small.is) at c.requires.young in
     let bases = rw (← c.self.view_is) at c.requires.bases in
-    (base_at _ _ _ _ c.self.invariant c.args.g c.args.bases.now c.in-Small.at.block c.in-Small.at.offset bases c.in-Small.at.offset_in_range young).0
+    (base_at _ _ _ _ c.self.invariant.space c.args.g c.args.bases.now c.in-Small.at.block c.in-Small.at.offset bases c.in-Small.at.offset_in_range young).0
 
 pub overflow_cast-result : goal.overflow_cast-result
 overflow_cast-result g c =
     let young = rw (← c.self.view_is, c.in-Small.is) at c.requires.young in
     let bases = rw (← c.self.view_is) at c.requires.bases in
     let ordinal = rw c.deref.ensures.value at c.ordinal_at.ensures in
-    let few = number_few _ _ _ _ c.self.invariant c.args.g c.in-Small.at.block c.in-Small.at.offset c.in-Small.at.offset_in_range young c.args.bases.now bases c.ordinal_at.result ordinal in
+    let few = number_few _ _ _ _ c.self.invariant.space c.args.g c.in-Small.at.block c.in-Small.at.offset c.in-Small.at.offset_in_range young c.args.bases.now bases c.ordinal_at.result ordinal in
     omega (arith, few)
 
 pub overflow_add-result : goal.overflow_add-result
@@ -35,7 +35,7 @@ overflow_add-result g c =
     let young = rw (← c.self.view_is, c.in-Small.is) at c.requires.young in
     let bases = rw (← c.self.view_is) at c.requires.bases in
     let ordinal = rw c.deref.ensures.value at c.ordinal_at.ensures in
-    let few = number_few _ _ _ _ c.self.invariant c.args.g c.in-Small.at.block c.in-Small.at.offset c.in-Small.at.offset_in_range young c.args.bases.now bases c.ordinal_at.result ordinal in
+    let few = number_few _ _ _ _ c.self.invariant.space c.args.g c.in-Small.at.block c.in-Small.at.offset c.in-Small.at.offset_in_range young c.args.bases.now bases c.ordinal_at.result ordinal in
     omega (arith, few)
 
 pub returns : goal.returns
@@ -43,4 +43,4 @@ returns g c =
     let young = rw (← c.self.view_is, c.in-Small.is) at c.requires.young in
     let bases = rw (← c.self.view_is) at c.requires.bases in
     let ordinal = rw c.deref.ensures.value at c.ordinal_at.ensures in
-    rw (← c.self.view_is, c.in-Small.is) (number_is _ _ _ _ c.self.invariant c.args.g c.in-Small.at.block c.in-Small.at.offset c.in-Small.at.offset_in_range young c.args.bases.now bases c.ordinal_at.result ordinal)
+    rw (← c.self.view_is, c.in-Small.is) (number_is _ _ _ _ c.self.invariant.space c.args.g c.in-Small.at.block c.in-Small.at.offset c.in-Small.at.offset_in_range young c.args.bases.now bases c.ordinal_at.result ordinal)

@@ -25,7 +25,7 @@ pub returns-in-Small : goal.returns-in-Small
 returns-in-Small g c =
     let some = rw c.deref.ensures.value at c.block_object.ensures.some in
     let none = rw c.deref.ensures.value at c.block_object.ensures.none in
-    rw (← c.self.view_is, c.in-Small.is) (shown c.self.inside.table.items (sound_fits _ _ _ _ c.self.invariant) (few_blocks _ _ _ _ c.self.invariant) c.in-Small.at.block c.in-Small.at.offset c.in-Small.at.offset_in_range c.block_object.result some none)
+    rw (← c.self.view_is, c.in-Small.is) (shown c.self.inside.table.items (sound_fits _ _ _ _ c.self.invariant.space) (few_blocks _ _ _ _ c.self.invariant.space) c.in-Small.at.block c.in-Small.at.offset c.in-Small.at.offset_in_range c.block_object.result some none)
 
 pub returns-in-Large : goal.returns-in-Large
-returns-in-Large g c = rw (← c.self.view_is, c.in-Large.is) (large_none c.self.inside.table.items (sound_fits _ _ _ _ c.self.invariant) (few_blocks _ _ _ _ c.self.invariant) c.in-Large.field-0.number)
+returns-in-Large g c = rw (← c.self.view_is, c.in-Large.is) (large_none c.self.inside.table.items (sound_fits _ _ _ _ c.self.invariant.space) (few_blocks _ _ _ _ c.self.invariant.space) c.in-Large.field-0.number)

@@ -2,6 +2,7 @@ use Rattle.std.proofs.Common.{◌<◌, arith, length, refl, sym, ◌∙◌}
 use Rattle.model.specs.Graph.{Object}
 use Rattle.heap_space.proofs.FieldWrites.{some_and, pointer_written}
 use Rattle.heap_space.proofs.Sound.{sound_fits, few_blocks}
+use Rattle.block_table.proofs.AreaTables.{same_areas}
 use Rattle.block_table.proofs.Located.{covered, large_none}
 use Rattle.block_table.proofs.TableSteps.{with_whole}
 use Rattle.model.proofs.Options.{some_is, some_not_none}
@@ -10,13 +11,14 @@ use Rattle.heap_space.proofs.space.Space.set_pointer.Goals as goal
 pub set_pointer-requires : goal.set_pointer-requires
 set_pointer-requires g c =
     let some = some_and (λ (o : Object). c.args.i < length o.pointers) _ (rw (← c.self.view_is, c.in-Small.is) at c.requires) in
-    record { in_range = rw c.deref_mut.ensures.value (covered c.self.inside.table.items (sound_fits _ _ _ _ c.self.invariant) (few_blocks _ _ _ _ c.self.invariant) c.in-Small.at.block c.in-Small.at.offset (omega (arith, c.in-Small.at.offset_in_range)) (rw some.1 refl)) }
+    record { in_range = rw c.deref_mut.ensures.value (covered c.self.inside.table.items (sound_fits _ _ _ _ c.self.invariant.space) (few_blocks _ _ _ _ c.self.invariant.space) c.in-Small.at.block c.in-Small.at.offset (omega (arith, c.in-Small.at.offset_in_range)) (rw some.1 refl)) }
 
 pub invariant_of-self : goal.invariant_of-self
 invariant_of-self g c =
     let whole = with_whole c.self.inside.table.len c.set_pointer.new.table c.self.inside.table.items (omega (arith, c.set_pointer.auto.table, c.deref_mut.ensures.len, c.self.inside.table.ok.0)) (omega (arith, c.self.inside.table.ok.0)) in
     let some = some_and (λ (o : Object). c.args.i < length o.pointers) _ (rw (← c.self.view_is, c.in-Small.is) at c.requires) in
-    rw whole (pointer_written _ _ _ _ _ c.self.invariant c.in-Small.at.block c.in-Small.at.offset c.in-Small.at.offset_in_range some.0 some.1 c.args.i c.word_of-word.result c.args.target c.word_of-word.ensures some.2 (rw c.deref_mut.ensures.value at c.set_pointer.ensures)).sound
+    let written = pointer_written _ _ _ _ _ c.self.invariant.space c.in-Small.at.block c.in-Small.at.offset c.in-Small.at.offset_in_range some.0 some.1 c.args.i c.word_of-word.result c.args.target c.word_of-word.ensures some.2 (rw c.deref_mut.ensures.value at c.set_pointer.ensures) in
+    rw whole (record { space = written.sound; flags = same_areas _ _ _ written.generations c.self.invariant.flags; generations = c.self.invariant.generations })
 
 pub returns-in-Small : goal.returns-in-Small
 returns-in-Small g c =
@@ -24,8 +26,8 @@ returns-in-Small g c =
     let whole = with_whole c.self.inside.table.len c.set_pointer.new.table c.self.inside.table.items (omega (arith, c.set_pointer.auto.table, c.deref_mut.ensures.len, c.self.inside.table.ok.0)) (omega (arith, c.self.inside.table.ok.0)) in
     let some = some_and (λ (o : Object). c.args.i < length o.pointers) _ (rw (← c.self.view_is, c.in-Small.is) at c.requires) in
     let same = some_is (sym some.1 ∙ rw (← c.self.view_is, c.in-Small.is) at is) in
-    rw (← c.self.view_is, c.in-Small.is, whole, ← same) (pointer_written _ _ _ _ _ c.self.invariant c.in-Small.at.block c.in-Small.at.offset c.in-Small.at.offset_in_range some.0 some.1 c.args.i c.word_of-word.result c.args.target c.word_of-word.ensures some.2 (rw c.deref_mut.ensures.value at c.set_pointer.ensures)).space_is
+    rw (← c.self.view_is, c.in-Small.is, whole, ← same) (pointer_written _ _ _ _ _ c.self.invariant.space c.in-Small.at.block c.in-Small.at.offset c.in-Small.at.offset_in_range some.0 some.1 c.args.i c.word_of-word.result c.args.target c.word_of-word.ensures some.2 (rw c.deref_mut.ensures.value at c.set_pointer.ensures)).space_is
 
 pub returns-in-Large : goal.returns-in-Large
 returns-in-Large g c =
-    λ o is. absurd (some_not_none (sym (rw (← c.self.view_is, c.in-Large.is) at is) ∙ large_none c.self.inside.table.items (sound_fits _ _ _ _ c.self.invariant) (few_blocks _ _ _ _ c.self.invariant) c.in-Large.field-0.number))
+    λ o is. absurd (some_not_none (sym (rw (← c.self.view_is, c.in-Large.is) at is) ∙ large_none c.self.inside.table.items (sound_fits _ _ _ _ c.self.invariant.space) (few_blocks _ _ _ _ c.self.invariant.space) c.in-Large.field-0.number))

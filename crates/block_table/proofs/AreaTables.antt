@@ -1,0 +1,212 @@
+-- The flags of a table's blocks, and the counts that go from one flagged block to the next.
+use Rattle.std.proofs.Common.{◌≡◌, ◌≢◌, ℕ, zero, suc, ◌+◌, ◌-◌, ◌<◌, ◌≤◌, Bool, true, false, cond, ◌||◌, ◌&&◌, List, [], ◌∷◌, ◌++◌, length, take, set, get_or, get_or-set_other, get_or-set_same, replicate, Option, Some, None, sum_by, take_all, refl, sym, ap, ◌∙◌, arith, ⊎_elim, length-append}
+use Rattle.std.proofs.lemmas.Bool.{cases_eq, cases_lt, cases_Bool, true≢false, eq-eqb, ne_eqb}
+use Rattle.std.proofs.lemmas.Bool.Decides.{nat_tests}
+use Rattle.std.proofs.lemmas.List.{get_or_append_left, get_or-append-add, get_or-map, get_or-replicate, length-replicate, take_more}
+use Rattle.std.proofs.lemmas.List.Sums.{sum_by_more}
+use Rattle.std.specs.List.{IsDistinct, take-map}
+use Rattle.std.specs.Prelude.{nat_eq, nat_lt, nat_le, is_some}
+use Rattle.model.specs.Reached.{has}
+use Rattle.block_pool.specs.BlockValue.{BlockValue}
+use Rattle.block_table.specs.Areas.{is_flagged, AreAreas}
+use Rattle.block_table.specs.Installed.{is_installed_at, installed}
+use Rattle.block_table.specs.Table.{slot_at, slot_len, cleared, young_slot}
+use Rattle.block_table.proofs.Areas.{once_at}
+use Rattle.block_table.proofs.Installed.{numbers_of, none_installed}
+use Rattle.block_table.proofs.TableReads.{HasCounted}
+use Rattle.block_table.proofs.TableSteps.{get_or_end, in_list}
+
+no_flags : (m k : ℕ) → let none : List Bool = [] in get_or (replicate m none) k none ≡ none
+no_flags zero k = refl
+no_flags (suc m) zero = refl
+no_flags (suc m) (suc k) = no_flags m k
+
+pub none_flagged : (m g n : ℕ) → let none : List Bool = [] in is_flagged (replicate m none) g n ≡ false
+none_flagged m g n = ap (λ flags. get_or flags n false) (no_flags m _)
+
+none_of : (o : Option BlockValue) → is_some o ≡ false → o ≡ None
+none_of None h = refl
+none_of (Some b) h = absurd (true≢false h)
+
+-- a block of a generation up to g stands in the table
+pub young_inside : (table : List (Option BlockValue)) (g n : ℕ) → is_some (young_slot g (slot_at table n)) ≡ true → n < length table
+young_inside table g n is = ⊎_elim
+    (λ lt. lt)
+    (λ le. absurd (true≢false (sym is ∙ ap (λ o. is_some (young_slot g o)) (get_or_end table n None le))))
+    (cases_lt n (length table))
+
+-- a slot is one more of those whose blocks are flagged
+pub slot_flagged : (table : List (Option BlockValue)) (g number n : ℕ) (slot : Option BlockValue) (was now : Bool) → slot_at table number ≡ slot → was ≡ (nat_lt n number && is_some (young_slot g (slot_at table n))) → now ≡ cond (nat_eq n number) (is_some (young_slot g slot) || was) was → now ≡ (nat_lt n (number + 1) && is_some (young_slot g (slot_at table n)))
+slot_flagged table g number n slot was now there before after = ⊎_elim
+    (λ e.
+    let here : n ≡ number = e in
+    let past : nat_lt n number ≡ false = grind (arith, nat_tests, here) in
+    let below : nat_lt n (number + 1) ≡ true = grind (arith, nat_tests, here) in
+    let none : was ≡ false = before ∙ ap (λ t. t && is_some (young_slot g (slot_at table n))) past in
+    let same : slot_at table n ≡ slot = ap (slot_at table) here ∙ there in
+    rw (below, same) (after ∙ ap (λ t. cond t (is_some (young_slot g slot) || was) was) (eq-eqb n number here) ∙ ap (λ t. is_some (young_slot g slot) || t) none ∙ or_false (is_some (young_slot g slot))))
+    (λ ne.
+    let other : n ≢ number = ne in
+    let more : nat_lt n number ≡ nat_lt n (number + 1) = grind (arith, nat_tests, other) in
+    after ∙ ap (λ t. cond t (is_some (young_slot g slot) || was) was) (ne_eqb n number other) ∙ before ∙ ap (λ t. t && is_some (young_slot g (slot_at table n))) more)
+    (cases_eq n number)
+  where
+    or_false : (b : Bool) → (b || false) ≡ b
+    or_false true = refl
+    or_false false = refl
+
+pub all_flagged : (table : List (Option BlockValue)) (number : ℕ) (areas : List (List Bool)) → length table ≤ number → ((g n : ℕ) → is_flagged areas g n ≡ (nat_lt n number && is_some (young_slot g (slot_at table n)))) → AreAreas table areas
+all_flagged table number areas le each = record {
+  each = λ g n. each g n ∙ ⊎_elim
+      (λ yes. rw yes (let below : n < length table = young_inside table g n yes in let lt : nat_lt n number ≡ true = grind (arith, nat_tests, below, le) in ap (λ t. t && true) lt))
+      (λ no. rw no (and_false (nat_lt n number)))
+      (cases_Bool (is_some (young_slot g (slot_at table n))));
+}
+  where
+    and_false : (b : Bool) → (b && false) ≡ false
+    and_false true = refl
+    and_false false = refl
+
+-- one block more put in
+installed-push : (xs : List BlockValue) (b : BlockValue) (n : ℕ) → installed (xs ++ b ∷ []) n ≡ cond (is_some (installed xs n)) (installed xs n) (installed (b ∷ []) n)
+installed-push [] b n = refl
+installed-push (x ∷ xs) b n = go (is_installed_at n x) (installed-push xs b n)
+  where
+    go : (t : Bool) → installed (xs ++ b ∷ []) n ≡ cond (is_some (installed xs n)) (installed xs n) (installed (b ∷ []) n) → cond t (Some x) (installed (xs ++ b ∷ []) n) ≡ cond (is_some (cond t (Some x) (installed xs n))) (cond t (Some x) (installed xs n)) (installed (b ∷ []) n)
+    go true rest = refl
+    go false rest = rest
+
+young_either : (g : ℕ) (a b : Option BlockValue) → ((block : BlockValue) → b ≡ Some block → a ≡ None) → is_some (young_slot g (cond (is_some a) a b)) ≡ (is_some (young_slot g b) || is_some (young_slot g a))
+young_either g None b one = sym (or_false (is_some (young_slot g b)))
+  where
+    or_false : (t : Bool) → (t || false) ≡ t
+    or_false true = refl
+    or_false false = refl
+young_either g (Some x) None one = refl
+young_either g (Some x) (Some y) one = absurd (some_none (one y refl))
+  where
+    some_none : Some x ≡ None → ⊥
+    some_none e = cc
+
+module _ (blocks : List BlockValue) (once : IsDistinct nat_eq (numbers_of blocks)) (i : ℕ) (b : BlockValue) (here : get_or blocks i b ≡ b) (lt : i < length blocks) where
+  none_before : (n : ℕ) (block : BlockValue) → installed (b ∷ []) n ≡ Some block → installed (take i blocks) n ≡ None
+  none_before n block is =
+      let number : b.number ≡ n = number_is (is_installed_at n b) refl is in
+      let at : get_or (numbers_of blocks) i 0 ≡ n = get_or-map (λ x. x.number) blocks i b 0 lt ∙ ap (λ x. x.number) here ∙ number in
+      let absent : has (take i (numbers_of blocks)) (get_or (numbers_of blocks) i 0) ≡ false = once_at (numbers_of blocks) i once (omega (arith, length-numbers blocks)) in
+      none_installed (take i blocks) n (ap (λ ns. has ns n) (sym (take-map (λ x. x.number) i blocks)) ∙ ap (has (take i (numbers_of blocks))) (sym at) ∙ absent)
+    where
+      length-numbers : (xs : List BlockValue) → length (numbers_of xs) ≡ length xs
+      length-numbers [] = refl
+      length-numbers (x ∷ xs) = let rest : length (numbers_of xs) ≡ length xs = length-numbers xs in omega arith
+
+      number_is : (t : Bool) → is_installed_at n b ≡ t → cond t (Some b) None ≡ Some block → b.number ≡ n
+      number_is true is e = grind (arith, nat_tests, is)
+      number_is false is e = absurd (cc)
+
+  pub block_flagged : (g n : ℕ) (old was now : Bool) → was ≡ (is_some (young_slot g (installed (take i blocks) n)) || old) → now ≡ (is_some (young_slot g (installed (b ∷ []) n)) || was) → now ≡ (is_some (young_slot g (installed (take (i + 1) blocks) n)) || old)
+  block_flagged g n old was now before after =
+      let more : take (i + 1) blocks ≡ take i blocks ++ b ∷ [] = take_more blocks i b lt ∙ ap (λ x. take i blocks ++ x ∷ []) here in
+      let both : is_some (young_slot g (installed (take (i + 1) blocks) n)) ≡ (is_some (young_slot g (installed (b ∷ []) n)) || is_some (young_slot g (installed (take i blocks) n))) =
+      ap (λ xs. is_some (young_slot g (installed xs n))) more ∙ ap (λ o. is_some (young_slot g o)) (installed-push (take i blocks) b n) ∙ young_either g (installed (take i blocks) n) (installed (b ∷ []) n) (none_before n) in
+      after ∙ ap (λ t. is_some (young_slot g (installed (b ∷ []) n)) || t) before ∙ turned (is_some (young_slot g (installed (b ∷ []) n))) (is_some (young_slot g (installed (take i blocks) n))) old ∙ ap (λ t. t || old) (sym both)
+    where
+      turned : (x y z : Bool) → (x || (y || z)) ≡ ((x || y) || z)
+      turned true y z = refl
+      turned false y z = refl
+
+-- blocks with no object of the generations collected add nothing to a sum
+pub sum_still : (table : List (Option BlockValue)) (from d : ℕ) → from + d ≤ length table → ((k : ℕ) → from ≤ k → k < from + d → slot_len (get_or table k None) ≡ 0) → sum_by slot_len (take (from + d) table) ≡ sum_by slot_len (take from table)
+sum_still table from zero le none = let same : from + 0 ≡ from = omega arith in rw same refl
+sum_still table from (suc d) le none =
+    let next : from + suc d ≡ from + d + 1 = omega arith in
+    let rest : sum_by slot_len (take (from + d) table) ≡ sum_by slot_len (take from table) = sum_still table from d (omega arith) (λ k low lt. none k low (omega (arith, lt))) in
+    let empty : slot_len (get_or table (from + d) None) ≡ 0 = none (from + d) (omega arith) (omega arith) in
+    rw next (omega (arith, sum_by_more slot_len table (from + d) None (omega arith), rest, empty))
+
+module _ (table : List (Option BlockValue)) (bases : List ℕ) (objects : ℕ) (so_far : HasCounted table bases (length bases) objects) where
+  sum_until : (b : ℕ) → length bases ≤ b → b ≤ length table → ((k : ℕ) → length bases ≤ k → k < b → slot_len (get_or table k None) ≡ 0) → objects ≡ sum_by slot_len (take b table)
+  sum_until b low le none =
+      let split : length bases + (b - length bases) ≡ b = omega arith in
+      let still : sum_by slot_len (take (length bases + (b - length bases)) table) ≡ sum_by slot_len (take (length bases) table) = sum_still table (length bases) (b - length bases) (omega arith) (λ k from lt. none k from (omega (arith, lt))) in
+      so_far.objects_are ∙ sym still ∙ ap (λ n. sum_by slot_len (take n table)) split
+
+  pub counted_to : (new : List ℕ) (number size : ℕ) → number < length table → length bases ≤ number → ((k : ℕ) → length bases ≤ k → k < number → slot_len (get_or table k None) ≡ 0) → new ≡ take (number + 1) bases ++ replicate (number + 1 - length bases) objects → slot_len (get_or table number None) ≡ size → size ≤ 512 → HasCounted table new (length new) (objects + size)
+  counted_to new number size lt low none items here most =
+      let whole : new ≡ bases ++ replicate (number + 1 - length bases) objects = items ∙ ap (λ xs. xs ++ replicate (number + 1 - length bases) objects) (take_all (number + 1) bases (omega arith)) in
+      let len : length new ≡ number + 1 = ap length whole ∙ length-append bases (replicate (number + 1 - length bases) objects) ∙ ap (λ m. length bases + m) (length-replicate (number + 1 - length bases) objects) ∙ (omega arith) in
+      rw len (record {
+        len = len;
+        each = λ b below. ap (λ xs. get_or xs b 0) whole ∙ ⊎_elim
+            (λ old. get_or_append_left bases (replicate (number + 1 - length bases) objects) 0 b old ∙ so_far.each b old)
+            (λ filled.
+            let past : length bases ≤ b = filled in
+            let split : length bases + (b - length bases) ≡ b = omega arith in
+            let at : get_or (bases ++ replicate (number + 1 - length bases) objects) (length bases + (b - length bases)) 0 ≡ objects = get_or-append-add bases (replicate (number + 1 - length bases) objects) (b - length bases) 0 ∙ get_or-replicate (number + 1 - length bases) (b - length bases) objects 0 (omega (arith, below)) in
+            sym (ap (λ m. get_or (bases ++ replicate (number + 1 - length bases) objects) m 0) split) ∙ at ∙ sum_until b past (omega (arith, below)) (λ k from under. none k from (omega (arith, under, below))))
+            (cases_lt b (length bases));
+        objects_are = let before : objects ≡ sum_by slot_len (take number table) = sum_until number low (omega arith) none in omega (arith, sum_by_more slot_len table number None lt, here, before);
+        few = omega (arith, so_far.few, most);
+      })
+
+  pub counted_all : length bases ≤ length table → ((k : ℕ) → length bases ≤ k → slot_len (get_or table k None) ≡ 0) → objects ≡ sum_by slot_len table
+  counted_all le none = sum_until (length table) le (omega arith) (λ k from lt. none k from) ∙ ap (sum_by slot_len) (take_all (length table) table (omega arith))
+
+-- a slot that isn't flagged counts nothing
+pub old_len : (g : ℕ) (slot : Option BlockValue) → is_some (young_slot g slot) ≡ false → slot_len (young_slot g slot) ≡ 0
+old_len g slot none = ap slot_len (none_of (young_slot g slot) none)
+
+-- the flags after a collection's blocks took the place of those that went
+pub exchanged_areas : (old new : List (Option BlockValue)) (areas left now : List (List Bool)) (gone : List ℕ) (blocks : List BlockValue) (count : ℕ) → AreAreas old areas → ((g n : ℕ) → is_flagged left g n ≡ cond (has gone n) false (is_flagged areas g n)) → ((g n : ℕ) → is_flagged now g n ≡ (is_some (young_slot g (installed blocks n)) || is_flagged left g n)) → ((n : ℕ) (block : BlockValue) → installed blocks n ≡ Some block → slot_at old n ≡ None) → ((n : ℕ) → slot_at new n ≡ cond (is_some (installed blocks n)) (installed blocks n) (cond (has gone n) None (cond (nat_lt n count) (cleared (slot_at old n)) (slot_at old n)))) → AreAreas new now
+exchanged_areas old new areas left now gone blocks count are dropped put was_free slots = record {
+  each = λ g n. put g n ∙ ap (λ t. is_some (young_slot g (installed blocks n)) || t) (dropped g n ∙ ap (cond (has gone n) false) (are.each g n)) ∙ go g n (installed blocks n) refl ∙ sym (ap (λ o. is_some (young_slot g o)) (slots n));
+}
+  where
+    none_young : (g : ℕ) (t : Bool) (o : Option BlockValue) → o ≡ None → cond t false (is_some (young_slot g o)) ≡ false
+    none_young g true o none = refl
+    none_young g false o none = ap (λ x. is_some (young_slot g x)) none
+
+    or_false : (a b : Bool) → b ≡ false → (a || b) ≡ a
+    or_false true b h = refl
+    or_false false b h = h
+
+    same_cleared : (g : ℕ) (t : Bool) (o : Option BlockValue) → is_some (young_slot g o) ≡ is_some (young_slot g (cond t (cleared o) o))
+    same_cleared g false o = refl
+    same_cleared g true None = refl
+    same_cleared g true (Some block) = by (nat_le block.generation g)
+      where
+        by : (b : Bool) → is_some (cond b (Some block) None) ≡ is_some (cond {A = Option BlockValue} b (Some (record block { objects = []; front = 0; sent = None; origins = [] })) None)
+        by true = refl
+        by false = refl
+
+    rest : (g : ℕ) (t u : Bool) (o : Option BlockValue) → cond t false (is_some (young_slot g o)) ≡ is_some (young_slot g (cond t None (cond u (cleared o) o)))
+    rest g true u o = refl
+    rest g false u o = same_cleared g u o
+
+    go : (g n : ℕ) (x : Option BlockValue) → installed blocks n ≡ x → (is_some (young_slot g x) || cond (has gone n) false (is_some (young_slot g (slot_at old n)))) ≡ is_some (young_slot g (cond (is_some x) x (cond (has gone n) None (cond (nat_lt n count) (cleared (slot_at old n)) (slot_at old n)))))
+    go g n None is = rest g (has gone n) (nat_lt n count) (slot_at old n)
+    go g n (Some block) is = or_false (is_some (young_slot g (Some block))) _ (none_young g (has gone n) (slot_at old n) (was_free n block is))
+
+-- the blocks' generations are the same
+pub record SameGenerations (old new : List (Option BlockValue)) : Type 0 where
+  pub each : (g n : ℕ) → is_some (young_slot g (slot_at new n)) ≡ is_some (young_slot g (slot_at old n))
+
+-- a block was changed, and its generation kept
+pub set_generations : (table : List (Option BlockValue)) (number : ℕ) (block new : BlockValue) → slot_at table number ≡ Some block → new.generation ≡ block.generation → SameGenerations table (set table number (Some new))
+set_generations table number block new there same = record {
+  each = λ g n. ⊎_elim
+      (λ e.
+      let here : n ≡ number = e in
+      rw (here, there, get_or-set_same table number (Some new) None (in_list table number block there)) (by g (nat_le new.generation g) (nat_le block.generation g) (ap (λ h. nat_le h g) same)))
+      (λ ne. ap (λ o. is_some (young_slot g o)) (get_or-set_other table number n (Some new) None ne))
+      (cases_eq n number);
+}
+  where
+    by : (g : ℕ) (a b : Bool) → a ≡ b → is_some (cond a (Some new) None) ≡ is_some (cond b (Some block) None)
+    by g true true e = refl
+    by g true false e = absurd (true≢false e)
+    by g false true e = absurd (true≢false (sym e))
+    by g false false e = refl
+
+pub same_areas : (old new : List (Option BlockValue)) (areas : List (List Bool)) → SameGenerations old new → AreAreas old areas → AreAreas new areas
+same_areas old new areas same are = record { each = λ g n. are.each g n ∙ sym (same.each g n) }
