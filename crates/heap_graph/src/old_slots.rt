@@ -62,7 +62,15 @@ fn push_fields<A: Allocator, B: Allocator>(
         ++ map field_slot_of (slots_of_fields graph g (place_word holder) 0 (map target_of_word pointers.now))) }
 {
     for field in 0..pointers.len() {
-        push_field(slots, table, large, g, holder, field as u32, pointers[field])?;
+        push_field(
+            slots,
+            table,
+            large,
+            g,
+            holder,
+            field as u32,
+            pointers[field],
+        )?;
     }
     Ok(())
 }

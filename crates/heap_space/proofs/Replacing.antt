@@ -441,9 +441,10 @@ module _ (config : Config) (old new : List (Option BlockValue)) (nurseries : Lis
 
   free_now : (n : ℕ) → has pool'.free n ≡ true → ((has pool.free n ≡ true) ⊎ StandsYoung (space_of config old nurseries pool) g n) × HoldsNone (space_of config new reset pool') n
   free_now n h =
-      let parts = and_not (has gone n || has pool.free n) (is_some (installed blocks n)) (sym (frees n) ∙ h) in
-      (⊎_elim (λ a. inr (stood n a)) (λ f. inl f) (either_of (has gone n) (has pool.free n) parts.0),
-      λ offset lt. found_now n (small_word n offset) (record { low = omega arith; high = omega (arith, lt) }) ∙ ap (λ s. find nat_cmp (small_word n offset) (slot_objects n s)) (now_free n h).2)
+      let parts = and_not (has gone n || has pool.free n) (is_some (installed blocks n)) (sym (frees n) ∙ h) in (
+        ⊎_elim (λ a. inr (stood n a)) (λ f. inl f) (either_of (has gone n) (has pool.free n) parts.0),
+        λ offset lt. found_now n (small_word n offset) (record { low = omega arith; high = omega (arith, lt) }) ∙ ap (λ s. find nat_cmp (small_word n offset) (slot_objects n s)) (now_free n h).2,
+      )
 
   now_again : (n : ℕ) → ((has pool.free n ≡ true) ⊎ StandsYoung (space_of config old nurseries pool) g n) × HoldsNone (space_of config new reset pool') n → has pool'.free n ≡ true
   now_again n h = ⊎_elim

@@ -22,7 +22,10 @@ ghost use Rattle.heap_space.specs.Collecting.{AreBases, IsNumbered, CanReplace, 
 use crate::no_large::NoLarge;
 use crate::nurseries::{nurseries_of, nursery_table, reset_all};
 use block_pool::{Block, Pool, RankedSet};
-use block_table::{AreaFlags, Table, add_blocks, areas_of, bases, block_object, count_step, end_of, exchange, grow, object_from, ordinal_at, remove_blocks, set_plain, set_pointer, step_at, young_blocks};
+use block_table::{
+    AreaFlags, Table, add_blocks, areas_of, bases, block_object, count_step, end_of, exchange,
+    grow, object_from, ordinal_at, remove_blocks, set_plain, set_pointer, step_at, young_blocks,
+};
 use heap_data::{Slot, StepCount};
 use heap_graph::{count_remembered, is_holder, push_slots_of};
 use layout::{ObjectRef, Place};

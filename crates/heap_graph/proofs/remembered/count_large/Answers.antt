@@ -21,16 +21,22 @@ loop-number-preserved g c =
             few = omega (arith, few, from);
             in_range = omega (arith, c.in-Some.number.in_range);
             value = λ graph shows.
-                omega (arith, c.loop-number.invariant.value graph shows,
-                count_next (points_younger (object_at graph)) c.args.large.now.slots c.loop-number.from c.in-Some.number.number object.0 true from first.lowest object.1 (sym (c.large_points_younger.ensures graph object.0 shows object.1) ∙ w.if-large_points_younger.true));
+                omega (
+                  arith,
+                  c.loop-number.invariant.value graph shows,
+                  count_next (points_younger (object_at graph)) c.args.large.now.slots c.loop-number.from c.in-Some.number.number object.0 true from first.lowest object.1 (sym (c.large_points_younger.ensures graph object.0 shows object.1) ∙ w.if-large_points_younger.true),
+                );
           })
       | else-large_points_younger w ↦
           rw w.count-is (record {
             few = omega (arith, few, from);
             in_range = omega (arith, c.in-Some.number.in_range);
             value = λ graph shows.
-                omega (arith, c.loop-number.invariant.value graph shows,
-                count_next (points_younger (object_at graph)) c.args.large.now.slots c.loop-number.from c.in-Some.number.number object.0 false from first.lowest object.1 (sym (c.large_points_younger.ensures graph object.0 shows object.1) ∙ w.if-large_points_younger.false));
+                omega (
+                  arith,
+                  c.loop-number.invariant.value graph shows,
+                  count_next (points_younger (object_at graph)) c.args.large.now.slots c.loop-number.from c.in-Some.number.number object.0 false from first.lowest object.1 (sym (c.large_points_younger.ensures graph object.0 shows object.1) ∙ w.if-large_points_younger.false),
+                );
           })
     ]
 
