@@ -1,7 +1,10 @@
 //! One worker of a collection.
+ghost use Rattle.std.specs.Prelude.{◌<◌};
+
 use heap::{Config, Heap, Sizes};
 use scavenge::Workspace;
 use std::alloc::Global;
+use std::process::Abort;
 use std::test::Fail;
 
 /// A heap of 12 blocks of 16 words, with one generation.
@@ -20,26 +23,44 @@ fn small_heap(alloc: Global) -> Result<Heap, Fail> {
     Ok(Heap::new(alloc, config)?)
 }
 
+/// Opens a collection, and asserts that worker `t` of two begins with a slot or with none.
+fn assert_slot(
+    rt: &impl Abort,
+    alloc: Global,
+    heap: &Heap<Global>,
+    t: u32,
+    has_slot: bool,
+) -> Result<(), Fail>
+    requires { t < 2 }
+{
+    let Ok(collection) = heap.open_collection(alloc, 0) else {
+        return Err(Fail::from("not opened"));
+    };
+    let workspace = Workspace::new(alloc, heap, &collection, t, 2)?;
+    assert_eq!(rt; workspace.has_slot(heap), has_slot);
+    assert_eq!(rt; workspace.is_started(), !has_slot);
+    Ok(())
+}
+
+/// Opens a collection, and asserts that a worker begins with nothing but its slots.
+fn assert_empty(rt: &impl Abort, alloc: Global, heap: &Heap<Global>) -> Result<(), Fail> {
+    let Ok(collection) = heap.open_collection(alloc, 0) else {
+        return Err(Fail::from("not opened"));
+    };
+    let workspace = Workspace::new(alloc, heap, &collection, 0, 2)?;
+    assert!(rt; !workspace.has_proposal() && !workspace.has_hand());
+    assert!(rt; !workspace.has_aside() && !workspace.has_large());
+    let parts = workspace.into_parts();
+    assert!(rt; parts.won.is_empty() && parts.scanned.is_empty());
+    assert!(rt; parts.done.is_empty() && parts.large.is_empty());
+    Ok(())
+}
+
 #[test]
 fn slots_are_dealt_in_turn(rt: HostRuntime) -> Result<(), Fail> {
     let mut heap = small_heap(rt.alloc())?;
     let _root = heap.allocate(0, 1, 2)?;
-    let Ok(collection) = heap.open_collection(rt.alloc(), 0) else {
-        return Err(Fail::from("not opened"));
-    };
-    let first = Workspace::new(rt.alloc(), &heap, &collection, 0, 2)?;
-    assert!(rt; first.has_slot(&heap) && !first.is_started());
-    let second = Workspace::new(rt.alloc(), &heap, &collection, 1, 2)?;
-    assert!(rt; !second.has_slot(&heap) && second.is_started());
-    assert!(rt;
-        !first.has_proposal() && !first.has_hand() && !first.has_aside() && !first.has_large()
-    );
-    let parts = first.into_parts();
-    assert!(rt;
-        parts.won.is_empty()
-            && parts.scanned.is_empty()
-            && parts.done.is_empty()
-            && parts.large.is_empty()
-    );
-    Ok(())
+    assert_slot(&rt, rt.alloc(), &heap, 0, true)?;
+    assert_slot(&rt, rt.alloc(), &heap, 1, false)?;
+    assert_empty(&rt, rt.alloc(), &heap)
 }
