@@ -8,6 +8,7 @@ pub mod Finding
 pub mod BesideLarge
 pub mod Places
 pub mod Facts
+pub mod PutIn
 pub mod Replacing
 pub mod Changed
 pub mod FieldWrites

@@ -11,7 +11,8 @@ use Rattle.block_table.proofs.TableSteps.{with_whole, in_list}
 use Rattle.heap_space.specs.Nursery.{from_first}
 use Rattle.heap_space.specs.Space.{SpaceValue, rooms_of}
 use Rattle.heap_space.proofs.Sound.{sound_fits}
-use Rattle.heap_space.proofs.Replacing.{Goes, goes_flagged, grown_areas, each_room, each_generation, free_before, same_objects, same_rooms, grown_sound, grown_short, free_below, gone_there, replaced_sound, is_replaced}
+use Rattle.heap_space.proofs.PutIn.{each_room, each_generation, free_before, grown_short, free_below}
+use Rattle.heap_space.proofs.Replacing.{Goes, goes_flagged, grown_areas, same_objects, same_rooms, grown_sound, gone_there, replaced_sound, is_replaced}
 use Rattle.heap_space.proofs.space.Space.replace.Goals as goal
 
 on_err : {T E : Type 0} (r : Result T E) (P : Type 0) → P → OnErr r P
