@@ -2,12 +2,14 @@
 # Measures gctrace on one processor, beside a plain collector of the same traces (plain.rs, which rustc builds): objects
 # copied a second, by traces that are collected again and again, and on a large live tree beside GHC's collector too
 # (live_tree.hs, which ghc builds); what a collection costs that finds nothing, and one of ten young objects without and with
-# many old ones, what the members of a remembered set cost, and what the write barrier does; and lines carried out a second, beside
+# many old ones, what the members of a remembered set cost, and what the write barrier does; one of large objects, which are not
+# copied, whatever their size; and lines carried out a second, beside
 # what `wc -l` reads of the same file. It builds gctrace first, or
 # takes the program that GCTRACE names. Not part of the tests.
 #   run.sh                  all of it, which takes some minutes
 #   run.sh live [NODES]     the large live tree alone
 #   run.sh young [OBJECTS]  the collections of little alone
+#   run.sh large            the collections of large objects alone
 set -eu
 here=$(cd "$(dirname "$0")" && pwd)
 work=$(mktemp -d)
@@ -148,6 +150,22 @@ stores() {
     printf "a million stores of a young object in an old one in %.3f s, of an old one in %.3f s: %.2f times that\n", noted, other, noted / other }'
 }
 
+# large_each WORDS: microseconds for a collection of ten live objects of so many words
+large_each() {
+  "$here/traces.sh" large "$1" 0 > "$work/made"
+  "$here/traces.sh" large "$1" 1000 > "$work/all"
+  each gctrace 1000
+}
+
+# collections_of_large: of large objects, and of such as are a hundred times as large
+collections_of_large() {
+  local small large
+  small=$(large_each 1001)
+  large=$(large_each 100001)
+  awk -v small="$small" -v large="$large" 'BEGIN {
+    printf "ten live objects of 1001 words: %.2f microseconds a collection; of 100001 words: %.2f, so %.2f times that\n", small, large, large / small }'
+}
+
 # collections_of_little OBJECTS
 collections_of_little() {
   empty 4096
@@ -163,6 +181,7 @@ collections_of_little() {
 case "${1:-}" in
   live) live "${2:-2000000}" 20; exit ;;
   young) collections_of_little "${2:-100000}"; exit ;;
+  large) collections_of_large; exit ;;
 esac
 
 copies graph 8000 1000
@@ -171,6 +190,7 @@ copies tree 800000 10
 copies mixed 80000 100
 live 2000000 20
 collections_of_little 100000
+collections_of_large
 
 "$here/traces.sh" commands 100 > "$work/commands"
 lines=$(wc -l < "$work/commands")

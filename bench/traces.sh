@@ -9,6 +9,7 @@
 #                                             an old one) before every second collection of the young
 #   traces.sh stores young|old [STORES]       such an old object, whose pointer is made to lead to a young one (old: to an old one) so often
 #   traces.sh empty [COLLECTIONS]             collections of a heap without objects
+#   traces.sh large [WORDS] [COLLECTIONS]     ten objects of so many words, collected again and again
 #   traces.sh commands [BATCHES]              batches of 10,000 commands: new, put, set and drop of 2,500 names, and a collection after each
 # The nursery has to hold 8,000 objects of 4 words.
 set -eu
@@ -76,6 +77,14 @@ young() {
   }'
 }
 
+large() {
+  awk -v words="$1" -v collections="$2" 'BEGIN {
+    for (i = 0; i < 10; i++) printf "new l%d 0 0 %d\n", i, words - 1
+    for (i = 0; i < collections; i++) print "collect 0"
+    print "census"
+  }'
+}
+
 # old_ones OBJECTS: old objects with names, and one more, old
 old_ones() {
   awk -v objects="$1" 'BEGIN {
@@ -131,6 +140,7 @@ case "${1:-}" in
   members) members "${2:-young}" "${3:-1000}" "${4:-200}" ;;
   stores) stores "${2:-young}" "${3:-1000000}" ;;
   empty) empty "${2:-20000}" ;;
+  large) large "${2:-100001}" "${3:-1000}" ;;
   commands) commands "${2:-100}" ;;
-  *) sed -n '2,13s/^# //p' "$0" >&2; exit 2 ;;
+  *) sed -n '2,14s/^# //p' "$0" >&2; exit 2 ;;
 esac

@@ -13,7 +13,7 @@ use Rattle.layout.specs.Place.{small_word}
 use Rattle.block_pool.specs.BlockValue.{BlockValue}
 use Rattle.heap_data.specs.Words.{target_of_word}
 use Rattle.heap_data.specs.BlockObjects.{object_of, objects_from, block_objects}
-use Rattle.heap_data.proofs.PlainObjects.{values_of}
+use Rattle.heap_data.proofs.Values.{values_of}
 use Rattle.steps.specs.ConfigRange.{IsInRange}
 use Rattle.block_table.specs.Table.{slot_at, slot_objects, table_objects, slot_len, slot_words, AreSmall, IsHeapBlock, AreHeapBlocks, objects_map, step_slot}
 use Rattle.block_table.proofs.TableMap.{entries-objects_map}

@@ -11,7 +11,7 @@ use Rattle.layout.specs.Object.{Raw, raw_size}
 use Rattle.layout.specs.Place.{small_word}
 use Rattle.block_pool.specs.BlockValue.{BlockValue, words_of}
 use Rattle.std.proofs.lemmas.List.{length-map}
-use Rattle.heap_data.proofs.PlainObjects.{values_of}
+use Rattle.heap_data.proofs.Values.{values_of}
 use Rattle.heap_data.specs.Words.{target_of_word}
 use Rattle.heap_data.specs.BlockObjects.{object_of, objects_from}
 use Rattle.block_table.specs.Table.{slot_at, slot_objects, table_objects, slot_len, slot_words, AreSmall, IsHeapBlock, AreHeapBlocks, objects_map}

@@ -13,23 +13,23 @@ use Rattle.steps.specs.StepPairs.{step_pair, stands_at}
 use Rattle.steps.specs.declared.step_id.StepId.{StepId}
 use Rattle.heap_data.specs.CollectionValue.{CollectionValue, IsOpened}
 use Rattle.heap_data.specs.Words.{IsShownAs}
-use Rattle.heap_space.specs.Space.{SpaceValue, graph_in}
-use Rattle.heap_space.specs.Collecting.{IsNumbered}
+use Rattle.heap_objects.specs.Objects.{ObjectsValue, graph_in}
+use Rattle.heap_objects.specs.Collecting.{IsNumbered}
 use Rattle.heap_commit.specs.HeapView.{heap_with}
 use Rattle.heap.specs.Found.{IsFound, HasNumber}
-use Rattle.heap_commit.proofs.OpenedBases.{young_in, young_of}
+use Rattle.remembering.proofs.WithSets.{young_in, young_of}
 
-pub found_here : (space : SpaceValue) (slots : List (Option Place)) (sets : List (List ℕ)) (c : CollectionValue) (name : ℕ) (object : ObjectRef) (at : StepId) (number : Option ℕ) → IsOpened (heap_with space slots sets) c.generation c
-    → IsSomeAnd (get space.objects name) (λ o. IsShownAs o (raw_of object)) → Some (step_pair at) ≡ option_map stands_at (get space.objects name)
-    → MatchOption number (IsYoung (graph_in space) c.generation name → ⊥) (λ n. IsYoung (graph_in space) c.generation name × IsNumbered space c.generation name n)
-    → IsFound (heap_with space slots sets) c name (record { object = object; at = at; number = number })
-found_here space slots sets c name object at number opened shown stands numbered = go (get space.objects name) refl shown stands
+pub found_here : (objects : ObjectsValue) (slots : List (Option Place)) (sets : List (List ℕ)) (c : CollectionValue) (name : ℕ) (object : ObjectRef) (at : StepId) (number : Option ℕ) → IsOpened (heap_with objects slots sets) c.generation c
+    → IsSomeAnd (get objects.objects name) (λ o. IsShownAs o (raw_of object)) → Some (step_pair at) ≡ option_map stands_at (get objects.objects name)
+    → MatchOption number (IsYoung (graph_in objects) c.generation name → ⊥) (λ n. IsYoung (graph_in objects) c.generation name × IsNumbered objects c.generation name n)
+    → IsFound (heap_with objects slots sets) c name (record { object = object; at = at; number = number })
+found_here objects slots sets c name object at number opened shown stands numbered = go (get objects.objects name) refl shown stands
   where
-    number_is : (n : Option ℕ) → MatchOption n (IsYoung (graph_in space) c.generation name → ⊥) (λ k. IsYoung (graph_in space) c.generation name × IsNumbered space c.generation name k)
-        → MatchOption n (IsYoung (heap_with space slots sets).graph c.generation name → ⊥) (λ k. IsYoung (heap_with space slots sets).graph c.generation name × HasNumber (heap_with space slots sets) c name k)
-    number_is None not = λ young. not (young_in space slots c.generation name young)
-    number_is (Some n) is = (young_of space slots c.generation name is.0, record { in_range = omega (arith, is.1.in_range, opened.cells); is = is.1.is })
+    number_is : (n : Option ℕ) → MatchOption n (IsYoung (graph_in objects) c.generation name → ⊥) (λ k. IsYoung (graph_in objects) c.generation name × IsNumbered objects c.generation name k)
+        → MatchOption n (IsYoung (heap_with objects slots sets).graph c.generation name → ⊥) (λ k. IsYoung (heap_with objects slots sets).graph c.generation name × HasNumber (heap_with objects slots sets) c name k)
+    number_is None not = λ young. not (young_in objects slots sets c.generation name young)
+    number_is (Some n) is = (young_of objects slots sets c.generation name is.0, record { in_range = omega (arith, is.1.in_range, opened.cells); is = is.1.is })
 
-    go : (o : Option Object) → get space.objects name ≡ o → IsSomeAnd o (λ x. IsShownAs x (raw_of object)) → Some (step_pair at) ≡ option_map stands_at o → IsFound (heap_with space slots sets) c name (record { object = object; at = at; number = number })
+    go : (o : Option Object) → get objects.objects name ≡ o → IsSomeAnd o (λ x. IsShownAs x (raw_of object)) → Some (step_pair at) ≡ option_map stands_at o → IsFound (heap_with objects slots sets) c name (record { object = object; at = at; number = number })
     go None is h e = absurd h
     go (Some x) is h e = record { object = x; there = is; shown = h; stands = some_is e; number = number_is number numbered }

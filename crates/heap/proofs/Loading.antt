@@ -14,7 +14,7 @@ use Rattle.heap_data.specs.Words.{IsShownAs, target_of_word}
 use Rattle.heap_commit.specs.HeapView.{heap_of, heap_with}
 use Rattle.heap_commit.specs.IsHeap.{AreHeapObjects}
 use Rattle.heap_commit.specs.Roots.{roots_map}
-use Rattle.heap_space.specs.Space.{SpaceValue}
+use Rattle.heap_objects.specs.Objects.{ObjectsValue}
 use Rattle.heap.specs.Commands.{pointer_of, AddsRoot}
 use Rattle.model.proofs.ClosedLemmas.{field_is, closed-with_root}
 use Rattle.model.proofs.Options.{some_is}
@@ -69,13 +69,13 @@ target_there graph closed root i name leads = at_root (root_at graph root) leads
     at_root None e = absurd (cc)
     at_root (Some at) e = closed.fields at i name e
 
-pub closed_loaded : (space : SpaceValue) (slots slots' : List (Option Place)) (root i key name : ℕ) → IsClosed (heap_of space slots).graph → pointer_of (heap_of space slots).graph root i ≡ Some (Some name) → roots_map slots' ≡ insert (roots_map slots) key name → IsClosed (heap_of space slots').graph
-closed_loaded space slots slots' root i key name closed leads roots =
-    let there = target_there (heap_of space slots).graph closed root i name leads in
-    rw roots (closed-with_root (heap_of space slots).graph key name there.0 closed there.1)
+pub closed_loaded : (objects : ObjectsValue) (slots slots' : List (Option Place)) (root i key name : ℕ) → IsClosed (heap_of objects slots).graph → pointer_of (heap_of objects slots).graph root i ≡ Some (Some name) → roots_map slots' ≡ insert (roots_map slots) key name → IsClosed (heap_of objects slots').graph
+closed_loaded objects slots slots' root i key name closed leads roots =
+    let there = target_there (heap_of objects slots).graph closed root i name leads in
+    rw roots (closed-with_root (heap_of objects slots).graph key name there.0 closed there.1)
 
-pub adds_root : (space : SpaceValue) (slots slots' : List (Option Place)) (sets : List (List ℕ)) (key name : ℕ) → slice_index_or slots key None ≡ None → roots_map slots' ≡ insert (roots_map slots) key name → AddsRoot (heap_with space slots sets) name key (heap_with space slots' sets)
-adds_root space slots slots' sets key name vacant roots = record {
+pub adds_root : (objects : ObjectsValue) (slots slots' : List (Option Place)) (sets : List (List ℕ)) (key name : ℕ) → slice_index_or slots key None ≡ None → roots_map slots' ≡ insert (roots_map slots) key name → AddsRoot (heap_with objects slots sets) name key (heap_with objects slots' sets)
+adds_root objects slots slots' sets key name vacant roots = record {
   new_root = get-roots slots key ∙ ap (option_map place_word) vacant;
   change = rw roots refl;
 }

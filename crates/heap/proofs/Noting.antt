@@ -7,7 +7,8 @@ use Rattle.model.specs.Graph.{Object}
 use Rattle.model.proofs.Options.{some_is, some_not_none}
 use Rattle.steps.specs.StepPairs.{step_pair, stands_at}
 use Rattle.steps.specs.declared.step_id.StepId.{StepId}
-use Rattle.heap_space.specs.Space.{SpaceValue, IsSpace, graph_in}
+use Rattle.heap_objects.specs.Objects.{ObjectsValue, graph_in, heap_in}
+use Rattle.heap_objects.specs.Sound.{AreObjects}
 use Rattle.heap_commit.specs.HeapView.{heap_with}
 use Rattle.remembered_set.specs.Sets.{noted}
 use Rattle.heap.specs.Commands.{leads_younger, remembered_after}
@@ -25,22 +26,22 @@ pub none_standing : (found : Option Object) → None ≡ option_map stands_at fo
 none_standing None is = refl
 none_standing (Some o) is = absurd (some_not_none (sym is))
 
-pub generation_in_range : (space : SpaceValue) (name n : ℕ) → IsSpace space → option_map (λ o. o.generation) (get space.objects name) ≡ Some n → n < space.config.shape.generations
-generation_in_range space name n sound is = go (get space.objects name) refl is
+pub generation_in_range : (objects : ObjectsValue) (name n : ℕ) → AreObjects (heap_in objects) → option_map (λ o. o.generation) (get objects.objects name) ≡ Some n → n < objects.config.shape.generations
+generation_in_range objects name n sound is = go (get objects.objects name) refl is
   where
-    go : (found : Option Object) → get space.objects name ≡ found → option_map (λ o. o.generation) found ≡ Some n → n < space.config.shape.generations
+    go : (found : Option Object) → get objects.objects name ≡ found → option_map (λ o. o.generation) found ≡ Some n → n < objects.config.shape.generations
     go None there e = absurd (some_not_none (sym e))
-    go (Some o) there e = omega (arith, (sound.steps name o there).generation, some_is e)
+    go (Some o) there e = omega (arith, (sound.objects name o there).step.generation, some_is e)
 
-module _ (space : SpaceValue) (sets : List (List ℕ)) (name : ℕ) (o : Object) where
-  pub leads_is : (target : ℕ) (other : Object) (b : Bool) → get space.objects target ≡ Some other → nat_lt other.generation o.generation ≡ b → leads_younger (graph_in space) o (Some target) ≡ b
+module _ (objects : ObjectsValue) (sets : List (List ℕ)) (name : ℕ) (o : Object) where
+  pub leads_is : (target : ℕ) (other : Object) (b : Bool) → get objects.objects target ≡ Some other → nat_lt other.generation o.generation ≡ b → leads_younger (graph_in objects) o (Some target) ≡ b
   leads_is target other b there test = ap (λ found. option_map_or (λ t. nat_lt t.generation o.generation) found false) there ∙ test
 
-  pub leads_nowhere : (target : ℕ) → get space.objects target ≡ None → leads_younger (graph_in space) o (Some target) ≡ false
+  pub leads_nowhere : (target : ℕ) → get objects.objects target ≡ None → leads_younger (graph_in objects) o (Some target) ≡ false
   leads_nowhere target none = ap (λ found. option_map_or (λ t. nat_lt t.generation o.generation) found false) none
 
-  pub after_noted : (value : Option ℕ) → leads_younger (graph_in space) o value ≡ true → remembered_after (heap_with space [] sets) name o value ≡ noted sets o.generation name
+  pub after_noted : (value : Option ℕ) → leads_younger (graph_in objects) o value ≡ true → remembered_after (heap_with objects [] sets) name o value ≡ noted sets o.generation name
   after_noted value leads = ap (λ b. cond b (noted sets o.generation name) sets) leads
 
-  pub after_same : (value : Option ℕ) → leads_younger (graph_in space) o value ≡ false → sets ≡ remembered_after (heap_with space [] sets) name o value
+  pub after_same : (value : Option ℕ) → leads_younger (graph_in objects) o value ≡ false → sets ≡ remembered_after (heap_with objects [] sets) name o value
   after_same value leads = sym (ap (λ b. cond b (noted sets o.generation name) sets) leads)

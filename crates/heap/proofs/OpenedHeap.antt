@@ -4,23 +4,21 @@ use Rattle.std.specs.Prelude.{◌++◌}
 use Rattle.std.specs.FinMap.{entries}
 use Rattle.model.specs.OldSlots.{old_slots}
 use Rattle.layout.specs.declared.place.Place.{Place}
-use Rattle.heap_space.specs.Space.{SpaceValue, graph_in}
-use Rattle.heap_space.specs.Collecting.{AreBases}
-use Rattle.heap_data.specs.CollectionValue.{CollectionValue, IsOpened, young_names, root_slot, field_slot_of}
+use Rattle.heap_objects.specs.Objects.{ObjectsValue, graph_in}
+use Rattle.heap_data.specs.CollectionValue.{CollectionValue, IsNumbering, IsOpened, young_names, root_slot, field_slot_of}
 use Rattle.heap_commit.specs.HeapView.{heap_with}
 use Rattle.heap_commit.specs.Roots.{roots_map}
-use Rattle.heap_commit.proofs.OpenedBases.{young_in}
+use Rattle.remembering.proofs.WithSets.{numbering_of}
 
-pub opened_is : (space : SpaceValue) (slots : List (Option Place)) (sets : List (List ℕ)) (g : ℕ) (collection : CollectionValue) → g < space.config.shape.generations → collection.generation ≡ g
-    → collection.slots ≡ map (λ e. root_slot e.0 e.1) (entries (roots_map slots)) ++ map field_slot_of (old_slots (graph_in space) space.config.shape.generations g)
-    → collection.free ≡ space.free → AreBases space g collection.bases → collection.cells ≡ length (young_names (graph_in space) g)
-    → IsOpened (heap_with space slots sets) g collection
-opened_is space slots sets g collection in_range generation slots_are free bases cells = record {
+pub opened_is : (objects : ObjectsValue) (slots : List (Option Place)) (sets : List (List ℕ)) (g : ℕ) (collection : CollectionValue) → g < objects.config.shape.generations → collection.generation ≡ g
+    → collection.slots ≡ map (λ e. root_slot e.0 e.1) (entries (roots_map slots)) ++ map field_slot_of (old_slots (graph_in objects) objects.config.shape.generations g)
+    → collection.free ≡ objects.free → IsNumbering (graph_in objects) g collection.numbering → collection.cells ≡ length (young_names (graph_in objects) g)
+    → IsOpened (heap_with objects slots sets) g collection
+opened_is objects slots sets g collection in_range generation slots_are free numbering cells = record {
   generation = generation;
   in_range = in_range;
   slots = slots_are;
   free = free;
-  bases = bases.each;
-  covers = λ block offset lt young. bases.covers block offset lt (young_in space slots g _ young);
+  numbering = numbering_of objects slots sets g collection.numbering numbering;
   cells = cells;
 }

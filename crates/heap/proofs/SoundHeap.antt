@@ -11,11 +11,12 @@ use Rattle.layout.specs.Place.{small_word, large_word, place_word}
 use Rattle.heap_data.specs.HeapValue.{HeapValue}
 use Rattle.heap_data.specs.CollectedHeap.{HoldsObject}
 use Rattle.heap_data.specs.CollectionValue.{AreFreeBlocks, FreeBlocksAreEmpty}
-use Rattle.heap_data.specs.Plain.{NamesArePlaces}
+use Rattle.heap_data.specs.NamesArePlaces.{NamesArePlaces}
 use Rattle.block_table.proofs.Areas.{has_at}
 use Rattle.block_table.proofs.TableSteps.{get_or_any}
 use Rattle.heap_space.specs.Space.{IsPlace}
-use Rattle.heap_commit.specs.IsHeap.{IsHeap, AreHeapObjects, IsHeapObject, IsLargePlace}
+use Rattle.heap_objects.specs.Sound.{IsHeapObject, IsLargePlace}
+use Rattle.heap_commit.specs.IsHeap.{IsHeap, AreHeapObjects}
 
 pub heap_closed : (heap : HeapValue) → IsHeap heap → IsClosed heap.graph
 heap_closed heap sound = sound.blocks.closed

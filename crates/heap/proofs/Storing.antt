@@ -8,7 +8,7 @@ use Rattle.layout.specs.declared.place.Place.{Place}
 use Rattle.layout.specs.Place.{place_word}
 use Rattle.heap.specs.Commands.{value_at}
 use Rattle.heap_commit.specs.HeapView.{heap_of}
-use Rattle.heap_space.specs.Space.{SpaceValue}
+use Rattle.heap_objects.specs.Objects.{ObjectsValue}
 
 -- the object that a root leads to
 pub record Held (graph : Graph) (root name : ℕ) : Type 0 where
@@ -27,11 +27,11 @@ pub value_leads : (graph : Graph) (value : Option ℕ) (to : Option ℕ) → IsC
 value_leads graph None to closed is target e = let e' : ◌≡◌ {A = Option ℕ} None (Some target) = sym is ∙ e in absurd (cc)
 value_leads graph (Some root) to closed is target e = closed.roots root target (sym is ∙ e)
 
-module _ (space space' : SpaceValue) (slots : List (Option Place)) (root name : ℕ) (closed : IsClosed (heap_of space slots).graph) (h : Held (heap_of space slots).graph root name) where
-  pub pointer_stored : (i : ℕ) (value : Option ℕ) (to : Option ℕ) → to ≡ value_at (heap_of space slots).graph value → space' ≡ record space { objects = insert space.objects name (with_pointer h.object i to) } → IsClosed (heap_of space' slots).graph
+module _ (objects objects' : ObjectsValue) (slots : List (Option Place)) (root name : ℕ) (closed : IsClosed (heap_of objects slots).graph) (h : Held (heap_of objects slots).graph root name) where
+  pub pointer_stored : (i : ℕ) (value : Option ℕ) (to : Option ℕ) → to ≡ value_at (heap_of objects slots).graph value → objects' ≡ record objects { objects = insert objects.objects name (with_pointer h.object i to) } → IsClosed (heap_of objects' slots).graph
   pointer_stored i value to is changed =
-      rw changed (closed-with_pointer (heap_of space slots).graph name i h.object to closed h.there (value_leads (heap_of space slots).graph value to closed is))
+      rw changed (closed-with_pointer (heap_of objects slots).graph name i h.object to closed h.there (value_leads (heap_of objects slots).graph value to closed is))
 
-  pub plain_stored : (plain : List ℕ) → space' ≡ record space { objects = insert space.objects name (record h.object { plain = plain }) } → IsClosed (heap_of space' slots).graph
+  pub plain_stored : (plain : List ℕ) → objects' ≡ record objects { objects = insert objects.objects name (record h.object { plain = plain }) } → IsClosed (heap_of objects' slots).graph
   plain_stored plain changed =
-      rw changed (closed_same_pointers (heap_of space slots).graph name h.object (record h.object { plain = plain }) closed h.there refl)
+      rw changed (closed_same_pointers (heap_of objects slots).graph name h.object (record h.object { plain = plain }) closed h.there refl)

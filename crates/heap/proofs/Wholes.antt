@@ -7,31 +7,69 @@ use Rattle.std.specs.Prelude.{nat_eq}
 use Rattle.std.specs.Ordering.{nat_cmp}
 use Rattle.std.specs.FinMap.{get, insert, get-empty}
 use Rattle.model.specs.Config.{Config}
-use Rattle.model.specs.Graph.{Object, with_pointer, with_object, with_root, fresh_object}
+use Rattle.model.specs.Graph.{Object, IsClosed, with_pointer, with_object, with_root, fresh_object}
 use Rattle.model.specs.Census.{points_younger}
 use Rattle.model.specs.Reached.{has}
 use Rattle.model.proofs.ClosedLemmas.{closed_empty, closed_fresh}
 use Rattle.layout.specs.declared.place.Place.{Place}
 use Rattle.heap_data.specs.HeapValue.{HeapValue, empty_heap}
-use Rattle.heap_space.specs.Space.{SpaceValue, IsSpace}
+use Rattle.heap_data.specs.CollectedHeap.{HoldsObject, IsFreeBlock}
+use Rattle.heap_objects.specs.Objects.{ObjectsValue, heap_in}
+use Rattle.heap_objects.specs.Blocks.{HasBlocks, HaveBlocks}
+use Rattle.heap_objects.specs.Sound.{AreObjects}
 use Rattle.heap_commit.specs.HeapView.{heap_of, heap_with}
-use Rattle.heap_commit.specs.IsHeap.{IsHeap}
-use Rattle.heap_commit.proofs.SoundSpace.{is_heap}
+use Rattle.heap_commit.specs.IsHeap.{IsHeap, AreHeapObjects}
 use Rattle.remembered_set.specs.Sets.{members_of, noted}
 use Rattle.remembering.proofs.Grown.{grown_same, grown_noted, noted_has}
 use Rattle.remembering.specs.Growth.{AreGrown}
-use Rattle.remembering.proofs.WithSets.{objects_with}
 use Rattle.heap.specs.Whole.{IsWhole}
-use Rattle.heap.specs.Commands.{Allocates, leads_younger, remembered_after, value_at}
+use Rattle.heap.specs.Commands.{AllocatesSmall, AllocatesLarge, leads_younger, remembered_after, value_at}
 use Rattle.heap.proofs.Covering.{covers-fresh, covers-same_pointers, covers-stored}
 use Rattle.heap.proofs.Storing.{Held, pointer_stored, plain_stored}
 
-pub heap_is : (space : SpaceValue) (slots : List (Option Place)) (sets : List (List ℕ)) → IsSpace space → IsWhole (heap_with space slots sets) → IsHeap (heap_with space slots sets)
-heap_is space slots sets sound whole = record {
-  blocks = objects_with space slots sets (is_heap space slots sound whole.closed);
-  sets = whole.sets;
-  remembered = whole.covers;
-}
+-- the objects make a sound heap with any roots and remembered sets
+module _ (objects : ObjectsValue) (slots : List (Option Place)) (sets : List (List ℕ)) where
+  holds_in : (block : ℕ) → HoldsObject (heap_with objects slots sets).graph block → HoldsObject (heap_in objects).graph block
+  holds_in block holds = record { offset = holds.offset; object = holds.object; in_range = holds.in_range; there = holds.there }
+
+  holds_of : (block : ℕ) → HoldsObject (heap_in objects).graph block → HoldsObject (heap_with objects slots sets).graph block
+  holds_of block holds = record { offset = holds.offset; object = holds.object; in_range = holds.in_range; there = holds.there }
+
+  free_of : (block : ℕ) → IsFreeBlock (heap_in objects) block → IsFreeBlock (heap_with objects slots sets) block
+  free_of block free = record { in_pool = free.in_pool; in_range = free.in_range; holds_none = λ holds. free.holds_none (holds_in block holds); no_large = free.no_large }
+
+  free_in : (block : ℕ) → IsFreeBlock (heap_with objects slots sets) block → IsFreeBlock (heap_in objects) block
+  free_in block free = record { in_pool = free.in_pool; in_range = free.in_range; holds_none = λ holds. free.holds_none (holds_of block holds); no_large = free.no_large }
+
+  blocks_of : (o : Object) (blocks : List ℕ) → HasBlocks (heap_in objects) o blocks → HasBlocks (heap_with objects slots sets) o blocks
+  blocks_of o blocks theirs = record { large = theirs.large; count = theirs.count; once = theirs.once; in_pool = theirs.in_pool; hold_none = λ block h holds. theirs.hold_none block h (holds_in block holds) }
+
+  large_of : HaveBlocks (heap_in objects) → HaveBlocks (heap_with objects slots sets)
+  large_of large = record {
+    each = large.each;
+    theirs = λ name blocks is. let there = large.theirs name blocks is in (there.0, there.1, blocks_of there.0 blocks there.2);
+    apart = large.apart;
+  }
+
+  pub objects_are : AreObjects (heap_in objects) → IsClosed (heap_with objects slots sets).graph → AreHeapObjects (heap_with objects slots sets)
+  objects_are sound closed = record {
+    range = sound.range;
+    closed = closed;
+    objects = sound.objects;
+    places = sound.places;
+    mutators = sound.mutators;
+    rooms = sound.rooms;
+    free = λ block. (λ h. free_of block ((sound.free block).0 h), λ free. (sound.free block).1 (free_in block free));
+    rising = sound.rising;
+    large = large_of sound.large;
+  }
+
+  pub heap_is : AreObjects (heap_in objects) → IsWhole (heap_with objects slots sets) → IsHeap (heap_with objects slots sets)
+  heap_is sound whole = record {
+    blocks = objects_are sound whole.closed;
+    sets = whole.sets;
+    remembered = whole.covers;
+  }
 
 pub whole_empty : (config : Config) → IsWhole (empty_heap config)
 whole_empty config = record {
@@ -40,13 +78,26 @@ whole_empty config = record {
   covers = λ h name holder. absurd (true≢false (sym holder ∙ ap (λ found. option_map_or (points_younger (get (empty_heap config).graph.objects)) (option_and_then (λ o. cond (nat_eq o.generation h) (Some o) None) found) false) (get-empty nat_cmp name)));
 }
 
-pub whole_allocated : (space : SpaceValue) (slots : List (Option Place)) (sets : List (List ℕ)) (mutator p q key : ℕ) (new : HeapValue) → IsWhole (heap_with space slots sets) → Allocates (heap_with space slots sets) mutator p q key new → IsWhole new
-whole_allocated space slots sets mutator p q key new whole made =
-    rw made.change record {
-      closed = closed_fresh (heap_with space slots sets).graph key made.name p q whole.closed;
-      sets = whole.sets;
-      covers = covers-fresh (heap_with space slots sets).graph (with_root (with_object (heap_with space slots sets).graph made.name (fresh_object p q)) key made.name) sets made.name p q whole.closed made.new_name refl (grown_same sets sets refl) whole.covers;
-    }
+-- a new object leads nowhere
+module _ (objects : ObjectsValue) (slots : List (Option Place)) (sets : List (List ℕ)) (p q key : ℕ) (new : HeapValue) (whole : IsWhole (heap_with objects slots sets)) where
+  abbrev heap : HeapValue
+  heap = heap_with objects slots sets
+
+  pub whole_small : (mutator : ℕ) → AllocatesSmall heap mutator p q key new → IsWhole new
+  whole_small mutator made =
+      rw made.change record {
+        closed = closed_fresh heap.graph key made.name p q whole.closed;
+        sets = whole.sets;
+        covers = covers-fresh heap.graph (with_root (with_object heap.graph made.name (fresh_object p q)) key made.name) sets made.name p q whole.closed made.new_name refl (grown_same sets sets refl) whole.covers;
+      }
+
+  pub whole_large : AllocatesLarge heap p q key new → IsWhole new
+  whole_large made =
+      rw made.change record {
+        closed = closed_fresh heap.graph key made.name p q whole.closed;
+        sets = whole.sets;
+        covers = covers-fresh heap.graph (with_root (with_object heap.graph made.name (fresh_object p q)) key made.name) sets made.name p q whole.closed made.new_name refl (grown_same sets sets refl) whole.covers;
+      }
 
 -- the sets after a store
 module _ (heap : HeapValue) (name : ℕ) (holder : Object) (value : Option ℕ) (in_range : holder.generation < length heap.remembered) where
@@ -60,21 +111,21 @@ module _ (heap : HeapValue) (name : ℕ) (holder : Object) (value : Option ℕ) 
   pub after_has : leads_younger heap.graph holder value ≡ true → has (members_of (remembered_after heap name holder value) holder.generation) name ≡ true
   after_has leads = ap (λ b. has (members_of (cond b (noted heap.remembered holder.generation name) heap.remembered) holder.generation) name) leads ∙ noted_has heap.remembered holder.generation name in_range
 
-module _ (space space' : SpaceValue) (slots : List (Option Place)) (sets : List (List ℕ)) (root name : ℕ) (sound : IsSpace space) (whole : IsWhole (heap_with space slots sets)) (h : Held (heap_of space slots).graph root name) where
-  pub whole_put : (plain : List ℕ) → space' ≡ record space { objects = insert space.objects name (record h.object { plain = plain }) } → IsWhole (heap_with space' slots sets)
+module _ (objects objects' : ObjectsValue) (slots : List (Option Place)) (sets : List (List ℕ)) (root name : ℕ) (sound : AreObjects (heap_in objects)) (whole : IsWhole (heap_with objects slots sets)) (h : Held (heap_of objects slots).graph root name) where
+  pub whole_put : (plain : List ℕ) → objects' ≡ record objects { objects = insert objects.objects name (record h.object { plain = plain }) } → IsWhole (heap_with objects' slots sets)
   whole_put plain changed = record {
-    closed = plain_stored space space' slots root name whole.closed h plain changed;
+    closed = plain_stored objects objects' slots root name whole.closed h plain changed;
     sets = whole.sets ∙ ap (λ s. s.config.shape.generations) (sym changed);
-    covers = covers-same_pointers (heap_with space slots sets).graph (heap_with space' slots sets).graph sets name h.object (record h.object { plain = plain }) h.there refl refl (ap (λ s. s.objects) changed) (grown_same sets sets refl) whole.covers;
+    covers = covers-same_pointers (heap_with objects slots sets).graph (heap_with objects' slots sets).graph sets name h.object (record h.object { plain = plain }) h.there refl refl (ap (λ s. s.objects) changed) (grown_same sets sets refl) whole.covers;
   }
 
-  pub whole_stored : (i : ℕ) (value to : Option ℕ) (sets' : List (List ℕ)) → to ≡ value_at (heap_of space slots).graph value → space' ≡ record space { objects = insert space.objects name (with_pointer h.object i to) } → sets' ≡ remembered_after (heap_with space slots sets) name h.object to → IsWhole (heap_with space' slots sets')
+  pub whole_stored : (i : ℕ) (value to : Option ℕ) (sets' : List (List ℕ)) → to ≡ value_at (heap_of objects slots).graph value → objects' ≡ record objects { objects = insert objects.objects name (with_pointer h.object i to) } → sets' ≡ remembered_after (heap_with objects slots sets) name h.object to → IsWhole (heap_with objects' slots sets')
   whole_stored i value to sets' is changed after =
-      let in_range : h.object.generation < length sets = omega (arith, (sound.steps name h.object h.there).generation, whole.sets) in
-      let grown = subst (AreGrown sets) (sym after) (after_grown (heap_with space slots sets) name h.object to in_range) in
-      let noted_now : leads_younger (heap_with space slots sets).graph h.object to ≡ true → has (members_of sets' h.object.generation) name ≡ true = λ leads. ap (λ ss. has (members_of ss h.object.generation) name) after ∙ after_has (heap_with space slots sets) name h.object to in_range leads in
+      let in_range : h.object.generation < length sets = omega (arith, (sound.objects name h.object h.there).step.generation, whole.sets) in
+      let grown = subst (AreGrown sets) (sym after) (after_grown (heap_with objects slots sets) name h.object to in_range) in
+      let noted_now : leads_younger (heap_with objects slots sets).graph h.object to ≡ true → has (members_of sets' h.object.generation) name ≡ true = λ leads. ap (λ ss. has (members_of ss h.object.generation) name) after ∙ after_has (heap_with objects slots sets) name h.object to in_range leads in
       record {
-        closed = pointer_stored space space' slots root name whole.closed h i value to is changed;
+        closed = pointer_stored objects objects' slots root name whole.closed h i value to is changed;
         sets = grown.generations ∙ whole.sets ∙ ap (λ s. s.config.shape.generations) (sym changed);
-        covers = covers-stored (heap_with space slots sets).graph (heap_with space' slots sets').graph sets sets' name i h.object to h.there (ap (λ s. s.objects) changed) grown noted_now whole.covers;
+        covers = covers-stored (heap_with objects slots sets).graph (heap_with objects' slots sets').graph sets sets' name i h.object to h.there (ap (λ s. s.objects) changed) grown noted_now whole.covers;
       }

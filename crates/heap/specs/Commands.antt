@@ -1,6 +1,6 @@
 -- What the commands on a heap do.
-use Rattle.std.specs.Prelude.{◌≡◌, ℕ, ◌+◌, ◌/◌, ◌<◌, ◌||◌, Bool, List, length, Option, Some, None, IsTrue, IsSome, IsSomeAnd, nat_lt, if◌then◌else◌, slice_get, slice_set, option_and_then}
-use Rattle.std.specs.FinMap.{values, len}
+use Rattle.std.specs.Prelude.{◌≡◌, ℕ, ◌+◌, ◌/◌, ◌<◌, ◌≤◌, ◌⊎◌, ◌||◌, Bool, false, List, length, take, drop, Option, Some, None, IsTrue, IsSome, IsSomeAnd, nat_lt, if◌then◌else◌, slice_get, slice_set, option_and_then}
+use Rattle.std.specs.FinMap.{values, len, insert}
 use Rattle.model.specs.Graph.{Graph, Object, object_at, root_at, with_object, with_root, with_pointer, fresh_object}
 use Rattle.model.specs.Reached.{has}
 use Rattle.model.specs.Room.{Room, room_after}
@@ -8,23 +8,50 @@ use Rattle.model.specs.Census.{Census, census_of, points_to}
 use Rattle.remembered_set.specs.Sets.{noted}
 use Rattle.heap_data.specs.HeapValue.{HeapValue}
 use Rattle.heap_data.specs.Remembered.{members_at}
+use Rattle.heap_objects.specs.Objects.{wanted}
 
--- today an object may take at most a quarter of a block
-abbrev pub is_too_big : HeapValue → ℕ → ℕ → Bool
-is_too_big heap p q = nat_lt 100000 p || nat_lt 100000 q || nat_lt (heap.config.block_words / 4) (1 + p + q)
+-- an object may have at most so many pointers, and so many plain words
+abbrev pub is_too_big : ℕ → ℕ → Bool
+is_too_big p q = nat_lt 100000 p || nat_lt 100000 q
+
+-- an object with so many pointers and plain words takes more than a quarter of a block
+abbrev pub is_large_size : HeapValue → ℕ → ℕ → Bool
+is_large_size heap p q = nat_lt (heap.config.block_words / 4) (1 + p + q)
+
+-- how many blocks a large object takes
+abbrev pub wanted_blocks : HeapValue → ℕ → ℕ → ℕ
+wanted_blocks heap p q = wanted heap.config p q
 
 -- the room of a mutator's nursery after a small object of so many words, where it has room
 abbrev pub room_for : HeapValue → ℕ → ℕ → Option Room
 room_for heap mutator size = option_and_then (λ room. room_after heap.config.block_words room size) (slice_get heap.rooms mutator)
 
 -- a new small object at a new name, and a new root to it
-pub record Allocates (old : HeapValue) (mutator p q root : ℕ) (new : HeapValue) : Type 0 where
+pub record AllocatesSmall (old : HeapValue) (mutator p q root : ℕ) (new : HeapValue) : Type 0 where
   pub name : ℕ
   pub room : Room
+  pub small : is_large_size old p q ≡ false
   pub new_name : object_at old.graph name ≡ None
   pub new_root : root_at old.graph root ≡ None
   pub has_room : room_for old mutator (1 + p + q) ≡ Some room
   pub change : new ≡ record old { graph = with_root (with_object old.graph name (fresh_object p q)) root name; rooms = slice_set old.rooms mutator room }
+
+-- a new large object at a new name, in the first free blocks, and a new root to it
+pub record AllocatesLarge (old : HeapValue) (p q root : ℕ) (new : HeapValue) : Type 0 where
+  pub name : ℕ
+  pub large : IsTrue (is_large_size old p q)
+  pub enough : wanted_blocks old p q ≤ length old.free
+  pub new_name : object_at old.graph name ≡ None
+  pub new_root : root_at old.graph root ≡ None
+  pub change : new ≡ record old {
+    graph = with_root (with_object old.graph name (fresh_object p q)) root name;
+    free = drop (wanted_blocks old p q) old.free;
+    large_blocks = insert old.large_blocks name (take (wanted_blocks old p q) old.free);
+  }
+
+-- a new object at a new name, small or large by its size, and a new root to it
+abbrev pub Allocates : HeapValue → (mutator p q root : ℕ) → HeapValue → Type 0
+Allocates old mutator p q root new = AllocatesSmall old mutator p q root new ⊎ AllocatesLarge old p q root new
 
 -- what a census of the heap shows
 abbrev pub heap_census : HeapValue → Census

@@ -5,6 +5,8 @@ pub mod Whole
 pub use Rattle.steps.specs.ConfigRange
 pub use Rattle.steps.specs.ConfigView
 pub use Rattle.steps.specs.StepPairs
+pub use Rattle.heap_objects.specs.Sound
+pub use Rattle.heap_objects.specs.Blocks
 pub use Rattle.heap_commit.specs.Roots
 pub use Rattle.heap_commit.specs.HeapView
 pub use Rattle.heap_commit.specs.IsHeap
@@ -14,10 +16,11 @@ pub use Rattle.heap_data.specs.CensusCode
 pub use Rattle.heap_data.specs.CensusView
 pub use Rattle.heap_data.specs.Words
 pub use Rattle.heap_data.specs.BlockObjects
+pub use Rattle.heap_data.specs.Numbering
 pub use Rattle.heap_data.specs.CollectionValue
 pub use Rattle.heap_data.specs.SlotView
 pub use Rattle.heap_data.specs.CollectionCode
-pub use Rattle.heap_data.specs.Plain
+pub use Rattle.heap_data.specs.NamesArePlaces
 pub use Rattle.heap_data.specs.ReportValue
 pub use Rattle.heap_data.specs.ReportView
 pub use Rattle.heap_data.specs.Remembered

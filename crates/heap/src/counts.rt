@@ -8,29 +8,31 @@ ghost use Rattle.heap_data.specs.CensusView.{step_value};
 
 use arrayvec::ArrayVec;
 use heap_data::{MOST_STEPS, StepCount};
-use heap_space::Space;
+use heap_objects::HeapObjects;
 use std::alloc::Allocator;
 use steps::StepId;
 
 /// The objects of each of these steps.
 fn counts_of<A: Allocator + Clone>(
-    space: &Space<A>,
+    objects: &HeapObjects<A>,
     steps: &[StepId],
 ) -> ArrayVec<StepCount, MOST_STEPS>
     requires { length steps.now ≤ 13 }
-    ensures { map step_value result.items ≡ map (step_count space.now.config.block_words (values space.now.objects)) (map step_pair steps.now) }
+    ensures { map step_value result.items ≡ map (step_count objects.now.config.block_words (values objects.now.objects)) (map step_pair steps.now) }
 {
     let mut counts = ArrayVec::new();
     for number in 0..steps.len() {
-        counts.push(space.count(steps[number]));
+        counts.push(objects.count(steps[number]));
     }
     counts
 }
 
 /// The small objects of each generation and step.
-pub(crate) fn step_counts<A: Allocator + Clone>(space: &Space<A>) -> ArrayVec<StepCount, MOST_STEPS>
-    ensures { map step_value result.items ≡ map (step_count space.now.config.block_words (values space.now.objects)) (all_steps space.now.config.shape) }
+pub(crate) fn step_counts<A: Allocator + Clone>(
+    objects: &HeapObjects<A>,
+) -> ArrayVec<StepCount, MOST_STEPS>
+    ensures { map step_value result.items ≡ map (step_count objects.now.config.block_words (values objects.now.objects)) (all_steps objects.now.config.shape) }
 {
-    let steps = space.config().all_steps();
-    counts_of(space, steps.as_slice())
+    let steps = objects.config().all_steps();
+    counts_of(objects, steps.as_slice())
 }

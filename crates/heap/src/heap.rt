@@ -1,12 +1,12 @@
 //! The heap.
-ghost use Rattle.std.specs.Prelude.{◌≡◌, ◌≢◌, ◌+◌, ◌<◌, ◌≤◌, ◌↔◌, Some, None, false, IsTrue, IsSome, IsOk, IfOk, OnOk, OnErr};
+ghost use Rattle.std.specs.Prelude.{◌≡◌, ◌≢◌, ◌+◌, ◌/◌, ◌<◌, ◌≤◌, ◌↔◌, Some, None, false, IsTrue, IsSome, IsOk, IfOk, OnOk, OnErr};
 ghost use Rattle.std.specs.Option.{option_map};
 ghost use Rattle.model.specs.Graph.{root_at, without_root};
 ghost use Rattle.layout.specs.Place.{place_word};
 ghost use Rattle.heap_data.specs.HeapValue.{empty_heap, nursery_count};
 ghost use Rattle.heap.specs.Found.{IsFound};
 ghost use Rattle.heap_commit.specs.IsHeap.{IsHeap};
-ghost use Rattle.heap.specs.Commands.{Allocates, is_too_big, room_for, heap_census, Changes, HasPointer, HasPlain, IsValue, value_at, rooted_object, pointer_of, Loads, Stores, MustNote};
+ghost use Rattle.heap.specs.Commands.{Allocates, AllocatesSmall, AllocatesLarge, is_too_big, is_large_size, wanted_blocks, room_for, heap_census, Changes, HasPointer, HasPlain, IsValue, value_at, rooted_object, pointer_of, Loads, Stores, MustNote};
 ghost use Rattle.std.specs.Prelude.{MatchOption, IsSomeAnd, IsNone, ◌⊎◌, slice_get, slice_set, slice_index, length, sum_by, Err};
 ghost use Rattle.model.specs.Graph.{object_at};
 ghost use Rattle.model.specs.Live.{IsYoung};
@@ -25,7 +25,7 @@ use crate::counts::step_counts;
 use crate::found::Found;
 use crate::opening::opened;
 use heap_data::{Census, Collection, Report, RootId, Settled};
-use heap_space::Space;
+use heap_objects::HeapObjects;
 use layout::{ObjectRef, Place};
 use remembered_set::Remembered;
 use remembering::commit;
@@ -49,10 +49,12 @@ pub enum MakeError {
 #[derive(Clone, Copy, Debug, PartialEq, Eq)]
 pub enum AllocateError {
     NoMutator,
-    /// More than 100,000 pointers or plain words, or today more words in all than a quarter of a block.
+    /// More than 100,000 pointers or plain words.
     TooBig,
-    /// The mutator's nursery has no room. A collection makes room.
+    /// The object is small, and the mutator's nursery has no room. A collection makes room.
     NurseryFull,
+    /// The object is large, and fewer blocks are free than it takes. No collection is made for it.
+    HeapFull,
     NoMemory,
 }
 
@@ -94,10 +96,10 @@ pub enum LoadError {
     NoMemory,
 }
 
-/// Objects in blocks, roots that lead to them, and the objects that a collection of younger ones has to look at.
+/// Objects, roots that lead to them, and the objects that a collection of younger ones has to look at.
 #[derive(Drop)]
 pub struct Heap<A: Allocator = Global> {
-    space: Space<A>,
+    objects: HeapObjects<A>,
     roots: Roots<A>,
     // For each generation the objects that may have a pointer to a younger one.
     remembered: Remembered<A>,
@@ -113,9 +115,9 @@ impl<A: Allocator> Model for Heap<A> {
     ghost use Rattle.heap_commit.specs.HeapView.{heap_with};
     ghost use Rattle.heap.specs.Whole.{IsWhole};
 
-    ghost view = { λ h. heap_with h.space h.roots.slots h.remembered };
+    ghost view = { λ h. heap_with h.objects h.roots.slots h.remembered };
 
-    ghost invariant = { λ h. IsWhole (heap_with h.space h.roots.slots h.remembered) };
+    ghost invariant = { λ h. IsWhole (heap_with h.objects h.roots.slots h.remembered) };
 }
 
 impl<A: Allocator + Clone> Heap<A> {
@@ -145,48 +147,91 @@ impl<A: Allocator + Clone> Heap<A> {
     {
         let roots = Roots::new(own.clone()?)?;
         let remembered = Remembered::new(own, config.generations())?;
-        let space = Space::new(alloc, config)?;
-        let _free = space.free_count();
+        let objects = HeapObjects::new(alloc, config)?;
+        let _free = objects.free_count();
         Ok(Heap {
-            space,
+            objects,
             roots,
             remembered,
         })
     }
 
-    /// A new small object of a mutator, with `p` nil pointers and `q` zero words, and a new root to it.
-    /// It does not collect.
+    /// A new object of a mutator, with `p` nil pointers and `q` zero words, and a new root to it. Where it takes more than a
+    /// quarter of a block it is large, and stands in blocks of its own. It does not collect.
     pub fn allocate(&mut self, mutator: u64, p: u64, q: u64) -> Result<RootId, AllocateError>
         ensures ok { IfOk result (λ root. Allocates self.old mutator p q root.number self.new) }
         ensures no_mutator { (result ≡ Err AllocateError.NoMutator) ↔ (self.old.config.mutators ≤ mutator) }
         ensures too_big { (result ≡ Err AllocateError.TooBig)
-            ↔ ((mutator < self.old.config.mutators) × IsTrue (is_too_big self.old p q)) }
+            ↔ ((mutator < self.old.config.mutators) × IsTrue (is_too_big p q)) }
         ensures full { (result ≡ Err AllocateError.NurseryFull)
-            ↔ ((mutator < self.old.config.mutators) × (is_too_big self.old p q ≡ false)
+            ↔ ((mutator < self.old.config.mutators) × (is_too_big p q ≡ false) × (is_large_size self.old p q ≡ false)
             × (room_for self.old mutator (1 + p + q) ≡ None)) }
+        ensures heap_full { (result ≡ Err AllocateError.HeapFull)
+            ↔ ((mutator < self.old.config.mutators) × (is_too_big p q ≡ false) × IsTrue (is_large_size self.old p q)
+            × (length self.old.free < wanted_blocks self.old p q)) }
         ensures err { OnErr result (self.new ≡ self.old) }
     {
-        let config = self.space.config();
+        let config = self.objects.config();
         if mutator >= config.mutators() as u64 {
             return Err(AllocateError::NoMutator);
         }
-        if p > MOST_FIELDS || q > MOST_FIELDS || 1 + p + q > config.block_words() as u64 / 4 {
+        if p > MOST_FIELDS || q > MOST_FIELDS {
             return Err(AllocateError::TooBig);
         }
-        if !self
-            .space
-            .has_room(mutator as usize, 1 + p as usize + q as usize)
-        {
+        if 1 + p + q > config.block_words() as u64 / 4 {
+            return self.allocate_large(p as u32, q as u32);
+        }
+        self.allocate_small(mutator as usize, p as u32, q as u32)
+    }
+
+    /// The same for a small object and a mutator that there is.
+    fn allocate_small(&mut self, mutator: usize, p: u32, q: u32) -> Result<RootId, AllocateError>
+        requires mutator { mutator < self.old.config.mutators }
+        requires small { 1 + p + q ≤ self.old.config.block_words / 4 }
+        ensures ok { IfOk result (λ root. AllocatesSmall self.old mutator p q root.number self.new) }
+        ensures full { (result ≡ Err AllocateError.NurseryFull) ↔ (room_for self.old mutator (1 + p + q) ≡ None) }
+        ensures has_mutator { result ≢ Err AllocateError.NoMutator }
+        ensures fits { result ≢ Err AllocateError.TooBig }
+        ensures is_small { result ≢ Err AllocateError.HeapFull }
+        ensures err { OnErr result (self.new ≡ self.old) }
+    {
+        if !self.objects.has_room(mutator, 1 + p as usize + q as usize) {
             return Err(AllocateError::NurseryFull);
         }
         if self.roots.reserve().is_err() {
             return Err(AllocateError::NoMemory);
         }
-        match self.space.allocate(mutator as usize, p as u32, q as u32) {
+        match self.objects.allocate(mutator, p, q) {
             Some(place) => Ok(RootId {
                 number: self.roots.insert_reserved(place),
             }),
             None => Err(AllocateError::NurseryFull),
+        }
+    }
+
+    /// The same for a large object.
+    fn allocate_large(&mut self, p: u32, q: u32) -> Result<RootId, AllocateError>
+        requires pointers { p ≤ 100000 }
+        requires plain { q ≤ 100000 }
+        requires large { self.old.config.block_words / 4 < 1 + p + q }
+        ensures ok { IfOk result (λ root. AllocatesLarge self.old p q root.number self.new) }
+        ensures full { (result ≡ Err AllocateError.HeapFull) ↔ (length self.old.free < wanted_blocks self.old p q) }
+        ensures has_mutator { result ≢ Err AllocateError.NoMutator }
+        ensures fits { result ≢ Err AllocateError.TooBig }
+        ensures is_large { result ≢ Err AllocateError.NurseryFull }
+        ensures err { OnErr result (self.new ≡ self.old) }
+    {
+        if self.objects.free_count() < self.objects.wanted(p, q) {
+            return Err(AllocateError::HeapFull);
+        }
+        if self.roots.reserve().is_err() {
+            return Err(AllocateError::NoMemory);
+        }
+        match self.objects.allocate_large(p, q) {
+            Ok(place) => Ok(RootId {
+                number: self.roots.insert_reserved(place),
+            }),
+            Err(_) => Err(AllocateError::NoMemory),
         }
     }
 
@@ -196,7 +241,7 @@ impl<A: Allocator + Clone> Heap<A> {
         ensures ok { OnOk result (self.new ≡ record self.old { graph = without_root self.old.graph root.number }) }
         ensures err { OnErr result (self.new ≡ self.old) }
     {
-        let _space = &self.space;
+        let _objects = &self.objects;
         let Some(_place) = self.roots.remove(root.number) else {
             return Err(NoRoot);
         };
@@ -225,7 +270,7 @@ impl<A: Allocator + Clone> Heap<A> {
         let Some(holder) = self.target(root) else {
             return Err(StoreError::NoRoot);
         };
-        if field >= self.space.pointer_count(holder) as u64 {
+        if field >= self.objects.pointer_count(holder) as u64 {
             return Err(StoreError::BadField);
         }
         let target = match value {
@@ -235,11 +280,11 @@ impl<A: Allocator + Clone> Heap<A> {
                 None => return Err(StoreError::NoRoot),
             },
         };
-        let Ok(()) = remember(&self.space, &mut self.remembered, holder, target) else {
+        let Ok(()) = remember(&self.objects, &mut self.remembered, holder, target) else {
             return Err(StoreError::NoMemory);
         };
-        let _space = self.space.free_count();
-        self.space.set_pointer(holder, field as usize, target);
+        let _objects = self.objects.free_count();
+        self.objects.set_pointer(holder, field as usize, target);
         Ok(())
     }
 
@@ -256,11 +301,11 @@ impl<A: Allocator + Clone> Heap<A> {
         let Some(holder) = self.target(root) else {
             return Err(FieldError::NoRoot);
         };
-        if field >= self.space.plain_count(holder) as u64 {
+        if field >= self.objects.plain_count(holder) as u64 {
             return Err(FieldError::BadField);
         }
-        let _space = self.space.free_count();
-        self.space.set_plain(holder, field as usize, value);
+        let _objects = self.objects.free_count();
+        self.objects.set_plain(holder, field as usize, value);
         Ok(())
     }
 
@@ -275,7 +320,7 @@ impl<A: Allocator + Clone> Heap<A> {
         let Some(holder) = self.target(root) else {
             return Err(FieldError::NoRoot);
         };
-        match self.space.object(holder) {
+        match self.objects.object(holder) {
             Some(object) if field < object.words.len() as u64 => Ok(object.words[field as usize]),
             _ => Err(FieldError::BadField),
         }
@@ -312,11 +357,11 @@ impl<A: Allocator + Clone> Heap<A> {
             ↔ (IsSome (root_at self.now.graph root.number) × ¬ (HasPointer self.now.graph root.number field)) }
         ensures memory { result ≢ Err LoadError.NoMemory }
     {
-        let _free = self.space.free_count();
+        let _free = self.objects.free_count();
         let Some(holder) = self.target(root) else {
             return Err(LoadError::NoRoot);
         };
-        match self.space.object(holder) {
+        match self.objects.object(holder) {
             Some(object) if field < object.pointers.len() as u64 => {
                 match Place::from_word(object.pointers[field as usize]) {
                     Some(pointer) => Ok(pointer),
@@ -339,12 +384,13 @@ impl<A: Allocator + Clone> Heap<A> {
     pub fn census(&self) -> Census
         ensures { result ≡ heap_census self.now }
     {
-        let _free = self.space.free_count();
-        let steps = step_counts(&self.space);
+        let _free = self.objects.free_count();
+        let steps = step_counts(&self.objects);
         Census::new(
             steps,
+            self.objects.count_large(),
             self.roots.len() as u64,
-            self.space.count_remembered(),
+            self.objects.count_remembered(),
         )
     }
 
@@ -352,7 +398,7 @@ impl<A: Allocator + Clone> Heap<A> {
     pub fn config(&self) -> Config
         ensures { result ≡ self.now.config }
     {
-        self.space.config()
+        self.objects.config()
     }
 
     /// The object at a place, where there is one.
@@ -360,14 +406,14 @@ impl<A: Allocator + Clone> Heap<A> {
         ensures { MatchOption result (object_at self.now.graph (place_word place) ≡ None)
             (λ object. IsSomeAnd (object_at self.now.graph (place_word place)) (λ o. IsShownAs o (raw_of object))) }
     {
-        self.space.object(place)
+        self.objects.object(place)
     }
 
     /// The generation and step of the object at a place, where there is one.
     pub fn step_of(&self, place: Place) -> Option<StepId>
         ensures { option_map step_pair result ≡ option_map stands_at (object_at self.now.graph (place_word place)) }
     {
-        self.space.step_of(place)
+        self.objects.step_of(place)
     }
 
     /// Opens a collection of the generations 0 to `g`. The heap stays as it is.
@@ -378,11 +424,11 @@ impl<A: Allocator + Clone> Heap<A> {
         ensures range { IsInRange self.now.config }
         ensures sound { IsHeap self.now }
     {
-        let _free = self.space.free_count();
-        if g >= self.space.config().generations() as u64 {
+        let _free = self.objects.free_count();
+        if g >= self.objects.config().generations() as u64 {
             return Err(OpenError::NoGeneration);
         }
-        match opened(alloc, &self.space, &self.roots, &self.remembered, g as u8) {
+        match opened(alloc, &self.objects, &self.roots, &self.remembered, g as u8) {
             Ok(collection) => Ok(collection),
             Err(_) => Err(OpenError::NoMemory),
         }
@@ -395,8 +441,8 @@ impl<A: Allocator + Clone> Heap<A> {
         ensures in_range { result < collection.now.cells }
         ensures number { slice_index (young_names self.now.graph collection.now.generation) result ≡ place_word place }
     {
-        self.space
-            .number_of(collection.bases(), collection.generation(), place)
+        self.objects
+            .number_of(collection.numbering(), collection.generation(), place)
     }
 
     /// The object at a place where there is one, with its generation and step, and with its number in a collection that was
@@ -408,8 +454,8 @@ impl<A: Allocator + Clone> Heap<A> {
         ensures { IsFound self.now collection.now (place_word place) result }
     {
         let (object, at, number) = self
-            .space
-            .find(collection.bases(), collection.generation(), place);
+            .objects
+            .find(collection.numbering(), collection.generation(), place);
         Found { object, at, number }
     }
 
@@ -419,7 +465,7 @@ impl<A: Allocator + Clone> Heap<A> {
         ensures { MatchOption result (object_at self.now.graph (place_word place) ≡ None)
             (λ found. IsFound self.now collection.now (place_word place) found) }
     {
-        match self.space.object(place) {
+        match self.objects.object(place) {
             Some(_) => Some(self.find_there(collection, place)),
             None => None,
         }
@@ -441,7 +487,7 @@ impl<A: Allocator + Clone> Heap<A> {
     {
         commit(
             alloc,
-            &mut self.space,
+            &mut self.objects,
             &mut self.roots,
             &mut self.remembered,
             settled,

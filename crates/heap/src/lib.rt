@@ -1,4 +1,4 @@
-//! The heap: objects in blocks, roots, and what a collection takes from it and gives back.
+//! The heap: objects, roots, and what a collection takes from it and gives back.
 #![tactic(auto)]
 
 mod barrier;

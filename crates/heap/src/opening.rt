@@ -5,12 +5,12 @@ ghost use Rattle.model.specs.Graph.{IsClosed};
 ghost use Rattle.heap_data.specs.CollectionValue.{root_slot, IsOpened};
 ghost use Rattle.heap_data.specs.Remembered.{CoversYounger};
 ghost use Rattle.heap_data.specs.SlotView.{slot_value};
-ghost use Rattle.heap_space.specs.Space.{graph_in};
+ghost use Rattle.heap_objects.specs.Objects.{graph_in};
 ghost use Rattle.heap_commit.specs.Roots.{roots_map};
 ghost use Rattle.heap_commit.specs.HeapView.{heap_with};
 
 use heap_data::{Collection, RootId, Slot};
-use heap_space::Space;
+use heap_objects::HeapObjects;
 use remembered_set::Remembered;
 use remembering::push_old_slots;
 use roots::Roots;
@@ -35,20 +35,20 @@ fn root_slots<A: Allocator>(alloc: A, roots: &Roots<A>) -> Result<Vec<Slot, A>, 
 /// A collection of the generations 0 to `g`.
 pub(crate) fn opened<A: Allocator + Clone>(
     alloc: A,
-    space: &Space<A>,
+    objects: &HeapObjects<A>,
     roots: &Roots<A>,
     sets: &Remembered<A>,
     g: u8,
 ) -> Result<Collection<A>, AllocError>
-    requires in_range { g < space.now.config.shape.generations }
-    requires closed { IsClosed (graph_in space.now) }
-    requires covers { CoversYounger (graph_in space.now) sets.now }
-    requires generations { length sets.now ≡ space.now.config.shape.generations }
-    ensures { IfOk result (λ collection. IsOpened (heap_with space.now roots.now.slots sets.now) g collection) }
+    requires in_range { g < objects.now.config.shape.generations }
+    requires closed { IsClosed (graph_in objects.now) }
+    requires covers { CoversYounger (graph_in objects.now) sets.now }
+    requires generations { length sets.now ≡ objects.now.config.shape.generations }
+    ensures { IfOk result (λ collection. IsOpened (heap_with objects.now roots.now.slots sets.now) g collection) }
 {
     let mut slots = root_slots(alloc.clone()?, roots)?;
-    push_old_slots(alloc.clone()?, &mut slots, space, sets, g)?;
-    let free = space.free_numbers(alloc.clone()?)?;
-    let (bases, cells) = space.bases(alloc, g)?;
-    Ok(Collection::new(g, slots, free, bases, cells))
+    push_old_slots(alloc.clone()?, &mut slots, objects, sets, g)?;
+    let free = objects.free_numbers(alloc.clone()?)?;
+    let (numbering, cells) = objects.numbering(alloc, g)?;
+    Ok(Collection::new(g, slots, free, numbering, cells))
 }

@@ -17,7 +17,8 @@ use Rattle.model.proofs.Same.{IsDistinct-map}
 use Rattle.layout.specs.declared.place.Place.{Place}
 use Rattle.block_pool.specs.BlockValue.{BlockValue}
 use Rattle.heap_commit.specs.HeapView.{heap_of}
-use Rattle.heap_space.specs.Space.{SpaceValue, IsSpace}
+use Rattle.heap_objects.specs.Objects.{ObjectsValue, heap_in}
+use Rattle.heap_objects.specs.Sound.{AreObjects}
 use Rattle.heap_data.specs.ReportValue.{WorkerLists, all_won, renaming_of}
 use Rattle.heap_data.specs.CollectionValue.{CollectionValue, young_names}
 use Rattle.heap_data.specs.SettledValue.{IsSettled}
@@ -56,12 +57,12 @@ names-renaming : (names : List ℕ) (won : List (ℕ × ℕ)) → first_of (rena
 names-renaming names [] = refl
 names-renaming names (e ∷ won) = ap (λ ns. slice_index names e.0 ∷ ns) (names-renaming names won)
 
-module _ (space : SpaceValue) (slots : List (Option Place)) (collection : CollectionValue) (places : List (Option Place)) (blocks : List BlockValue) (workers : List WorkerLists)
-    (sound : IsSpace space)
-    (closed : IsClosed (heap_of space slots).graph)
-    (settled : IsSettled (heap_of space slots) collection places blocks (all_won workers)) where
-  low : (q : ℕ) → has (first_of (all_won workers)) q ≡ true → q < length (young_names (heap_of space slots).graph collection.generation)
-  low q h = has_all (λ n. n < length (young_names (heap_of space slots).graph collection.generation)) (all_won workers) q (numbers_named space slots collection places blocks (all_won workers) sound closed settled) h
+module _ (objects : ObjectsValue) (slots : List (Option Place)) (collection : CollectionValue) (places : List (Option Place)) (blocks : List BlockValue) (workers : List WorkerLists)
+    (sound : AreObjects (heap_in objects))
+    (closed : IsClosed (heap_of objects slots).graph)
+    (settled : IsSettled (heap_of objects slots) collection places blocks (all_won workers)) where
+  low : (q : ℕ) → has (first_of (all_won workers)) q ≡ true → q < length (young_names (heap_of objects slots).graph collection.generation)
+  low q h = has_all (λ n. n < length (young_names (heap_of objects slots).graph collection.generation)) (all_won workers) q (numbers_named objects slots collection places blocks (all_won workers) sound closed settled) h
 
   pub won_is : sum_by (λ (w : WorkerLists). length w.won) workers ≡ length (all_won workers)
   won_is = sym (length-flat_map (λ (w : WorkerLists). w.won) workers)
@@ -71,17 +72,17 @@ module _ (space : SpaceValue) (slots : List (Option Place)) (collection : Collec
       let few = length-le_from_distinct_below (first_of (all_won workers)) collection.cells settled.once (λ q h. has_all (λ n. n < collection.cells) (all_won workers) q settled.numbers h) in
       omega (arith, won_is, length-map (all_won workers) (λ (e : ℕ × ℕ). e.0), few)
 
-  pub kept_count : LiveCount (heap_of space slots).graph collection.generation (sum_by (λ (w : WorkerLists). length w.won) workers)
+  pub kept_count : LiveCount (heap_of objects slots).graph collection.generation (sum_by (λ (w : WorkerLists). length w.won) workers)
   kept_count = record {
-    names = first_of (renaming_of (young_names (heap_of space slots).graph collection.generation) (all_won workers));
+    names = first_of (renaming_of (young_names (heap_of objects slots).graph collection.generation) (all_won workers));
     lists = record {
-      distinct = subst (IsDistinct nat_eq) (sym (names-renaming (young_names (heap_of space slots).graph collection.generation) (all_won workers)))
-          (IsDistinct-map (slice_index (young_names (heap_of space slots).graph collection.generation)) (first_of (all_won workers))
-          (λ a b ha hb same. named_once space slots collection places blocks (all_won workers) sound closed settled a b (low a ha) (low b hb) same) settled.once);
-      only = λ name h. let found = has_find (renaming_of (young_names (heap_of space slots).graph collection.generation) (all_won workers)) name h in settled.renaming.only_live name found.0 found.1;
-      all = λ name live. let at = settled.renaming.all_live name live in find_has (renaming_of (young_names (heap_of space slots).graph collection.generation) (all_won workers)) name at.0 at.1;
+      distinct = subst (IsDistinct nat_eq) (sym (names-renaming (young_names (heap_of objects slots).graph collection.generation) (all_won workers)))
+          (IsDistinct-map (slice_index (young_names (heap_of objects slots).graph collection.generation)) (first_of (all_won workers))
+          (λ a b ha hb same. named_once objects slots collection places blocks (all_won workers) sound closed settled a b (low a ha) (low b hb) same) settled.once);
+      only = λ name h. let found = has_find (renaming_of (young_names (heap_of objects slots).graph collection.generation) (all_won workers)) name h in settled.renaming.only_live name found.0 found.1;
+      all = λ name live. let at = settled.renaming.all_live name live in find_has (renaming_of (young_names (heap_of objects slots).graph collection.generation) (all_won workers)) name at.0 at.1;
     };
     count = won_is
-        ∙ sym (length-map (first_of (all_won workers)) (slice_index (young_names (heap_of space slots).graph collection.generation)) ∙ length-map (all_won workers) (λ (e : ℕ × ℕ). e.0))
-        ∙ ap length (sym (names-renaming (young_names (heap_of space slots).graph collection.generation) (all_won workers)));
+        ∙ sym (length-map (first_of (all_won workers)) (slice_index (young_names (heap_of objects slots).graph collection.generation)) ∙ length-map (all_won workers) (λ (e : ℕ × ℕ). e.0))
+        ∙ ap length (sym (names-renaming (young_names (heap_of objects slots).graph collection.generation) (all_won workers)));
   }

@@ -9,7 +9,7 @@ use Rattle.std.specs.FinMap.{get, insert}
 use Rattle.model.specs.Graph.{Object, with_pointer}
 use Rattle.model.proofs.NatMap.{get-insert_same, get-insert_other}
 use Rattle.heap_data.specs.CollectionValue.{SlotValue, root_slot, field_slot}
-use Rattle.heap_space.specs.Space.{SpaceValue}
+use Rattle.heap_objects.specs.Objects.{ObjectsValue}
 use Rattle.heap_commit.specs.Moves.{roots_by, writes_by, with_writes}
 use Rattle.heap_commit.proofs.FieldsMoved.{with_writes-append, with_writes-length}
 
@@ -36,7 +36,7 @@ some_holder : (P : Object → Type 0) (o : Option Object) → IsSomeAnd o P → 
 some_holder P None h = absurd h
 some_holder P (Some x) h = (x, refl, h)
 
-module _ (old cur : SpaceValue) (ws : List (ℕ × (ℕ × ℕ))) (w : ℕ × (ℕ × ℕ)) (objects : (name : ℕ) → get cur.objects name ≡ option_map (with_writes ws name) (get old.objects name))
+module _ (old cur : ObjectsValue) (ws : List (ℕ × (ℕ × ℕ))) (w : ℕ × (ℕ × ℕ)) (objects : (name : ℕ) → get cur.objects name ≡ option_map (with_writes ws name) (get old.objects name))
     (has : IsSomeAnd (get old.objects w.0) (λ o. w.1.0 < length o.pointers)) where
   pub holder : (x : Object) × (get old.objects w.0 ≡ Some x) × (w.1.0 < length x.pointers)
   holder = some_holder (λ o. w.1.0 < length o.pointers) (get old.objects w.0) has
@@ -47,7 +47,7 @@ module _ (old cur : SpaceValue) (ws : List (ℕ × (ℕ × ℕ))) (w : ℕ × (�
   pub can_write : IsSomeAnd (get cur.objects w.0) (λ o. w.1.0 < length o.pointers)
   can_write = subst (λ o. IsSomeAnd o (λ x. w.1.0 < length x.pointers)) (sym now) (omega (arith, holder.2, with_writes-length ws w.0 holder.0))
 
-  module _ (new : SpaceValue) (set : (o : Object) → get cur.objects w.0 ≡ Some o → new ≡ record cur { objects = insert cur.objects w.0 (with_pointer o w.1.0 (Some w.1.1)) }) where
+  module _ (new : ObjectsValue) (set : (o : Object) → get cur.objects w.0 ≡ Some o → new ≡ record cur { objects = insert cur.objects w.0 (with_pointer o w.1.0 (Some w.1.1)) }) where
     pub change : new ≡ record cur { objects = insert cur.objects w.0 (with_pointer (with_writes ws w.0 holder.0) w.1.0 (Some w.1.1)) }
     change = set (with_writes ws w.0 holder.0) now
 

@@ -7,7 +7,7 @@ use Rattle.std.specs.FinMap.{entries}
 use Rattle.model.specs.OldSlots.{Slot, old_slots}
 use Rattle.layout.specs.declared.place.Place.{Place}
 use Rattle.heap_data.specs.CollectionValue.{CollectionValue, IsOpened, root_slot, field_slot_of}
-use Rattle.heap_space.specs.Space.{SpaceValue}
+use Rattle.heap_objects.specs.Objects.{ObjectsValue}
 use Rattle.heap_commit.specs.HeapView.{heap_of}
 use Rattle.heap_commit.specs.Moves.{roots_by}
 use Rattle.heap_commit.specs.Roots.{roots_map}
@@ -23,9 +23,9 @@ roots-slots f [] fields = roots-fields f fields
 roots-slots f (e ∷ es) fields = ap (λ ps. (e.0, f e.1) ∷ ps) (roots-slots f es fields)
 
 -- the slots of a collection have all the roots of the heap that it was opened on
-pub roots_opened : (space : SpaceValue) (slots : List (Option Place)) (g : ℕ) (collection : CollectionValue) (f : ℕ → ℕ) → IsOpened (heap_of space slots) g collection → roots_by f collection.slots ≡ map (λ e. (e.0, f e.1)) (entries (roots_map slots))
-roots_opened space slots g collection f opened =
-    ap (roots_by f) opened.slots ∙ roots-slots f (entries (roots_map slots)) (old_slots (heap_of space slots).graph space.config.shape.generations g)
+pub roots_opened : (objects : ObjectsValue) (slots : List (Option Place)) (g : ℕ) (collection : CollectionValue) (f : ℕ → ℕ) → IsOpened (heap_of objects slots) g collection → roots_by f collection.slots ≡ map (λ e. (e.0, f e.1)) (entries (roots_map slots))
+roots_opened objects slots g collection f opened =
+    ap (roots_by f) opened.slots ∙ roots-slots f (entries (roots_map slots)) (old_slots (heap_of objects slots).graph objects.config.shape.generations g)
 
 numbers-pairs : (items : List RenamedRoot) → map (λ r. r.number) items ≡ map (λ e. e.0) (map root_pair items)
 numbers-pairs [] = refl

@@ -1,28 +1,28 @@
--- The heap that blocks and roots make.
+-- The heap that objects and roots make.
 use Rattle.std.specs.Prelude.{ℕ, List, [], Option, IsSome, All}
-use Rattle.std.specs.FinMap.{get, empty}
+use Rattle.std.specs.FinMap.{get}
 use Rattle.layout.specs.declared.place.Place.{Place}
 use Rattle.heap_data.specs.HeapValue.{HeapValue}
 use Rattle.heap_data.specs.CollectionValue.{SlotValue, target_of_slot}
 use Rattle.heap_commit.specs.Roots.{roots_map}
-use Rattle.heap_space.specs.Space.{SpaceValue}
+use Rattle.heap_objects.specs.Objects.{ObjectsValue}
 
 -- with the members of the remembered set of each generation
-abbrev pub heap_with : SpaceValue → List (Option Place) → List (List ℕ) → HeapValue
-heap_with space slots sets =
+abbrev pub heap_with : ObjectsValue → List (Option Place) → List (List ℕ) → HeapValue
+heap_with objects slots sets =
     record {
-      config = space.config;
-      graph = record { objects = space.objects; roots = roots_map slots };
-      rooms = space.rooms;
-      free = space.free;
-      large_blocks = empty;
+      config = objects.config;
+      graph = record { objects = objects.objects; roots = roots_map slots };
+      rooms = objects.rooms;
+      free = objects.free;
+      large_blocks = objects.large_blocks;
       remembered = sets;
     }
 
--- blocks and roots alone
-abbrev pub heap_of : SpaceValue → List (Option Place) → HeapValue
-heap_of space slots = heap_with space slots []
+-- objects and roots alone
+abbrev pub heap_of : ObjectsValue → List (Option Place) → HeapValue
+heap_of objects slots = heap_with objects slots []
 
 -- what each slot leads to is an object
-abbrev pub SlotsLeadToObjects : SpaceValue → List SlotValue → Type 0
-SlotsLeadToObjects space slots = All (λ slot. IsSome (get space.objects (target_of_slot slot))) slots
+abbrev pub SlotsLeadToObjects : ObjectsValue → List SlotValue → Type 0
+SlotsLeadToObjects objects slots = All (λ slot. IsSome (get objects.objects (target_of_slot slot))) slots

@@ -4,5 +4,6 @@ pub mod RootView
 pub mod HeapView
 pub mod IsHeap
 pub mod Moves
+pub mod LargeSlots
 pub mod Installed
 pub mod Ended

@@ -5,14 +5,14 @@ use Rattle.model.specs.Live.{IsYoung}
 use Rattle.layout.specs.declared.place.Place.{Place}
 use Rattle.layout.specs.Place.{place_word}
 use Rattle.heap_data.specs.CollectionValue.{SlotValue, root_slot, field_slot, young_names}
-use Rattle.heap_space.specs.Space.{SpaceValue, graph_in}
+use Rattle.heap_objects.specs.Objects.{ObjectsValue, graph_in}
 use Rattle.heap_commit.specs.declared.moves.RenamedField.{RenamedField}
 
 -- f takes the name of each object to where it stands after the collection: an object with a new place to it, and an older
 -- one to itself
-pub record Moves (space : SpaceValue) (g : ℕ) (places : List (Option Place)) (f : ℕ → ℕ) : Type 0 where
-  pub young : (number : ℕ) (place : Place) → slice_index_or places number None ≡ Some place → f (slice_index (young_names (graph_in space) g) number) ≡ place_word place
-  pub older : (name : ℕ) → (IsYoung (graph_in space) g name → ⊥) → f name ≡ name
+pub record Moves (objects : ObjectsValue) (g : ℕ) (places : List (Option Place)) (f : ℕ → ℕ) : Type 0 where
+  pub young : (number : ℕ) (place : Place) → slice_index_or places number None ≡ Some place → f (slice_index (young_names (graph_in objects) g) number) ≡ place_word place
+  pub older : (name : ℕ) → (IsYoung (graph_in objects) g name → ⊥) → f name ≡ name
 
 -- a pointer that is written: the object's name, the field, and what it then leads to
 abbrev pub field_write : RenamedField → ℕ × (ℕ × ℕ)

@@ -11,54 +11,54 @@ ghost use Rattle.heap_commit.specs.IsHeap.{AreHeapObjects};
 
 use crate::counts::{all_fit, report_of};
 use crate::installing::install;
-use crate::moves::{renamed_fields, renamed_roots};
+use crate::moved_fields::moved_fields;
+use crate::moves::renamed_roots;
 use heap_data::{Report, Settled};
-use heap_space::Space;
+use heap_objects::HeapObjects;
 use roots::Roots;
 use std::alloc::{AllocError, Allocator};
 
-/// Ends a collection: blocks and roots make the heap that the workers brought back. Where memory runs out they are as
+/// Ends a collection: objects and roots make the heap that the workers brought back. Where memory runs out they are as
 /// before.
 pub fn commit<A: Allocator + Clone>(
     alloc: A,
-    space: &mut Space<A>,
+    objects: &mut HeapObjects<A>,
     roots: &mut Roots<A>,
     settled: Settled<A>,
 ) -> Result<Report<A>, AllocError>
-    requires closed { IsClosed (heap_of space.old roots.old.slots).graph }
-    requires settled { IsSettled (heap_of space.old roots.old.slots)
+    requires closed { IsClosed (heap_of objects.old roots.old.slots).graph }
+    requires settled { IsSettled (heap_of objects.old roots.old.slots)
         settled.collection settled.places.items settled.blocks.items (all_won settled.workers.items) }
-    ensures ok { IfOk result (λ _. IsEnded (heap_of space.old roots.old.slots) settled.collection.generation
-        (renaming_of (young_names (heap_of space.old roots.old.slots).graph settled.collection.generation) (all_won settled.workers.items))
-        (heap_of space.new roots.new.slots)) }
-    ensures kept { IfOk result (λ report. LiveCount (heap_of space.old roots.old.slots).graph settled.collection.generation report.kept) }
+    ensures ok { IfOk result (λ _. IsEnded (heap_of objects.old roots.old.slots) settled.collection.generation
+        (renaming_of (young_names (heap_of objects.old roots.old.slots).graph settled.collection.generation) (all_won settled.workers.items))
+        (heap_of objects.new roots.new.slots)) }
+    ensures kept { IfOk result (λ report. LiveCount (heap_of objects.old roots.old.slots).graph settled.collection.generation report.kept) }
     ensures won { IfOk result (λ report. report.kept ≡ sum_by (λ w. length w.won) settled.workers.items) }
     ensures freed { IfOk result (λ report. report.kept + report.freed
-        ≡ length (young_names (heap_of space.old roots.old.slots).graph settled.collection.generation)) }
+        ≡ length (young_names (heap_of objects.old roots.old.slots).graph settled.collection.generation)) }
     ensures workers { IfOk result (λ report. report.workers ≡ settled.workers) }
     ensures deliveries { IfOk result (λ report. report.deliveries ≡ settled.deliveries) }
-    ensures sound { IfOk result (λ _. AreHeapObjects (heap_of space.new roots.new.slots)) }
-    ensures space_as_before { OnErr result (space.new ≡ space.old) }
+    ensures sound { IfOk result (λ _. AreHeapObjects (heap_of objects.new roots.new.slots)) }
+    ensures objects_as_before { OnErr result (objects.new ≡ objects.old) }
     ensures roots_as_before { OnErr result (roots.new ≡ roots.old) }
 {
-    let _before = space.free_count();
-    let collection = &settled.collection;
-    let g = collection.generation();
-    let cells = collection.cells() as u64;
-    let bases = collection.bases();
-    let places = &settled.places;
-    let slots = collection.slots();
-    let renamed = renamed_roots(alloc.clone()?, space, slots, bases, g, places)?;
-    let fields = renamed_fields(alloc.clone()?, space, slots, bases, g, places)?;
-    let _fit = all_fit(&settled.blocks);
+    let _before = objects.free_count();
     let Settled {
-        collection: _,
-        places: _,
+        collection,
+        places,
         blocks,
         workers,
         deliveries,
     } = settled;
-    install(alloc, space, roots, g, blocks, &renamed, &fields)?;
-    let _after = space.free_count();
-    Ok(report_of(workers, deliveries, cells))
+    let g = collection.generation();
+    let numbering = collection.numbering();
+    let slots = collection.slots();
+    let renamed = renamed_roots(alloc.clone()?, objects, slots, numbering, g, &places)?;
+    let fields = moved_fields(alloc.clone()?, objects, slots, numbering, g, &places)?;
+    let _fit = all_fit(&blocks);
+    install(
+        alloc, objects, roots, g, blocks, numbering, &places, &renamed, &fields,
+    )?;
+    let _after = objects.free_count();
+    Ok(report_of(workers, deliveries, collection.cells() as u64))
 }

@@ -1,9 +1,11 @@
-//! The end of a collection: what a commit does to the blocks and the roots of a heap.
+//! The end of a collection: what a commit does to the objects and the roots of a heap.
 #![tactic(auto)]
 
 mod counts;
 mod ending;
 mod installing;
+mod large_slots;
+mod moved_fields;
 mod moves;
 mod root_writes;
 

@@ -1,18 +1,18 @@
 //! Where the objects that roots and older objects lead to stand after a collection.
-ghost use Rattle.std.specs.Prelude.{◌≡◌, ℕ, ◌<◌, IfOk, IsSome, IsSomeAnd, All, Some, None, map, length, slice_index_or};
+ghost use Rattle.std.specs.Prelude.{◌≡◌, ℕ, ◌<◌, ◌++◌, IfOk, OnOk, IsSome, IsSomeAnd, All, Some, None, map, length, slice_index_or};
 ghost use Rattle.std.specs.Option.{option_map};
 ghost use Rattle.std.specs.FinMap.{get};
 ghost use Rattle.layout.specs.Place.{place_word};
-ghost use Rattle.heap_data.specs.CollectionValue.{young_names, target_of_slot};
+ghost use Rattle.heap_data.specs.CollectionValue.{IsNumbering, young_names, target_of_slot};
 ghost use Rattle.heap_data.specs.SlotView.{slot_value};
-ghost use Rattle.heap_space.specs.Space.{graph_in};
-ghost use Rattle.heap_space.specs.Collecting.{AreBases, IsNumbered};
+ghost use Rattle.heap_objects.specs.Objects.{graph_in};
+ghost use Rattle.heap_objects.specs.Collecting.{IsNumbered};
 ghost use Rattle.heap_commit.specs.HeapView.{SlotsLeadToObjects};
 ghost use Rattle.heap_commit.specs.Moves.{Moves, field_write, roots_by, writes_by, with_writes};
 ghost use Rattle.heap_commit.specs.RootView.{root_pair};
 
-use heap_data::Slot;
-use heap_space::Space;
+use heap_data::{Numbering, Slot};
+use heap_objects::HeapObjects;
 use layout::Place;
 use std::alloc::{AllocError, Allocator};
 
@@ -34,19 +34,19 @@ pub(crate) struct RenamedField {
 /// Where the object at a place stands after a collection of the generations 0 to `g`, of which `places` has the new
 /// place of each number.
 fn place_after<A: Allocator + Clone>(
-    space: &Space<A>,
-    bases: &[u32],
+    objects: &HeapObjects<A>,
+    numbering: &Numbering<A>,
     g: u8,
     places: &[Option<Place>],
     place: Place,
 ) -> Place
-    requires bases { AreBases space.now g bases.now }
-    requires there { IsSome (get space.now.objects (place_word place)) }
-    requires count { length places.now ≡ length (young_names (graph_in space.now) g) }
-    requires named { (number : ℕ) → IsNumbered space.now g (place_word place) number → IsSome (slice_index_or places.now number None) }
-    ensures { (f : ℕ → ℕ) → Moves space.now g places.now f → place_word result ≡ f (place_word place) }
+    requires numbering { IsNumbering (graph_in objects.now) g numbering.now }
+    requires there { IsSome (get objects.now.objects (place_word place)) }
+    requires count { length places.now ≡ length (young_names (graph_in objects.now) g) }
+    requires named { (number : ℕ) → IsNumbered objects.now g (place_word place) number → IsSome (slice_index_or places.now number None) }
+    ensures { (f : ℕ → ℕ) → Moves objects.now g places.now f → place_word result ≡ f (place_word place) }
 {
-    let (_object, _step, number) = space.find(bases, g, place);
+    let (_object, _step, number) = objects.find(numbering, g, place);
     match number {
         Some(number) => match places[number as usize] {
             Some(new_place) => new_place,
@@ -59,17 +59,17 @@ fn place_after<A: Allocator + Clone>(
 /// The new place of each root's object.
 pub(crate) fn renamed_roots<A: Allocator + Clone>(
     alloc: A,
-    space: &Space<A>,
+    objects: &HeapObjects<A>,
     slots: &[Slot],
-    bases: &[u32],
+    numbering: &Numbering<A>,
     g: u8,
     places: &[Option<Place>],
 ) -> Result<Vec<RenamedRoot, A>, AllocError>
-    requires bases { AreBases space.now g bases.now }
-    requires leads { SlotsLeadToObjects space.now (map slot_value slots.now) }
-    requires count { length places.now ≡ length (young_names (graph_in space.now) g) }
-    requires named { All (λ slot. (number : ℕ) → IsNumbered space.now g (target_of_slot slot) number → IsSome (slice_index_or places.now number None)) (map slot_value slots.now) }
-    ensures { IfOk result (λ renamed. (f : ℕ → ℕ) → Moves space.now g places.now f
+    requires numbering { IsNumbering (graph_in objects.now) g numbering.now }
+    requires leads { SlotsLeadToObjects objects.now (map slot_value slots.now) }
+    requires count { length places.now ≡ length (young_names (graph_in objects.now) g) }
+    requires named { All (λ slot. (number : ℕ) → IsNumbered objects.now g (target_of_slot slot) number → IsSome (slice_index_or places.now number None)) (map slot_value slots.now) }
+    ensures { IfOk result (λ renamed. (f : ℕ → ℕ) → Moves objects.now g places.now f
         → map root_pair renamed.items ≡ roots_by f (map slot_value slots.now)) }
 {
     let mut roots = Vec::new(alloc);
@@ -77,30 +77,29 @@ pub(crate) fn renamed_roots<A: Allocator + Clone>(
         if let Slot::Root { root, target } = slot {
             roots.push(RenamedRoot {
                 number: root.number,
-                place: place_after(space, bases, g, places, *target),
+                place: place_after(objects, numbering, g, places, *target),
             })?;
         }
     }
     Ok(roots)
 }
 
-/// The new place of what each old slot leads to.
-pub(crate) fn renamed_fields<A: Allocator + Clone>(
-    alloc: A,
-    space: &Space<A>,
+/// Puts each field among the slots at the end of the renamed ones, with the new place of what it leads to.
+pub(crate) fn push_renamed<A: Allocator + Clone>(
+    renamed: &mut Vec<RenamedField, A>,
+    objects: &HeapObjects<A>,
     slots: &[Slot],
-    bases: &[u32],
+    numbering: &Numbering<A>,
     g: u8,
     places: &[Option<Place>],
-) -> Result<Vec<RenamedField, A>, AllocError>
-    requires bases { AreBases space.now g bases.now }
-    requires leads { SlotsLeadToObjects space.now (map slot_value slots.now) }
-    requires count { length places.now ≡ length (young_names (graph_in space.now) g) }
-    requires named { All (λ slot. (number : ℕ) → IsNumbered space.now g (target_of_slot slot) number → IsSome (slice_index_or places.now number None)) (map slot_value slots.now) }
-    ensures { IfOk result (λ renamed. (f : ℕ → ℕ) → Moves space.now g places.now f
-        → map field_write renamed.items ≡ writes_by f (map slot_value slots.now)) }
+) -> Result<(), AllocError>
+    requires numbering { IsNumbering (graph_in objects.now) g numbering.now }
+    requires leads { SlotsLeadToObjects objects.now (map slot_value slots.now) }
+    requires count { length places.now ≡ length (young_names (graph_in objects.now) g) }
+    requires named { All (λ slot. (number : ℕ) → IsNumbered objects.now g (target_of_slot slot) number → IsSome (slice_index_or places.now number None)) (map slot_value slots.now) }
+    ensures { OnOk result ((f : ℕ → ℕ) → Moves objects.now g places.now f
+        → map field_write renamed.new.items ≡ map field_write renamed.old.items ++ writes_by f (map slot_value slots.now)) }
 {
-    let mut renamed = Vec::new(alloc);
     for slot in slots {
         if let Slot::Field {
             holder,
@@ -111,23 +110,27 @@ pub(crate) fn renamed_fields<A: Allocator + Clone>(
             renamed.push(RenamedField {
                 holder: *holder,
                 field: *field,
-                place: place_after(space, bases, g, places, *target),
+                place: place_after(objects, numbering, g, places, *target),
             })?;
         }
     }
-    Ok(renamed)
+    Ok(())
 }
 
 /// Writes pointers of objects.
-pub(crate) fn write_fields<A: Allocator + Clone>(space: &mut Space<A>, fields: &[RenamedField])
-    requires { All (λ w. IsSomeAnd (get space.old.objects w.0) (λ o. w.1.0 < length o.pointers)) (map field_write fields.now) }
-    ensures config { space.new.config ≡ space.old.config }
-    ensures rooms { space.new.rooms ≡ space.old.rooms }
-    ensures free { space.new.free ≡ space.old.free }
-    ensures objects { (name : ℕ) → get space.new.objects name
-        ≡ option_map (with_writes (map field_write fields.now) name) (get space.old.objects name) }
+pub(crate) fn write_fields<A: Allocator + Clone>(
+    objects: &mut HeapObjects<A>,
+    fields: &[RenamedField],
+)
+    requires { All (λ w. IsSomeAnd (get objects.old.objects w.0) (λ o. w.1.0 < length o.pointers)) (map field_write fields.now) }
+    ensures config { objects.new.config ≡ objects.old.config }
+    ensures rooms { objects.new.rooms ≡ objects.old.rooms }
+    ensures free { objects.new.free ≡ objects.old.free }
+    ensures large_blocks { objects.new.large_blocks ≡ objects.old.large_blocks }
+    ensures objects { (name : ℕ) → get objects.new.objects name
+        ≡ option_map (with_writes (map field_write fields.now) name) (get objects.old.objects name) }
 {
     for write in fields {
-        space.set_pointer(write.holder, write.field as usize, Some(write.place));
+        objects.set_pointer(write.holder, write.field as usize, Some(write.place));
     }
 }

@@ -1,4 +1,3 @@
--- Lemmas on plain objects, on the objects that are collected, and on what was won.
-pub mod PlainObjects
-pub mod Young
+-- Lemmas on objects and on what was won.
+pub mod Values
 pub mod WonNames

@@ -3,6 +3,7 @@ use Rattle.std.specs.Prelude.{ℕ, List, refl}
 use Rattle.std.specs.Coded.{Coded, code_by, coded×, coded⊎, coded_ℕ, coded_list}
 use Rattle.std.specs.Prelude.{◌⊎◌}
 use Rattle.std.proofs.Common.{inl, inr, ◌≡◌}
+use Rattle.heap_data.specs.Numbering.{NumberingValue, numbering_code}
 use Rattle.heap_data.specs.CollectionValue.{SlotValue, root_slot, field_slot, CollectionValue}
 
 abbrev to_sum : SlotValue → (ℕ × ℕ) ⊎ (ℕ × (ℕ × ℕ))
@@ -22,7 +23,7 @@ slot_code = code_by ((ℕ × ℕ) ⊎ (ℕ × (ℕ × ℕ))) (coded⊎ (coded× 
 
 abbrev pub collection_code : Coded CollectionValue
 collection_code =
-    code_by (ℕ × (List SlotValue × (List ℕ × (List ℕ × ℕ)))) (coded× coded_ℕ (coded× (coded_list slot_code) (coded× (coded_list coded_ℕ) (coded× (coded_list coded_ℕ) coded_ℕ))))
-    (λ c. (c.generation, (c.slots, (c.free, (c.bases, c.cells)))))
-    (λ p. record { generation = p.0; slots = p.1.0; free = p.1.1.0; bases = p.1.1.1.0; cells = p.1.1.1.1 })
+    code_by (ℕ × (List SlotValue × (List ℕ × (NumberingValue × ℕ)))) (coded× coded_ℕ (coded× (coded_list slot_code) (coded× (coded_list coded_ℕ) (coded× numbering_code coded_ℕ))))
+    (λ c. (c.generation, (c.slots, (c.free, (c.numbering, c.cells)))))
+    (λ p. record { generation = p.0; slots = p.1.0; free = p.1.1.0; numbering = p.1.1.1.0; cells = p.1.1.1.1 })
     (λ _. refl)

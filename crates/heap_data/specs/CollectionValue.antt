@@ -1,13 +1,14 @@
 -- What contracts see of a collection that was opened.
-use Rattle.std.specs.Prelude.{◌≡◌, ℕ, ◌<◌, List, ◌++◌, map, filter, length, None, IsTrue, slice_index, count_by, nat_lt, All}
+use Rattle.std.specs.Prelude.{◌≡◌, ℕ, ◌<◌, ◌≤◌, List, ◌++◌, map, filter, length, None, IsTrue, slice_index, count_by, nat_lt, All}
 use Rattle.std.specs.List.Sorted.{IsStrictlyIncreasing}
 use Rattle.std.specs.FinMap.{entries, keys}
 use Rattle.model.specs.Graph.{Graph, object_at}
 use Rattle.model.specs.Live.{IsYoung}
 use Rattle.model.specs.OldSlots.{Slot, old_slots, is_young_name}
 use Rattle.model.specs.Reached.{has}
-use Rattle.layout.specs.Place.{small_word}
+use Rattle.layout.specs.Place.{small_word, large_word}
 use Rattle.heap_data.specs.HeapValue.{HeapValue}
+use Rattle.heap_data.specs.Numbering.{NumberingValue}
 
 -- a root with what it leads to, or a pointer of an older object
 pub data SlotValue : Type 0 where
@@ -18,13 +19,13 @@ abbrev pub target_of_slot : SlotValue → ℕ
 target_of_slot (root_slot root target) = target
 target_of_slot (field_slot holder field target) = target
 
--- the generations 0 to this one; the slots; the free blocks; the number of the first object of each block, and how many
--- objects there are in the generations collected
+-- the generations 0 to this one; the slots; the free blocks; how the objects of the generations collected are numbered,
+-- and how many there are
 pub record CollectionValue : Type 0 where
   pub generation : ℕ
   pub slots : List SlotValue
   pub free : List ℕ
-  pub bases : List ℕ
+  pub numbering : NumberingValue
   pub cells : ℕ
 
 abbrev pub field_slot_of : Slot → SlotValue
@@ -44,6 +45,14 @@ young_names graph g = filter (is_young_name graph g) (keys graph.objects)
 abbrev pub rank_below : ℕ → List ℕ → ℕ
 rank_below word names = count_by (λ name. nat_lt name word) names
 
+-- how many objects of generation at most g stand before each block, and before each large object
+pub record IsNumbering (graph : Graph) (g : ℕ) (numbering : NumberingValue) : Type 0 where
+  pub few : length numbering.blocks ≤ 65535
+  pub blocks : (block : ℕ) → block < length numbering.blocks → slice_index numbering.blocks block ≡ rank_below (small_word block 0) (young_names graph g)
+  pub covers : (block offset : ℕ) → block < 65535 → offset < 65536 → IsYoung graph g (small_word block offset) → block < length numbering.blocks
+  pub large : (number : ℕ) → number < length numbering.large → slice_index numbering.large number ≡ rank_below (large_word number) (young_names graph g)
+  pub covers_large : (number : ℕ) → IsYoung graph g (large_word number) → number < length numbering.large
+
 -- numbers of free blocks, rising
 pub record AreFreeBlocks (blocks : ℕ) (free : List ℕ) : Type 0 where
   pub rising : IsStrictlyIncreasing free
@@ -59,6 +68,5 @@ pub record IsOpened (heap : HeapValue) (g : ℕ) (collection : CollectionValue) 
   pub in_range : g < heap.config.shape.generations
   pub slots : collection.slots ≡ slots_of heap g
   pub free : collection.free ≡ heap.free
-  pub bases : (block : ℕ) → block < length collection.bases → slice_index collection.bases block ≡ rank_below (small_word block 0) (young_names heap.graph g)
-  pub covers : (block offset : ℕ) → offset < 65536 → IsYoung heap.graph g (small_word block offset) → block < length collection.bases
+  pub numbering : IsNumbering heap.graph g collection.numbering
   pub cells : collection.cells ≡ length (young_names heap.graph g)

@@ -4,10 +4,11 @@ pub mod CensusCode
 pub mod CensusView
 pub mod Words
 pub mod BlockObjects
+pub mod Numbering
 pub mod CollectionValue
 pub mod SlotView
 pub mod CollectionCode
-pub mod Plain
+pub mod NamesArePlaces
 pub mod ReportValue
 pub mod ReportView
 pub mod Remembered

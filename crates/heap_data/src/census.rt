@@ -17,6 +17,13 @@ pub struct StepCount {
     pub words: u64,
 }
 
+/// The large objects, reachable or not, and how many words they take.
+#[derive(Clone, Copy, Debug, Default, PartialEq, Eq)]
+pub struct LargeCount {
+    pub objects: u64,
+    pub words: u64,
+}
+
 /// How many objects of each kind a heap holds, reachable or not, and how many roots lead into it.
 #[derive(Debug, Drop)]
 pub struct Census {
@@ -41,14 +48,19 @@ impl Model for Census {
 }
 
 impl Census {
-    /// The census of a heap with no large object: the counts of every step, generations rising, steps rising.
-    pub fn new(steps: ArrayVec<StepCount, MOST_STEPS>, roots: u64, remembered: u64) -> Census
-        ensures { result ≡ record { steps = map step_value steps.items; large_objects = 0; large_words = 0; roots = roots; remembered = remembered } }
+    /// The census with the counts of every step, generations rising, steps rising, and that of the large objects.
+    pub fn new(
+        steps: ArrayVec<StepCount, MOST_STEPS>,
+        large: LargeCount,
+        roots: u64,
+        remembered: u64,
+    ) -> Census
+        ensures { result ≡ record { steps = map step_value steps.items; large_objects = large.objects; large_words = large.words; roots = roots; remembered = remembered } }
     {
         Census {
             steps,
-            large_objects: 0,
-            large_words: 0,
+            large_objects: large.objects,
+            large_words: large.words,
             roots,
             remembered,
         }

@@ -2,6 +2,7 @@
 ghost use Rattle.std.specs.Prelude.{◌≡◌, map};
 ghost use Rattle.heap_data.specs.SlotView.{slot_value};
 
+use crate::numbering::Numbering;
 use crate::report::{Delivery, WorkerReport};
 use crate::root_id::RootId;
 use block_pool::{Block, RankedSet};
@@ -44,7 +45,7 @@ pub struct Collection<A: Allocator = Global> {
     generation: u8,
     slots: Vec<Slot, A>,
     free: RankedSet<A>,
-    bases: Vec<u32, A>,
+    numbering: Numbering<A>,
     cells: u32,
 }
 
@@ -63,7 +64,7 @@ impl<A: Allocator> Model for Collection<A> {
       generation = c.generation;
       slots = map slot_value c.slots.items;
       free = c.free;
-      bases = c.bases.items;
+      numbering = c.numbering;
       cells = c.cells;
     } };
 }
@@ -74,16 +75,16 @@ impl<A: Allocator> Collection<A> {
         generation: u8,
         slots: Vec<Slot, A>,
         free: RankedSet<A>,
-        bases: Vec<u32, A>,
+        numbering: Numbering<A>,
         cells: u32,
     ) -> Self
-        ensures { result ≡ record { generation = generation; slots = map slot_value slots.items; free = free; bases = bases.items; cells = cells } }
+        ensures { result ≡ record { generation = generation; slots = map slot_value slots.items; free = free; numbering = numbering; cells = cells } }
     {
         Collection {
             generation,
             slots,
             free,
-            bases,
+            numbering,
             cells,
         }
     }
@@ -116,11 +117,11 @@ impl<A: Allocator> Collection<A> {
         self.cells
     }
 
-    /// The number of the first object of each block.
-    pub fn bases(&self) -> &[u32]
-        ensures { result.now ≡ self.now.bases }
+    /// How these objects are numbered.
+    pub fn numbering(&self) -> &Numbering<A>
+        ensures { result.now ≡ self.now.numbering }
     {
-        self.bases.as_slice()
+        &self.numbering
     }
 }
 

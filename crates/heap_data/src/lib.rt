@@ -3,10 +3,12 @@
 
 mod census;
 mod collection;
+mod numbering;
 mod report;
 mod root_id;
 
-pub use census::{Census, MOST_STEPS, StepCount};
+pub use census::{Census, LargeCount, MOST_STEPS, StepCount};
 pub use collection::{Collection, Settled, Slot};
+pub use numbering::Numbering;
 pub use report::{Delivery, Report, Won, WorkerReport};
 pub use root_id::RootId;

@@ -5,7 +5,7 @@ use Rattle.std.specs.Prelude.{count_by, slice_index_or}
 use Rattle.model.specs.Graph.{Object}
 use Rattle.model.proofs.Options.{some_not_none, some_is}
 use Rattle.layout.specs.Place.{large_word}
-use Rattle.heap_data.proofs.PlainObjects.{values_of}
+use Rattle.heap_data.proofs.Values.{values_of}
 use Rattle.block_table.proofs.TableCensus.{values_of-append}
 use Rattle.large_objects.specs.LargeValue.{LargeObject}
 use Rattle.heap_graph.specs.WithLarge.{large_object, large_entries}

@@ -13,7 +13,7 @@ use Rattle.layout.specs.Object.{Raw, raw_size}
 use Rattle.layout.specs.Place.{small_word}
 use Rattle.block_pool.specs.BlockValue.{BlockValue}
 use Rattle.heap_data.specs.BlockObjects.{object_of, objects_from, block_objects}
-use Rattle.heap_data.proofs.PlainObjects.{values_of}
+use Rattle.heap_data.proofs.Values.{values_of}
 use Rattle.block_table.specs.Table.{slot_objects, table_objects}
 use Rattle.heap_graph.proofs.FieldSlots.{length-entries, entry_is, table-more}
 use Rattle.block_table.proofs.TableCensus.{values_of-append}

@@ -217,7 +217,6 @@ module _ (config : Config) (table : List (Option BlockValue)) (nurseries : List 
           (cases_eq n number);
       limit = sound.limit;
       are_free = λ n free. let was = sound.are_free n free in (was.0, was.1, none_after n was.2);
-      all_free = λ n le in_pool none. sound.all_free n le in_pool (none_before n none);
     }
 
     rooms_stay : rooms_of nurseries new_table ≡ rooms_of nurseries table

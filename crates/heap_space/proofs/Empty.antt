@@ -96,7 +96,6 @@ module _ (config : Config) (table : List (Option BlockValue)) (nurseries : List 
     are_free = λ n h.
         let there = has_numbers_from (nursery_count config) (config.blocks - nursery_count config) n (rw free at h) in
         (there.0, omega (arith, there.1), get_or_end table n None (omega (arith, there.0, len)));
-    all_free = λ n above lt empty. rw free (has_numbers (nursery_count config) (config.blocks - nursery_count config) n above (omega arith));
   }
 
   room_is : (m : ℕ) (n : NurseryValue) → slice_get nurseries m ≡ Some n → nursery_room n table ≡ full_room config.nursery_blocks

@@ -57,11 +57,14 @@ module _ (config : Config) (table : List (Option BlockValue)) (nurseries : List 
     free = λ block h.
         let free = sound.are_free block h in
         (free.0, free.1, λ offset lt. no_block table (sound_fits config table nurseries pool sound) (few_blocks config table nurseries pool sound) block offset lt free.2);
-    all_free = λ block le lt none. all_free block le lt none (slot_at table block) refl;
   }
+
+  -- a block of the pool in which no object stands isn't there
+  pub no_slot : (block : ℕ) → nursery_count config ≤ block → ((offset : ℕ) → offset < 512 → get (objects_map table) (small_word block offset) ≡ None) → slot_at table block ≡ None
+  no_slot block le none = go (slot_at table block) refl
     where
-      all_free : (block : ℕ) → nursery_count config ≤ block → block < config.blocks → ((offset : ℕ) → offset < 512 → get (objects_map table) (small_word block offset) ≡ None) → (slot : Option BlockValue) → slot_at table block ≡ slot → has pool.free block ≡ true
-      all_free block le lt none None is = sound.all_free block le lt is
-      all_free block le lt none (Some b) is =
+      go : (slot : Option BlockValue) → slot_at table block ≡ slot → slot_at table block ≡ None
+      go None is = is
+      go (Some b) is =
           let first = first_object block b (sound.filled block b le is) in
           absurd (some_not_none (sym first.1 ∙ sym (at_word table (sound_fits config table nurseries pool sound) (few_blocks config table nurseries pool sound) block 0 (omega arith) ∙ ap (λ s. find nat_cmp (small_word block 0) (slot_objects block s)) is) ∙ none 0 (omega arith)))

@@ -71,6 +71,13 @@ module _ (config : Config) (table : List (Option BlockValue)) (nurseries : List 
     pub allocates : SpaceAllocates (space_of config table nurseries pool) mutator p q place (space_of config table' (set nurseries mutator new) pool)
     allocates = record {
       room = nursery_room new table';
+      nursery = record {
+        block = push.number;
+        offset = used_of push.block;
+        block_in_range = is_set_aside config table nurseries pool sound mutator n new there p q place table' small push;
+        offset_in_range = omega (arith, push.fits, sound.in_range.most_words);
+        is = push.place_is;
+      };
       new_name = ap (get (objects_map table)) word_is ∙ pushed_new table push.number push.block (new_object p q) (sound_fits config table nurseries pool sound) fits_after
           (number_in_table config table nurseries pool sound mutator n new there p q place table' small push) push.there (omega (arith, push.fits, sound.in_range.most_words));
       has_room = room_is (1 + p + q) ∙ push.room;

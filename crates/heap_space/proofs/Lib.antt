@@ -5,9 +5,9 @@ pub mod Shapes
 pub mod Filling
 pub mod YoungNumbers
 pub mod Finding
-pub mod BesideLarge
 pub mod Places
 pub mod Facts
+pub mod Lending
 pub mod PutIn
 pub mod Replacing
 pub mod Changed

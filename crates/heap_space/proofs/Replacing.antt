@@ -55,7 +55,6 @@ grown_sound config old new nurseries pool sound same short longer = record {
   filled = λ n block le is. sound.filled n block le (sym (same n) ∙ is);
   limit = sound.limit;
   are_free = λ n h. let old_free = sound.are_free n h in (old_free.0, old_free.1, same n ∙ old_free.2);
-  all_free = λ n le lt none. sound.all_free n le lt (sym (same n) ∙ none);
 }
 
 -- rooms follow the slots
@@ -277,31 +276,6 @@ module _ (config : Config) (old new : List (Option BlockValue)) (nurseries : Lis
       (λ f. let free = sound.are_free n f in (free.0, free.1, slot_stays n free.0 none ∙ free_older n free.2))
       (either_of (has gone n) (has pool.free n) parts.0)
 
-  all_now_free : (n : ℕ) → nursery_count config ≤ n → n < config.blocks → slot_at new n ≡ None → has pool'.free n ≡ true
-  all_now_free n le lt none = ⊎_elim
-      (λ found. absurd (none_some (sym none ∙ slot_installed n found.0 found.1)))
-      (λ empty. frees n ∙ ap (λ o. (has gone n || has pool.free n) && not (is_some o)) empty ∙ either (some_or_none (slot_at old n)) (sym (slot_stays n le empty) ∙ none))
-      (some_or_none (installed blocks n))
-    where
-      none_some : {b : BlockValue} → None ≡ Some b → ⊥
-      none_some e = cc
-
-      from : nat_le (nursery_count config) n ≡ true
-      from = grind (arith, nat_tests, le)
-
-      or_true : (t : Bool) → (t || true) ≡ true
-      or_true true = refl
-      or_true false = refl
-
-      gone_here : (b : BlockValue) → slot_at old n ≡ Some b → older_slot g (slot_at old n) ≡ None → is_some (young_slot g (slot_at old n)) ≡ true
-      gone_here b is older = ⊎_elim (λ h. h) (λ h. absurd (none_some (sym older ∙ ap (λ t. cond t None (slot_at old n)) h ∙ is))) (cases_Bool (is_some (young_slot g (slot_at old n))))
-
-      either : ((block : BlockValue) × (slot_at old n ≡ Some block)) ⊎ (slot_at old n ≡ None) → older_slot g (slot_at old n) ≡ None → ((has gone n || has pool.free n) && not false) ≡ true
-      either (inl found) older =
-          let goes_too : has gone n ≡ true = goes n ∙ ap (λ t. t && is_some (young_slot g (slot_at old n))) from ∙ gone_here found.0 found.1 older in
-          ap (λ t. (t || has pool.free n) && not false) goes_too
-      either (inr was) older = ap (λ t. (has gone n || t) && not false) (sound.all_free n le lt was) ∙ ap (λ t. t && not false) (or_true (has gone n))
-
   pub replaced_sound : IsSoundSpace config new reset pool'
   replaced_sound = record {
     in_range = sound.in_range;
@@ -317,7 +291,6 @@ module _ (config : Config) (old new : List (Option BlockValue)) (nurseries : Lis
     filled = λ n block le is. filled n block le (now n block is);
     limit = limit ∙ sound.limit;
     are_free = now_free;
-    all_free = all_now_free;
   }
     where
       heap_block : (n : ℕ) (block : BlockValue) → Now n block → IsHeapBlock config n block

@@ -165,7 +165,6 @@ module _ (config : Config) (table : List (Option BlockValue)) (nurseries : List 
       filled = λ n block le is. sound.filled n block le (sym (above n le) ∙ is);
       limit = sound.limit;
       are_free = λ n free. let was = sound.are_free n free in (was.0, was.1, above n was.0 ∙ was.2);
-      all_free = λ n le lt none. sound.all_free n le lt (sym (above n le) ∙ none);
     }
 
     pub pushed_rooms : rooms_of (set nurseries mutator new) table' ≡ set (rooms_of nurseries table) mutator (nursery_room new table')

@@ -35,6 +35,10 @@ space_code =
     (λ p. record { config = p.0; objects = p.1.0; rooms = p.1.1.0; free = p.1.1.1 })
     (λ _. refl)
 
+-- the pool that its free blocks are of
+abbrev pub pool_in : SpaceValue → PoolValue
+pool_in space = record { free = space.free; limit = space.config.blocks }
+
 -- its objects, as a graph with no root
 abbrev pub graph_in : SpaceValue → Graph
 graph_in space = record { objects = space.objects; roots = empty }
@@ -65,7 +69,6 @@ pub record IsSoundSpace (config : Config) (table : List (Option BlockValue)) (fi
   pub filled : (n : ℕ) (block : BlockValue) → nursery_count config ≤ n → slot_at table n ≡ Some block → 0 < length block.objects
   pub limit : pool.limit ≡ config.blocks
   pub are_free : (n : ℕ) → has pool.free n ≡ true → (nursery_count config ≤ n) × (n < config.blocks) × (slot_at table n ≡ None)
-  pub all_free : (n : ℕ) → nursery_count config ≤ n → n < config.blocks → slot_at table n ≡ None → has pool.free n ≡ true
 
 -- the flags are those of the blocks, for each generation of the shape
 pub record IsFlaggedSpace (config : Config) (table : List (Option BlockValue)) (filling : List NurseryValue) (pool : PoolValue) (areas : List (List Bool)) : Type 0 where
@@ -87,9 +90,18 @@ empty_space config =
 abbrev pub room_in : SpaceValue → ℕ → ℕ → Option Room
 room_in space mutator size = option_and_then (λ room. room_after space.config.block_words room size) (slice_get space.rooms mutator)
 
--- a new small object at a new name
+-- a small object stands at that place
+pub record IsPlace (blocks name : ℕ) : Type 0 where
+  pub block : ℕ
+  pub offset : ℕ
+  pub block_in_range : block < blocks
+  pub offset_in_range : offset < 512
+  pub is : name ≡ small_word block offset
+
+-- a new small object at a new name in a block of a nursery
 pub record SpaceAllocates (old : SpaceValue) (mutator p q name : ℕ) (new : SpaceValue) : Type 0 where
   pub room : Room
+  pub nursery : IsPlace (nursery_count old.config) name
   pub new_name : get old.objects name ≡ None
   pub has_room : room_in old mutator (1 + p + q) ≡ Some room
   pub change : new ≡ record old { objects = insert old.objects name (fresh_object p q); rooms = slice_set old.rooms mutator room }
@@ -99,16 +111,8 @@ pub record IsRoom (config : Config) (room : Room) : Type 0 where
   pub left : room.left < config.nursery_blocks
   pub used : room.used ≤ config.block_words
 
--- a small object stands at that place
-pub record IsPlace (blocks name : ℕ) : Type 0 where
-  pub block : ℕ
-  pub offset : ℕ
-  pub block_in_range : block < blocks
-  pub offset_in_range : offset < 512
-  pub is : name ≡ small_word block offset
-
--- what holds of the blocks of every heap: each object is small, stands in a block and is of a step of the shape; a block
--- is free exactly when it is one of the pool's and no object stands in it
+-- what holds of the blocks of every heap: each object is small, stands in a block and is of a step of the shape; a free
+-- block is one of the pool's, and no object stands in it
 pub record IsSpace (space : SpaceValue) : Type 0 where
   pub in_range : IsInRange space.config
   pub steps : (name : ℕ) (o : Object) → get space.objects name ≡ Some o → IsStep space.config.shape (o.generation, o.step)
@@ -118,4 +122,3 @@ pub record IsSpace (space : SpaceValue) : Type 0 where
   pub rooms : All (IsRoom space.config) space.rooms
   pub rising : IsStrictlyIncreasing space.free
   pub free : (block : ℕ) → has space.free block ≡ true → (nursery_count space.config ≤ block) × (block < space.config.blocks) × ((offset : ℕ) → offset < 65536 → get space.objects (small_word block offset) ≡ None)
-  pub all_free : (block : ℕ) → nursery_count space.config ≤ block → block < space.config.blocks → ((offset : ℕ) → offset < 512 → get space.objects (small_word block offset) ≡ None) → has space.free block ≡ true

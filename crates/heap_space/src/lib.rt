@@ -1,7 +1,6 @@
 //! The blocks of a heap: those of the nurseries, and those that collections filled.
 #![tactic(auto)]
 
-mod no_large;
 mod nurseries;
 mod space;
 

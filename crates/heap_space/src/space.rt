@@ -1,34 +1,35 @@
 //! The blocks of a heap: those of the nurseries, and those that collections filled.
-ghost use Rattle.std.specs.Prelude.{◌≡◌, ℕ, ◌+◌, ◌/◌, ◌<◌, ◌≤◌, ◌↔◌, ◌++◌, Some, None, map, length, slice_index, count_by, IsTrue, IsSome, IfOk, IfSome, IfNone, OnOk, OnErr, MatchOption, IsSomeAnd, slice_set};
+ghost use Rattle.std.specs.Prelude.{◌≡◌, ℕ, ◌+◌, ◌*◌, ◌/◌, ◌<◌, ◌≤◌, ◌↔◌, ◌||◌, Some, None, Err, true, length, take, drop, IsTrue, IsSome, IfOk, IfSome, IfNone, OnOk, OnErr, MatchOption, IsSomeAnd, slice_set};
 ghost use Rattle.std.specs.FinMap.{values, get, insert};
 ghost use Rattle.std.specs.Option.{option_map};
-ghost use Rattle.model.specs.Graph.{Object, IsClosed, with_pointer};
-ghost use Rattle.model.specs.Census.{step_count, points_younger};
+ghost use Rattle.model.specs.Graph.{Object, with_pointer};
+ghost use Rattle.model.specs.Census.{step_count};
 ghost use Rattle.model.specs.Live.{IsYoung};
 ghost use Rattle.layout.specs.Place.{place_word, pointer_word};
 ghost use Rattle.layout.specs.ObjectRef.{raw_of};
 ghost use Rattle.steps.specs.ConfigRange.{IsInRange};
 ghost use Rattle.steps.specs.StepPairs.{step_pair, stands_at};
 ghost use Rattle.heap_data.specs.HeapValue.{nursery_count};
-ghost use Rattle.heap_data.specs.Remembered.{is_holder};
 ghost use Rattle.heap_data.specs.Words.{IsShownAs};
 ghost use Rattle.heap_data.specs.CensusView.{step_value};
-ghost use Rattle.heap_data.specs.SlotView.{slot_value};
-ghost use Rattle.heap_data.specs.CollectionValue.{young_names, field_slot_of};
-ghost use Rattle.heap_graph.specs.HeapGraph.{slots_at};
-ghost use Rattle.heap_space.specs.Space.{SpaceAllocates, empty_space, room_in, graph_in, IsSpace};
-ghost use Rattle.heap_space.specs.Collecting.{AreBases, IsNumbered, CanReplace, IsReplaced};
+ghost use Rattle.heap_data.specs.CollectionValue.{young_names};
+ghost use Rattle.model.specs.Reached.{has};
+ghost use Rattle.layout.specs.Header.{size_of};
+ghost use Rattle.block_table.specs.Table.{objects_map, AreHeapBlocks};
+ghost use Rattle.large_objects.specs.LargeValue.{InUse, IsAdded, block_count, made, without_object};
+ghost use Rattle.large_objects.specs.PoolBlocks.{ArePoolBlocks, blocks_at};
+ghost use Rattle.heap_space.specs.Space.{SpaceAllocates, empty_space, room_in, graph_in, pool_in, IsSpace};
+ghost use Rattle.heap_space.specs.Collecting.{AreBases, IsNumbered, CanReplace, IsReplaced, HoldsNone};
 
-use crate::no_large::NoLarge;
 use crate::nurseries::{nurseries_of, nursery_table, reset_all};
-use block_pool::{Block, Pool, RankedSet};
+use block_pool::{Block, GrantError, Pool, RankedSet};
 use block_table::{
     AreaFlags, Table, add_blocks, areas_of, bases, block_object, count_step, end_of, exchange,
     grow, object_from, ordinal_at, remove_blocks, set_plain, set_pointer, step_at, young_blocks,
 };
-use heap_data::{Slot, StepCount};
-use heap_graph::{count_remembered, is_holder, push_slots_of};
-use layout::{ObjectRef, Place};
+use heap_data::StepCount;
+use large_objects::LargeTable;
+use layout::{LargeNumber, ObjectRef, Place};
 use nursery::Nursery;
 use std::alloc::{AllocError, Allocator, Global};
 use std::marker::Model;
@@ -55,7 +56,6 @@ pub struct Space<A: Allocator = Global> {
     pool: Pool<A>,
     // By generation the numbers of the blocks, so that a collection needn't look at the others.
     areas: AreaFlags<A>,
-    large: NoLarge<A>,
 }
 
 impl<A: Allocator> Model for Space<A> {
@@ -88,7 +88,6 @@ impl<A: Allocator + Clone> Space<A> {
         let table = nursery_table(alloc.clone()?, count, config.block_words())?;
         let areas = areas_of(alloc.clone()?, &table, config.generations())?;
         let nurseries = nurseries_of(alloc.clone()?, config.mutators(), config.nursery_blocks())?;
-        let large = NoLarge::new(alloc.clone()?)?;
         let mut pool = Pool::new(alloc.clone()?, config.blocks() as u32)?;
         let Ok(_granted) = pool.grant(alloc, count) else {
             return Err(AllocError);
@@ -99,7 +98,6 @@ impl<A: Allocator + Clone> Space<A> {
             nurseries,
             pool,
             areas,
-            large,
         })
     }
 
@@ -222,42 +220,21 @@ impl<A: Allocator + Clone> Space<A> {
         count_step(&self.table, at)
     }
 
-    /// How many objects have a pointer to an object of a younger generation.
-    pub fn count_remembered(&self) -> u64
-        requires { IsClosed (graph_in self.now) }
-        ensures { result ≡ count_by (points_younger (get self.now.objects)) (values self.now.objects) }
+    /// The blocks by number.
+    pub fn table(&self) -> &[Option<Block<A>>]
+        ensures objects { objects_map result.now ≡ self.now.objects }
+        ensures blocks { AreHeapBlocks self.now.config 0 result.now }
+        ensures short { length result.now ≤ self.now.config.blocks }
     {
-        count_remembered(&self.table, self.large.table())
-    }
-
-    /// Puts the pointers of the object of generation `h` at a place, where there is one, at the end of the slots, those
-    /// that lead to objects of generation at most `g`.
-    pub fn push_slots_of<B: Allocator>(
-        &self,
-        slots: &mut Vec<Slot, B>,
-        g: u8,
-        h: u8,
-        place: Place,
-    ) -> Result<(), AllocError>
-        requires { IsClosed (graph_in self.now) }
-        ensures { OnOk result (map slot_value slots.new.items ≡ map slot_value slots.old.items
-            ++ map field_slot_of (slots_at (graph_in self.now) g h (place_word place))) }
-    {
-        push_slots_of(slots, &self.table, self.large.table(), g, h, place)
-    }
-
-    /// Whether the object at a place is of generation `h` and has a pointer to an object of a younger one.
-    pub fn is_holder(&self, h: u8, place: Place) -> bool
-        requires { IsClosed (graph_in self.now) }
-        ensures { result ≡ is_holder (graph_in self.now) h (place_word place) }
-    {
-        is_holder(&self.table, self.large.table(), h, place)
+        &self.table
     }
 
     /// The number of the first object of generation at most `g` of each block, and how many such objects there are.
     pub fn bases(&self, alloc: A, g: u8) -> Result<(Vec<u32, A>, u32), AllocError>
         ensures bases { IfOk result (λ r. AreBases self.now g r.0.items) }
+        ensures short { IfOk result (λ r. length r.0.items ≤ 65535) }
         ensures all { IfOk result (λ r. r.1 ≡ length (young_names (graph_in self.now) g)) }
+        ensures few { IfOk result (λ r. r.1 ≤ 65535 * 512) }
     {
         let found = bases(alloc, &self.table, &self.areas, g)?;
         Ok(found)
@@ -316,6 +293,42 @@ impl<A: Allocator + Clone> Space<A> {
         ensures { IfOk result (λ numbers. numbers ≡ self.now.free) }
     {
         self.pool.free_numbers(alloc)
+    }
+
+    /// Makes a large object of `p` nil pointers and `q` zero words. Its blocks are the free ones with the lowest numbers: as
+    /// many as hold it with its header. `HeapFull` says that fewer are free. At an error nothing changes.
+    pub fn add_large(
+        &mut self,
+        alloc: A,
+        large: &mut LargeTable<A>,
+        p: u32,
+        q: u32,
+    ) -> Result<LargeNumber, GrantError>
+        requires pointers { p ≤ 100000 }
+        requires plain { q ≤ 100000 }
+        requires blocks { ArePoolBlocks large.old (pool_in self.old) }
+        ensures number { IfOk result (λ of. of.number ≡ large.old.next) }
+        ensures added { IfOk result (λ of. IsAdded large.old large.new of.number (made p q (take (block_count (size_of p q) self.old.config.block_words) self.old.free))) }
+        ensures granted { OnOk result (self.new ≡ record self.old { free = drop (block_count (size_of p q) self.old.config.block_words) self.old.free }) }
+        ensures full { (result ≡ Err GrantError.HeapFull) ↔ (length self.old.free < block_count (size_of p q) self.old.config.block_words) }
+        ensures large_kept { OnErr result (large.new ≡ large.old) }
+        ensures kept { OnErr result (self.new ≡ self.old) }
+        ensures pool_blocks { ArePoolBlocks large.new (pool_in self.new) }
+    {
+        large.add(alloc, &mut self.pool, self.config.block_words(), p, q)
+    }
+
+    /// Gives up a large object: its blocks, in which no other object stands, are free.
+    pub fn remove_large(&mut self, large: &mut LargeTable<A>, number: LargeNumber)
+        requires in_use { InUse large.old number.number }
+        requires blocks { ArePoolBlocks large.old (pool_in self.old) }
+        requires apart { (n : ℕ) → has (blocks_at large.old number.number) n ≡ true → (nursery_count self.old.config ≤ n) × HoldsNone self.old n }
+        ensures removed { large.new ≡ without_object large.old number.number }
+        ensures free { (n : ℕ) → has self.new.free n ≡ (has (blocks_at large.old number.number) n || has self.old.free n) }
+        ensures others { self.new ≡ record self.old { free = self.new.free } }
+        ensures pool_blocks { ArePoolBlocks large.new (pool_in self.new) }
+    {
+        large.remove(&mut self.pool, number);
     }
 
     /// The sizes that the space was made with.

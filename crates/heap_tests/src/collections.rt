@@ -243,7 +243,7 @@ fn assert_too_big(rt: &impl Abort, heap: &mut Heap<Global>) {
         (1, 100_001, 0, AllocateError::NoMutator),
         (0, 100_001, 0, AllocateError::TooBig),
         (0, 0, u64::MAX, AllocateError::TooBig),
-        (0, 2, 2, AllocateError::TooBig),
+        (0, 20, 20, AllocateError::HeapFull),
     ] {
         assert_eq!(rt; heap.allocate(mutator, p, q).err(), Some(refusal));
     }

@@ -8,6 +8,8 @@ mod free_blocks;
 #[cfg(test)]
 mod heaps;
 #[cfg(test)]
+mod large_numbers;
+#[cfg(test)]
 mod many_roots;
 #[cfg(test)]
 mod pointers;

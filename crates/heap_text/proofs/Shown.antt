@@ -11,7 +11,7 @@ use Rattle.model.specs.Text.{targets_at}
 use Rattle.layout.specs.declared.object.ObjectRef.{ObjectRef}
 use Rattle.layout.specs.Object.{Raw}
 use Rattle.layout.specs.ObjectRef.{raw_of}
-use Rattle.heap.specs.Plain.{NamesArePlaces}
+use Rattle.heap.specs.NamesArePlaces.{NamesArePlaces}
 use Rattle.heap.specs.Words.{IsShownAs, target_of_word}
 use Rattle.heap_text.specs.Numbering.{LeadsInto, IsPointerWord}
 

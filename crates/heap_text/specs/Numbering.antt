@@ -8,7 +8,7 @@ use Rattle.model.specs.Text.{targets_at}
 use Rattle.layout.specs.declared.place.Place.{Place}
 use Rattle.layout.specs.Place.{pointer_word}
 use Rattle.heap.specs.HeapValue.{HeapValue}
-use Rattle.heap.specs.Plain.{NamesArePlaces}
+use Rattle.heap.specs.NamesArePlaces.{NamesArePlaces}
 use Rattle.heap.specs.CollectionValue.{CollectionValue, IsOpened, young_names}
 
 -- a collection that was opened on this heap has all of its objects

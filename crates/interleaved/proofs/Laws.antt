@@ -11,7 +11,7 @@ use Rattle.workers.specs.Lawful.{MayAct, HasQueued, lowest_open}
 use Rattle.workers.specs.WorkerSteps.{IsFree, IsOutOfWork, CanLook, CanScan}
 use Rattle.model.specs.Graph.{IsClosed}
 use Rattle.heap_data.specs.HeapValue.{HeapValue}
-use Rattle.heap_data.specs.Plain.{NamesArePlaces}
+use Rattle.heap_data.specs.NamesArePlaces.{NamesArePlaces}
 use Rattle.heap.proofs.SoundHeap.{heap_closed, heap_places}
 use Rattle.scavenge.specs.Slots.{objects_of, IsUntouched}
 use Rattle.serial.proofs.OpenBlocks.{none_there, open_there}

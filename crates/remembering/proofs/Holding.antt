@@ -24,7 +24,7 @@ any_at p (x ∷ xs) h =
     (λ r. let rest = any_at p xs r in record { place = suc rest.place; item = rest.item; there = rest.there; passes = rest.passes })
     (or_cases _ _ h)
 
-at_any : {X : Type 0} (p : X → Bool) (xs : List X) (i : ℕ) (x : X) → slice_get xs i ≡ Some x → p x ≡ true → list_any p xs ≡ true
+pub at_any : {X : Type 0} (p : X → Bool) (xs : List X) (i : ℕ) (x : X) → slice_get xs i ≡ Some x → p x ≡ true → list_any p xs ≡ true
 at_any p [] i x is passes = absurd (some_not_none (sym is))
 at_any p (y ∷ xs) zero x is passes = or_left _ _ (ap p (some_is is) ∙ passes)
 at_any p (y ∷ xs) (suc i) x is passes = or_right _ _ (at_any p xs i x is passes)

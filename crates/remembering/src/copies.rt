@@ -12,7 +12,7 @@ use remembered_set::Remembered;
 use std::alloc::{AllocError, Allocator};
 
 /// Whether some pointer with these words isn't nil.
-fn has_pointer(words: &[u64]) -> bool
+pub(crate) fn has_pointer(words: &[u64]) -> bool
     ensures { result ≡ list_any is_some (map target_of_word words.now) }
 {
     for word in words {

@@ -4,6 +4,7 @@
 mod copies;
 mod ending;
 mod holders;
+mod large_copies;
 mod lens;
 mod old_slots;
 

@@ -7,10 +7,10 @@ ghost use Rattle.heap_data.specs.CollectionValue.{field_slot_of};
 ghost use Rattle.heap_data.specs.Remembered.{CoversYounger};
 ghost use Rattle.heap_data.specs.SlotView.{slot_value};
 ghost use Rattle.heap_graph.specs.HeapGraph.{slots_at};
-ghost use Rattle.heap_space.specs.Space.{graph_in};
+ghost use Rattle.heap_objects.specs.Objects.{graph_in};
 
 use heap_data::Slot;
-use heap_space::Space;
+use heap_objects::HeapObjects;
 use layout::Place;
 use remembered_set::Remembered;
 use std::alloc::{AllocError, Allocator};
@@ -19,17 +19,17 @@ use std::alloc::{AllocError, Allocator};
 /// the end of the slots.
 fn push_members<A: Allocator + Clone>(
     slots: &mut Vec<Slot, A>,
-    space: &Space<A>,
+    objects: &HeapObjects<A>,
     g: u8,
     h: u8,
     members: &[Place],
 ) -> Result<(), AllocError>
-    requires { IsClosed (graph_in space.now) }
+    requires { IsClosed (graph_in objects.now) }
     ensures { OnOk result (map slot_value slots.new.items ≡ map slot_value slots.old.items
-        ++ map field_slot_of (flat_map (slots_at (graph_in space.now) g h) (map place_word members.now))) }
+        ++ map field_slot_of (flat_map (slots_at (graph_in objects.now) g h) (map place_word members.now))) }
 {
     for k in 0..members.len() {
-        space.push_slots_of(slots, g, h, members[k])?;
+        objects.push_slots_of(slots, g, h, members[k])?;
     }
     Ok(())
 }
@@ -39,19 +39,19 @@ fn push_members<A: Allocator + Clone>(
 fn push_generation<A: Allocator + Clone>(
     alloc: A,
     slots: &mut Vec<Slot, A>,
-    space: &Space<A>,
+    objects: &HeapObjects<A>,
     sets: &Remembered<A>,
     g: u8,
     h: u8,
 ) -> Result<(), AllocError>
-    requires closed { IsClosed (graph_in space.now) }
-    requires covers { CoversYounger (graph_in space.now) sets.now }
+    requires closed { IsClosed (graph_in objects.now) }
+    requires covers { CoversYounger (graph_in objects.now) sets.now }
     requires older { g < h }
     ensures { OnOk result (map slot_value slots.new.items ≡ map slot_value slots.old.items
-        ++ map field_slot_of (slots_of_generation (graph_in space.now) g h)) }
+        ++ map field_slot_of (slots_of_generation (graph_in objects.now) g h)) }
 {
     let members = sets.members(alloc, h as usize)?;
-    push_members(slots, space, g, h, &members)
+    push_members(slots, objects, g, h, &members)
 }
 
 /// Puts the pointers of objects older than `g` that lead to objects of generation at most `g` at the end of the slots:
@@ -60,17 +60,17 @@ fn push_generation<A: Allocator + Clone>(
 pub fn push_old_slots<A: Allocator + Clone>(
     alloc: A,
     slots: &mut Vec<Slot, A>,
-    space: &Space<A>,
+    objects: &HeapObjects<A>,
     sets: &Remembered<A>,
     g: u8,
 ) -> Result<(), AllocError>
-    requires closed { IsClosed (graph_in space.now) }
-    requires covers { CoversYounger (graph_in space.now) sets.now }
+    requires closed { IsClosed (graph_in objects.now) }
+    requires covers { CoversYounger (graph_in objects.now) sets.now }
     ensures { OnOk result (map slot_value slots.new.items ≡ map slot_value slots.old.items
-        ++ map field_slot_of (old_slots (graph_in space.now) (length sets.now) g)) }
+        ++ map field_slot_of (old_slots (graph_in objects.now) (length sets.now) g)) }
 {
     for h in g as usize + 1..sets.generations() {
-        push_generation(alloc.clone()?, slots, space, sets, g, h as u8)?;
+        push_generation(alloc.clone()?, slots, objects, sets, g, h as u8)?;
     }
     Ok(())
 }

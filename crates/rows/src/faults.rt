@@ -85,7 +85,6 @@ fn lines_against_the_heap(rt: HostRuntime) {
         (b"new a 1 100001 0\n", b"gctrace: line 1: no such mutator\n"),
         (b"new a 0 100001 0\n", b"gctrace: line 1: too big\n"),
         (b"new a 0 0 100001\n", b"gctrace: line 1: too big\n"),
-        (b"new a 0 64 64\n", b"gctrace: line 1: too big\n"),
         (b"collect 1\n", b"gctrace: line 1: no such generation\n"),
         (
             b"collect 18446744073709551615\n",
@@ -98,7 +97,7 @@ fn lines_against_the_heap(rt: HostRuntime) {
         &rt,
         rt.alloc(),
         &ONE_GENERATION,
-        b"new a 0 63 64\n",
+        b"new a 0 63 64\nnew b 0 64 64\n",
         b"",
         b"",
         0,

@@ -16,6 +16,10 @@ mod faults;
 #[cfg(test)]
 mod generations;
 #[cfg(test)]
+mod large;
+#[cfg(test)]
+mod large_at_size;
+#[cfg(test)]
 mod memory;
 #[cfg(test)]
 mod pointers;
@@ -25,6 +29,8 @@ mod program;
 mod reads_and_writes;
 #[cfg(test)]
 mod refused_generations;
+#[cfg(test)]
+mod refused_large;
 #[cfg(test)]
 mod refused_replays;
 #[cfg(test)]

@@ -11,7 +11,7 @@ use std::test::Fail;
 use trace_driver::{CountedReader, Fault, RunConfig, replay, run};
 
 /// A line of a trace, and what it prints.
-type Line = (&'static [u8], &'static [u8]);
+pub(crate) type Line = (&'static [u8], &'static [u8]);
 
 /// The second and the last collection find the nursery of one mutator full.
 const RUN: [Line; 28] = [
@@ -284,33 +284,52 @@ fn assert_whole(rt: &impl Abort, alloc: Global, lines: &[Line], ended: &Ended) -
     Ok(())
 }
 
-#[test]
-fn each_request_of_a_run_is_refused(rt: HostRuntime) -> Result<(), Fail> {
-    let input = input_of(rt.alloc(), run_lines())?;
+/// Asserts that each request of a run is refused in turn, and that there are more than `least`.
+pub(crate) fn assert_each_run_refused(
+    rt: &impl Abort,
+    alloc: Global,
+    lines: &[Line],
+    least: u64,
+) -> Result<(), Fail> {
+    let input = input_of(alloc, lines)?;
     for refused in 0..MANY {
-        let ended = ran(rt.alloc(), input.as_slice(), refused)?;
+        let ended = ran(alloc, input.as_slice(), refused)?;
         if ended.result.is_ok() {
-            assert_whole(&rt, rt.alloc(), run_lines(), &ended)?;
-            // Three collections ask for more than this.
-            assert!(rt; refused > 40);
+            assert_whole(rt, alloc, lines, &ended)?;
+            assert!(rt; refused > least);
             return Ok(());
         }
-        assert_refused(&rt, rt.alloc(), run_lines(), &ended)?;
+        assert_refused(rt, alloc, lines, &ended)?;
     }
     Err(Fail::from("each run was refused"))
 }
 
-#[test]
-fn each_request_of_a_replay_is_refused(rt: HostRuntime) -> Result<(), Fail> {
-    let input = input_of(rt.alloc(), replay_lines())?;
+/// The same of a replay.
+pub(crate) fn assert_each_replay_refused(
+    rt: &impl Abort,
+    alloc: Global,
+    lines: &[Line],
+    least: u64,
+) -> Result<(), Fail> {
+    let input = input_of(alloc, lines)?;
     for refused in 0..MANY {
-        let ended = replayed(rt.alloc(), input.as_slice(), refused)?;
+        let ended = replayed(alloc, input.as_slice(), refused)?;
         if ended.result.is_ok() {
-            assert_whole(&rt, rt.alloc(), replay_lines(), &ended)?;
-            assert!(rt; refused > 80);
+            assert_whole(rt, alloc, lines, &ended)?;
+            assert!(rt; refused > least);
             return Ok(());
         }
-        assert_refused(&rt, rt.alloc(), replay_lines(), &ended)?;
+        assert_refused(rt, alloc, lines, &ended)?;
     }
     Err(Fail::from("each replay was refused"))
+}
+
+#[test]
+fn each_request_of_a_run_is_refused(rt: HostRuntime) -> Result<(), Fail> {
+    assert_each_run_refused(&rt, rt.alloc(), run_lines(), 40)
+}
+
+#[test]
+fn each_request_of_a_replay_is_refused(rt: HostRuntime) -> Result<(), Fail> {
+    assert_each_replay_refused(&rt, rt.alloc(), replay_lines(), 80)
 }

@@ -7,7 +7,7 @@ use Rattle.model.specs.Graph.{IsClosed}
 use Rattle.layout.specs.Object.{Raw, raw_size}
 use Rattle.block_pool.specs.BlockValue.{BlockValue}
 use Rattle.heap.specs.HeapValue.{HeapValue}
-use Rattle.heap.specs.Plain.{NamesArePlaces}
+use Rattle.heap.specs.NamesArePlaces.{NamesArePlaces}
 use Rattle.heap.specs.Words.{target_of_word}
 use Rattle.workers.specs.Block.{Block, Copy, front_copy}
 use Rattle.workers.specs.Setting.{Setting, old_field}

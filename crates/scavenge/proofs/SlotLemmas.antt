@@ -7,7 +7,7 @@ use Rattle.model.specs.Graph.{Graph, Object, object_at, field_at, IsClosed}
 use Rattle.layout.specs.declared.place.Place.{Place}
 use Rattle.layout.specs.Object.{Raw}
 use Rattle.layout.specs.Place.{place_word, pointer_word}
-use Rattle.heap.specs.Plain.{NamesArePlaces}
+use Rattle.heap.specs.NamesArePlaces.{NamesArePlaces}
 use Rattle.heap.specs.Words.{target_of_word, IsShownAs}
 use Rattle.workers.specs.System.{every}
 use Rattle.to_space.specs.Fronts.{IsPointer}

@@ -11,7 +11,7 @@ ghost use Rattle.heap.specs.CollectionValue.{IsOpened};
 ghost use Rattle.heap.specs.Found.{IsFound};
 ghost use Rattle.heap.specs.StepPairs.{step_pair, stands_at};
 ghost use Rattle.heap.specs.Words.{IsShownAs};
-ghost use Rattle.heap.specs.Plain.{NamesArePlaces};
+ghost use Rattle.heap.specs.NamesArePlaces.{NamesArePlaces};
 ghost use Rattle.workers.specs.Setting.{is_large_name, destination_of, destination_number, fits_in};
 ghost use Rattle.workers.specs.Worker.{allocation_at};
 ghost use Rattle.workers.specs.WorkerSteps.{current_slot, propose_copy, draws_for};

@@ -4,7 +4,7 @@ ghost use Rattle.std.specs.Option.{option_map};
 ghost use Rattle.model.specs.Graph.{IsClosed, field_at};
 ghost use Rattle.model.specs.Destination.{dest};
 ghost use Rattle.layout.specs.Place.{place_word};
-ghost use Rattle.heap.specs.Plain.{NamesArePlaces};
+ghost use Rattle.heap.specs.NamesArePlaces.{NamesArePlaces};
 ghost use Rattle.workers.specs.Setting.{destination_number};
 
 use heap::{Config, Heap, StepId};

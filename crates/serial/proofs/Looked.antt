@@ -11,7 +11,7 @@ use Rattle.plain_cells.specs.Plain.{PlainPassValue, IsFit, place_held, known_by}
 use Rattle.plain_cells.specs.Plain.{PlainValue as PlainCellsValue}
 use Rattle.heap_data.specs.HeapValue.{HeapValue}
 use Rattle.heap_data.specs.CollectionValue.{CollectionValue}
-use Rattle.heap_data.specs.Plain.{NamesArePlaces}
+use Rattle.heap_data.specs.NamesArePlaces.{NamesArePlaces}
 use Rattle.heap.proofs.SoundHeap.{heap_closed, heap_places}
 use Rattle.workers.specs.Block.{Block, has_unscanned}
 use Rattle.workers.specs.Setting.{Setting, is_collected, is_large_name, destination_of}

@@ -11,7 +11,7 @@ use Rattle.model.specs.Room.{Room, room_after, full_room}
 use Rattle.model.specs.Store.{Store, collected}
 use Rattle.model.specs.Commands.{Command, New, Set, Put, Get, Drop, Collect, Census, Heap, Outcome, unless, named, room_in, is_large_size, is_too_big, with_new, with_room}
 use Rattle.trace_text.specs.Grammar.{entry_of, ◌>>=◌}
-use Rattle.trace_lines.specs.Outcome.{narrowed, command_step, entry_step, line_step}
+use Rattle.trace_lines.specs.Outcome.{command_step, entry_step, line_step}
 use Rattle.trace_lines.specs.Sound.{IsSound, IsSoundCommand}
 use Rattle.trace_lines.specs.CollectsFirst.{has_no_room, CollectsFirst, ReadCollectsFirst, LineCollectsFirst, auto_line}
 
@@ -27,9 +27,9 @@ module _ (config : Config) (store : Store) where
       let fits : nat_le (0 + size) config.block_words ≡ true = le-leb (0 + size) config.block_words (omega (arith, ltb-false (config.block_words / 4) size small)) in
       (record { left = full.left; used = 0 + size }, ap (option_and_then (λ room. room_after config.block_words room size)) there ∙ rw fits refl)
 
-  no_fault : (command : Command) (b : Bool) (kind : Kind) (o : Outcome) → is_ok (narrowed config command (unless b kind o)) ≡ true → b ≡ false
-  no_fault command true kind o ok = absurd (true≢false (sym ok))
-  no_fault command false kind o ok = refl
+  no_fault : (b : Bool) (kind : Kind) (o : Outcome) → is_ok (unless b kind o) ≡ true → b ≡ false
+  no_fault true kind o ok = absurd (true≢false (sym ok))
+  no_fault false kind o ok = refl
 
   -- what a line without a fault does that collects first: after the collection it does the rest, and has room
   pub record Again (here there : Outcome) (first_again : Type 0) : Type 0 where
@@ -42,23 +42,22 @@ module _ (config : Config) (store : Store) where
       → Again (command_step config store (New text m p q)) (command_step config after_it (New text m p q)) (CollectsFirst config after_it (New text m p q))
   with_room_then text m p q room free known fits small none there = record {
     next = with_new text p q (with_room m room after_it);
-    here_is = rw (free, known, fits, small, none, there, small) refl;
-    there_is = rw (free, known, fits, small, there, small) refl;
+    here_is = rw (free, known, fits, small, none, there) refl;
+    there_is = rw (free, known, fits, small, there) refl;
     has_room = λ again. true≢false (sym (rw (small, there) at again));
   }
 
   new_again : (text : List ℕ) (m p q : ℕ) → IsTrue (has_no_room config store m (1 + p + q)) → IsSoundCommand config store (New text m p q) → Again (command_step config store (New text m p q)) (command_step config after_it (New text m p q)) (CollectsFirst config after_it (New text m p q))
   new_again text m p q no_room ok =
-      let command = New text m p q in
       let size = 1 + p + q in
       let parts = and_parts (not (is_large_size config size)) (not (is_some (room_in config m size store))) no_room in
       let small : is_large_size config size ≡ false = not_true (is_large_size config size) parts.0 in
       let none : room_in config m size store ≡ None = is_none (room_in config m size store) (not_true (is_some (room_in config m size store)) parts.1) in
-      let free : is_some (named store text) ≡ false = no_fault command (is_some (named store text)) NameInUse _ ok in
-      let first : is_ok (narrowed config command (unless (not (nat_lt m config.mutators)) NoMutator (unless (is_too_big p q) TooBig _))) ≡ true = rw free at ok in
-      let known : nat_lt m config.mutators ≡ true = not_false (nat_lt m config.mutators) (no_fault command (not (nat_lt m config.mutators)) NoMutator _ first) in
-      let second : is_ok (narrowed config command (unless (is_too_big p q) TooBig _)) ≡ true = rw known at first in
-      let fits : is_too_big p q ≡ false = no_fault command (is_too_big p q) TooBig _ second in
+      let free : is_some (named store text) ≡ false = no_fault (is_some (named store text)) NameInUse _ ok in
+      let first : is_ok (unless (not (nat_lt m config.mutators)) NoMutator (unless (is_too_big p q) TooBig _)) ≡ true = rw free at ok in
+      let known : nat_lt m config.mutators ≡ true = not_false (nat_lt m config.mutators) (no_fault (not (nat_lt m config.mutators)) NoMutator _ first) in
+      let second : is_ok (unless (is_too_big p q) TooBig _) ≡ true = rw known at first in
+      let fits : is_too_big p q ≡ false = no_fault (is_too_big p q) TooBig _ second in
       let room = room_is m size (ltb-true m config.mutators known) small in
       with_room_then text m p q room.0 free known fits small none room.1
     where

@@ -1,24 +1,15 @@
 -- What a trace prints, and its first fault.
-use Rattle.std.specs.Prelude.{ℕ, ◌+◌, ◌-◌, Bool, false, nat_lt, take, List, [], ◌∷◌, ◌++◌, length, Option, Some, None, Ok, Err, if◌then◌else◌}
-use Rattle.model.specs.declared.kind.Kind.TheVariants.{LineTooLong, UnfinishedLine, TooBig}
+use Rattle.std.specs.Prelude.{ℕ, ◌+◌, ◌-◌, nat_lt, take, List, [], ◌∷◌, ◌++◌, length, Option, Some, None, Ok, Err, if◌then◌else◌}
+use Rattle.model.specs.declared.kind.Kind.TheVariants.{LineTooLong, UnfinishedLine}
 use Rattle.model.specs.Config.{Config}
 use Rattle.model.specs.Store.{Store, empty_store}
-use Rattle.model.specs.Commands.{Command, New, Run, carried, is_large_size, Outcome as Stepped}
+use Rattle.model.specs.Commands.{Command, Run, carried, Outcome as Stepped}
 use Rattle.trace_text.specs.Grammar.{entry_of, ◌>>=◌}
 use Rattle.trace_lines.specs.Pieces.{Piece, finished, unfinished, pieces}
 
--- a new object that is large: today no trace may ask for one
-abbrev pub asks_large : Config → Command → Bool
-asks_large config (New text mutator p q) = is_large_size config (1 + p + q)
-asks_large config _ = false
-
--- this is the last of a line's checks
-abbrev pub narrowed : Config → Command → Stepped → Stepped
-narrowed config command (Err kind) = Err kind
-narrowed config command (Ok done) = if asks_large config command then Err TooBig else Ok done
-
+-- the store after a command, and what the command prints
 abbrev pub command_step : Config → Store → Command → Stepped
-command_step config store command = narrowed config command (carried config store command)
+command_step config store command = carried config store command
 
 -- the store after a line, and what the line prints
 abbrev pub entry_step : Config → Store → Option Command → Stepped

@@ -12,26 +12,28 @@ use Rattle.trace_lines.specs.CollectsFirst.{ReadCollectsFirst, LineCollectsFirst
 use Rattle.trace_lines.specs.Faults.{MatchFault}
 use Rattle.trace_lines.specs.Outcome.{line_step}
 use Rattle.trace_lines.specs.Stepped.{AtEach, StepsTo, Writes}
-use Rattle.trace_step.specs.Refusals.{MayBeFull, ReadWantsBlocks}
+use Rattle.trace_step.specs.Refusals.{MayBeFull, ReadWantsBlocks, ReadAsksTooLarge}
 use Rattle.trace_step.specs.SessionType.{Session}
 use Rattle.trace_step.specs.Session.{Stands}
-use Rattle.trace_replay.specs.Replays.{state_of, IsNoCollection, MakesRoom, HasMadeRoom, LineReplayed}
+use Rattle.trace_replay.specs.ReplayStops.{WantsRoom, for_large}
+use Rattle.trace_replay.specs.Replays.{State, state_of, IsNoCollection, MakesRoom, HasMadeRoom, LineReplayed}
 
-read_full_never : (config : Config) (store : Store) (read : Result (Option Command) Kind) → IsNoCollection read → ReadWantsBlocks config store read → ReadCollectsFirst config store read
-read_full_never config store (Err kind) plain wants = wants
-read_full_never config store (Ok None) plain wants = wants
-read_full_never config store (Ok (Some (New text m p q))) plain wants = wants.0
-read_full_never config store (Ok (Some (Set text i target))) plain wants = wants
-read_full_never config store (Ok (Some (Put text i value))) plain wants = wants
-read_full_never config store (Ok (Some (Get new_text text i))) plain wants = wants
-read_full_never config store (Ok (Some (Drop text))) plain wants = wants
-read_full_never config store (Ok (Some (Collect g))) plain wants = absurd plain
-read_full_never config store (Ok (Some Census)) plain wants = wants
-read_full_never config store (Ok (Some Heap)) plain wants = wants
+read_large : (config : Config) (store : Store) (read : Result (Option Command) Kind) → IsNoCollection read → ReadWantsBlocks config store read → ¬ ReadCollectsFirst config store read → ReadAsksTooLarge config store read
+read_large config store (Err kind) plain wants not = wants
+read_large config store (Ok None) plain wants not = wants
+read_large config store (Ok (Some (New text m p q))) plain (inl wants) not = absurd (not wants.0)
+read_large config store (Ok (Some (New text m p q))) plain (inr lacks) not = lacks
+read_large config store (Ok (Some (Set text i target))) plain wants not = wants
+read_large config store (Ok (Some (Put text i value))) plain wants not = wants
+read_large config store (Ok (Some (Get new_text text i))) plain wants not = wants
+read_large config store (Ok (Some (Drop text))) plain wants not = wants
+read_large config store (Ok (Some (Collect g))) plain wants not = absurd plain
+read_large config store (Ok (Some Census)) plain wants not = wants
+read_large config store (Ok (Some Heap)) plain wants not = wants
 
--- a line that collects nothing wants no blocks
-pub full_never : (config : Config) (store : Store) (line : List ℕ) → IsNoCollection (entry_of line) → MayBeFull config store line → ¬ (¬ LineCollectsFirst config store line)
-full_never config store line plain may not = not (read_full_never config store (entry_of line) plain may.wants)
+-- a line that collects nothing wants blocks for a large object alone
+pub wants_large : (config : Config) (n : ℕ) (s : State) (line : List ℕ) → IsNoCollection (entry_of line) → MayBeFull config s.store line → ¬ LineCollectsFirst config s.store line → WantsRoom config n s line
+wants_large config n s line plain may not = for_large may.sound (read_large config s.store (entry_of line) plain may.wants not)
 
 -- where blocks are wanting at any store
 pub each_short : (stands : Config → Store → Type 0) (number : ℕ) {S W : Type 0} (session session' : S) (writer writer' : W) (failed Short : Type 0) (e : Fault)

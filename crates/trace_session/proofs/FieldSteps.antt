@@ -14,7 +14,7 @@ use Rattle.model.specs.Store.{Store, object_at, targets}
 use Rattle.model.specs.Commands.{Set, Put, Outcome, with_object, silent, on_target, on_known}
 use Rattle.heap.specs.HeapValue.{HeapValue}
 use Rattle.heap.specs.Commands.{Changes, Stores, HasPointer, HasPlain, IsValue, value_at, rooted_object}
-use Rattle.trace_lines.specs.Outcome.{command_step, narrowed}
+use Rattle.trace_lines.specs.Outcome.{command_step}
 use Rattle.trace_lines.specs.Sound.{IsSoundCommand}
 use Rattle.trace_lines.specs.Stepped.{StepsQuietly}
 use Rattle.trace_session.specs.Targets.{IsRootOf, IsUnknown}
@@ -138,13 +138,13 @@ module _ (heap : HeapValue) (names : List (List ℕ × ℕ)) (config : Config) (
           (order i (length o.pointers))
 
       -- the step where the field is there
-      set_at : HasPointer heap.graph root i → command_step config store (Set text i target) ≡ narrowed config (Set text i target) (on_target store target (λ value. silent (with_object leads.name (with_pointer o i value) store)))
+      set_at : HasPointer heap.graph root i → command_step config store (Set text i target) ≡ on_target store target (λ value. silent (with_object leads.name (with_pointer o i value) store))
       set_at h =
           let known = lt-ltb i (length o.pointers) (pointer_has i h) in
           rw (leads.named_is, leads.there, known) refl
 
       set_is : (r : Option ℕ) (v : ValueOf target r) → HasPointer heap.graph root i → command_step config store (Set text i target) ≡ Ok (with_object leads.name (with_pointer o i v.value) store, [])
-      set_is r v h = set_at h ∙ ap (narrowed config (Set text i target)) (v.step (λ value. silent (with_object leads.name (with_pointer o i value) store)))
+      set_is r v h = set_at h ∙ v.step (λ value. silent (with_object leads.name (with_pointer o i value) store))
 
       pub steps_set : (r : Option ℕ) (heap' : HeapValue) → IsRootOf names target r → HasPointer heap.graph root i → Stores heap root i r heap' → StepsQuietly (StandsFor heap' names) config (command_step config store (Set text i target))
       steps_set r heap' is h changes =
@@ -165,7 +165,7 @@ module _ (heap : HeapValue) (names : List (List ℕ × ℕ)) (config : Config) (
     set_unknown_target : (i : ℕ) (other : List ℕ) → HasPointer heap.graph root i → named names other ≡ None → command_step config store (Set text i (Some other)) ≡ Err UnknownName
     set_unknown_target i other h free =
         set_at i (Some other) h
-        ∙ ap (λ n. narrowed config (Set text i (Some other)) (on_known (λ value. silent (with_object leads.name (with_pointer o i value) store)) n)) (stands.names_are.free other free)
+        ∙ ap (on_known (λ value. silent (with_object leads.name (with_pointer o i value) store))) (stands.names_are.free other free)
 
     pub unknown_target : (i : ℕ) (target : Option (List ℕ)) → HasPointer heap.graph root i → IsUnknown names target → command_step config store (Set text i target) ≡ Err UnknownName
     unknown_target i None h unknown = absurd unknown

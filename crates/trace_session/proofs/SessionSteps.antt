@@ -1,6 +1,6 @@
 -- What a new object and a dropped name do to a session that stands for a store.
-use Rattle.std.proofs.Common.{◌≡◌, ℕ, ◌+◌, ◌<◌, Bool, true, false, ◌||◌, List, [], length, Option, Some, None, Ok, Err, refl, sym, ap, subst}
-use Rattle.std.specs.Prelude.{nat_lt, not, is_some, is_ok, slice_set}
+use Rattle.std.proofs.Common.{◌≡◌, ℕ, ◌+◌, ◌<◌, Bool, true, false, ◌||◌, List, [], length, Option, Some, None, Ok, Err, refl, sym, ap, subst, inl, inr}
+use Rattle.std.specs.Prelude.{nat_lt, not, is_some, is_ok, slice_set, IsTrue}
 use Rattle.std.specs.Option.{option_map}
 use Rattle.std.specs.Ordering.{nat_cmp}
 use Rattle.std.specs.FinMap.{get-empty, len-empty}
@@ -12,7 +12,7 @@ use Rattle.model.specs.Room.{Room}
 use Rattle.model.specs.Store.{Store, empty_store}
 use Rattle.model.specs.Commands.{New, Drop, room_in, is_large_size, is_too_big, with_new, with_room, without_name}
 use Rattle.heap.specs.HeapValue.{HeapValue, empty_heap}
-use Rattle.heap.specs.Commands.{Allocates}
+use Rattle.heap.specs.Commands.{Allocates, AllocatesSmall, AllocatesLarge}
 use Rattle.heap.specs.Commands as commands
 use Rattle.heap_data.specs.declared.root_id.RootId.{RootId}
 use Rattle.trace_lines.specs.CollectsFirst.{CollectsFirst}
@@ -20,6 +20,7 @@ use Rattle.trace_lines.specs.Outcome.{command_step}
 use Rattle.trace_lines.specs.Sound.{IsSoundCommand}
 use Rattle.trace_lines.specs.Stepped.{StepsQuietly}
 use Rattle.trace_names.specs.NamesView.{named}
+use Rattle.trace_session.specs.Refusals.{CommandMayBeFull}
 use Rattle.store_places.specs.Made.{MadeByCalls, made, allocated, released}
 use Rattle.store_places.specs.Stands.{StandsFor, IsPlaced, IsNamed}
 use Rattle.trace_names.proofs.NamedLemmas.{added, dropped, none_is_some}
@@ -90,16 +91,19 @@ module _ (heap : HeapValue) (names : List (List ℕ × ℕ)) (config : Config) (
   new_step : (text : List ℕ) (m p q : ℕ) (room : Room) → named store.names text ≡ None → m < config.mutators → is_too_big p q ≡ false → is_large_size config (1 + p + q) ≡ false → room_in config m (1 + p + q) store ≡ Some room → command_step config store (New text m p q) ≡ Ok (with_new text p q (with_room m room store), [])
   new_step text m p q room free in_range fits small has_room =
       let known : nat_lt m config.mutators ≡ true = lt-ltb m config.mutators in_range in
-      rw (free, known, fits, small, has_room, small) refl
+      rw (free, known, fits, small, has_room) refl
 
-  pub steps_new : (text : List ℕ) (m p q root : ℕ) (heap' : HeapValue) (names' : List (List ℕ × ℕ)) → named names text ≡ None → Allocates heap m p q root heap' → names' ≡ added names text root → m < heap.config.mutators → commands.is_too_big heap p q ≡ false → StepsQuietly (StandsFor heap' names') config (command_step config store (New text m p q))
-  steps_new text m p q root heap' names' free allocates names_are in_range small =
+  new_large : (text : List ℕ) (m p q : ℕ) → named store.names text ≡ None → m < config.mutators → is_too_big p q ≡ false → is_large_size config (1 + p + q) ≡ true → command_step config store (New text m p q) ≡ Ok (with_new text p q store, [])
+  new_large text m p q free in_range fits large =
+      let known : nat_lt m config.mutators ≡ true = lt-ltb m config.mutators in_range in
+      rw (free, known, fits, large) refl
+
+  steps_small : (text : List ℕ) (m p q root : ℕ) (heap' : HeapValue) (names' : List (List ℕ × ℕ)) → named names text ≡ None → AllocatesSmall heap m p q root heap' → names' ≡ added names text root → m < heap.config.mutators → is_too_big p q ≡ false → StepsQuietly (StandsFor heap' names') config (command_step config store (New text m p q))
+  steps_small text m p q root heap' names' free allocates names_are in_range fits =
       let room = allocates.room in
       let next : Store = with_new text p q (with_room m room store) in
       let has_room : room_in config m (1 + p + q) store ≡ Some room = rw (← stands.config_is, ← stands.rooms_are) allocates.has_room in
-      let parts : ((is_too_big p q) || is_large_size heap.config (1 + p + q)) ≡ false = small in
-      let fits : is_too_big p q ≡ false = or_left_false (is_too_big p q) (is_large_size heap.config (1 + p + q)) parts in
-      let not_large : is_large_size config (1 + p + q) ≡ false = rw (← stands.config_is) (or_right_false (is_too_big p q) (is_large_size heap.config (1 + p + q)) parts) in
+      let not_large : is_large_size config (1 + p + q) ≡ false = rw (← stands.config_is) allocates.small in
       let placed = placed_new store stands.place heap.graph stands.placed p q allocates.name allocates.new_name in
       let are_named = named_new store stands.place heap.graph names stands.placed stands.names_are p q allocates.name allocates.new_name root allocates.new_root text free in
       record {
@@ -109,7 +113,7 @@ module _ (heap : HeapValue) (names : List (List ℕ × ℕ)) (config : Config) (
             subst (λ n. StandsFor heap' n config next) (sym names_are)
             (subst (λ h. StandsFor h (added names text root) config next) (sym allocates.change)
             (record {
-              made = subst MadeByCalls allocates.change (allocated m p q root stands.made allocates);
+              made = subst MadeByCalls allocates.change (allocated m p q root stands.made (inl allocates));
               config_is = stands.config_is;
               rooms_are = ap (λ rooms. slice_set rooms m room) stands.rooms_are;
               place = place_with stands.place (length store.objects) allocates.name;
@@ -117,25 +121,60 @@ module _ (heap : HeapValue) (names : List (List ℕ × ℕ)) (config : Config) (
               names_are = IsNamed-rooms _ _ _ _ _ are_named;
             }));
       }
-    where
-      or_left_false : (a b : Bool) → (a || b) ≡ false → a ≡ false
-      or_left_false true b e = absurd (true≢false e)
-      or_left_false false b e = refl
 
-      or_right_false : (a b : Bool) → (a || b) ≡ false → b ≡ false
-      or_right_false true b e = absurd (true≢false e)
-      or_right_false false b e = e
+  steps_large : (text : List ℕ) (m p q root : ℕ) (heap' : HeapValue) (names' : List (List ℕ × ℕ)) → named names text ≡ None → AllocatesLarge heap p q root heap' → names' ≡ added names text root → m < heap.config.mutators → is_too_big p q ≡ false → StepsQuietly (StandsFor heap' names') config (command_step config store (New text m p q))
+  steps_large text m p q root heap' names' free allocates names_are in_range fits =
+      let next : Store = with_new text p q store in
+      let large : is_large_size config (1 + p + q) ≡ true = rw (← stands.config_is) allocates.large in
+      let placed = placed_new store stands.place heap.graph stands.placed p q allocates.name allocates.new_name in
+      let are_named = named_new store stands.place heap.graph names stands.placed stands.names_are p q allocates.name allocates.new_name root allocates.new_root text free in
+      record {
+        next = next;
+        steps = new_large text m p q (stands.names_are.free text free) (rw (← stands.config_is) in_range) fits large;
+        stands' =
+            subst (λ n. StandsFor heap' n config next) (sym names_are)
+            (subst (λ h. StandsFor h (added names text root) config next) (sym allocates.change)
+            (record {
+              made = subst MadeByCalls allocates.change (allocated m p q root stands.made (inr allocates));
+              config_is = stands.config_is;
+              rooms_are = stands.rooms_are;
+              place = place_with stands.place (length store.objects) allocates.name;
+              placed = IsPlaced-other _ _ _ _ _ _ placed refl;
+              names_are = are_named;
+            }));
+      }
+
+  pub steps_new : (text : List ℕ) (m p q root : ℕ) (heap' : HeapValue) (names' : List (List ℕ × ℕ)) → named names text ≡ None → Allocates heap m p q root heap' → names' ≡ added names text root → m < heap.config.mutators → is_too_big p q ≡ false → StepsQuietly (StandsFor heap' names') config (command_step config store (New text m p q))
+  steps_new text m p q root heap' names' free (inl small) names_are in_range fits = steps_small text m p q root heap' names' free small names_are in_range fits
+  steps_new text m p q root heap' names' free (inr large) names_are in_range fits = steps_large text m p q root heap' names' free large names_are in_range fits
 
   -- what was allocated has no fault
-  pub new_sound : (text : List ℕ) (m p q root : ℕ) (heap' : HeapValue) → named names text ≡ None → Allocates heap m p q root heap' → m < heap.config.mutators → commands.is_too_big heap p q ≡ false → IsSoundCommand config store (New text m p q)
-  new_sound text m p q root heap' free allocates in_range small = ap is_ok (steps_new text m p q root heap' (added names text root) free allocates refl in_range small).steps
+  pub new_sound : (text : List ℕ) (m p q root : ℕ) (heap' : HeapValue) → named names text ≡ None → Allocates heap m p q root heap' → m < heap.config.mutators → is_too_big p q ≡ false → IsSoundCommand config store (New text m p q)
+  new_sound text m p q root heap' free allocates in_range fits = ap is_ok (steps_new text m p q root heap' (added names text root) free allocates refl in_range fits).steps
+
+  not_first : (text : List ℕ) (m p q : ℕ) → is_large_size config (1 + p + q) ≡ true → ¬ CollectsFirst config store (New text m p q)
+  not_first text m p q large first =
+      let small : not (is_large_size config (1 + p + q)) ≡ true = (and_parts (not (is_large_size config (1 + p + q))) (not (is_some (room_in config m (1 + p + q) store))) first).0 in
+      true≢false (sym (rw large at small))
 
   -- what was allocated had room
   pub had_room : (text : List ℕ) (m p q root : ℕ) (heap' : HeapValue) → Allocates heap m p q root heap' → ¬ CollectsFirst config store (New text m p q)
-  had_room text m p q root heap' allocates first =
+  had_room text m p q root heap' (inl allocates) first =
       let has_room : room_in config m (1 + p + q) store ≡ Some allocates.room = rw (← stands.config_is, ← stands.rooms_are) allocates.has_room in
       let none : not (is_some (room_in config m (1 + p + q) store)) ≡ true = (and_parts (not (is_large_size config (1 + p + q))) (not (is_some (room_in config m (1 + p + q) store))) first).1 in
       true≢false (sym (rw has_room at none))
+  had_room text m p q root heap' (inr allocates) first = not_first text m p q (rw (← stands.config_is) allocates.large) first
+
+  -- a large object without blocks has no fault of its own
+  pub large_full : (text : List ℕ) (m p q : ℕ) → named names text ≡ None → m < heap.config.mutators → is_too_big p q ≡ false → IsTrue (commands.is_large_size heap p q) → length heap.free < commands.wanted_blocks heap p q → CommandMayBeFull config store (New text m p q) × ¬ CollectsFirst config store (New text m p q)
+  large_full text m p q free in_range fits big few =
+      let large : is_large_size config (1 + p + q) ≡ true = rw (← stands.config_is) big in (
+        record {
+          sound = ap is_ok (new_large text m p q (stands.names_are.free text free) (rw (← stands.config_is) in_range) fits large);
+          wants = inr (record { heap = heap; names = names; stands = stands; large = large; few = few });
+        },
+        not_first text m p q large,
+      )
 
   pub steps_drop : (text : List ℕ) (root : ℕ) (heap' : HeapValue) (names' : List (List ℕ × ℕ)) → named names text ≡ Some root → heap' ≡ record heap { graph = without_root heap.graph root } → names' ≡ dropped names text → StepsQuietly (StandsFor heap' names') config (command_step config store (Drop text))
   steps_drop text root heap' names' used heap_is names_are =

@@ -1,10 +1,11 @@
 -- Where the heap's own refusals can come.
-use Rattle.std.specs.Prelude.{ℕ, List, Option, Some, Result, Ok}
+use Rattle.std.specs.Prelude.{ℕ, ◌+◌, ◌<◌, ◌⊎◌, List, length, Option, Some, Result, Ok, IsTrue}
 use Rattle.model.specs.declared.kind.Kind.{Kind}
 use Rattle.model.specs.Config.{Config}
 use Rattle.model.specs.Store.{Store}
-use Rattle.model.specs.Commands.{Command, New, Collect}
+use Rattle.model.specs.Commands.{Command, New, Collect, is_large_size}
 use Rattle.heap.specs.HeapValue.{HeapValue}
+use Rattle.heap.specs.Commands.{wanted_blocks}
 use Rattle.store_places.specs.Collects.{IsShortOfBlocks}
 use Rattle.trace_text.specs.Grammar.{entry_of}
 use Rattle.trace_lines.specs.Sound.{IsSound, IsSoundCommand}
@@ -18,15 +19,33 @@ pub record IsShortFor (config : Config) (store : Store) (g : ℕ) : Type 0 where
   pub stands : StandsFor heap names config store
   pub short : IsShortOfBlocks heap g
 
--- a collection for which the heap is short, or a small object without room and a heap that is short for the collection of generation 0
+-- the object is large, and in a heap that stands for the store fewer blocks are free than it takes
+pub record LacksBlocks (config : Config) (store : Store) (p q : ℕ) : Type 0 where
+  pub heap : HeapValue
+  pub names : List (List ℕ × ℕ)
+  pub stands : StandsFor heap names config store
+  pub large : IsTrue (is_large_size config (1 + p + q))
+  pub few : length heap.free < wanted_blocks heap p q
+
+-- a new object that is large and lacks blocks: nothing is collected for it
+abbrev pub AsksTooLarge : Config → Store → Command → Type 0
+AsksTooLarge config store (New text mutator p q) = LacksBlocks config store p q
+AsksTooLarge config store _ = ⊥
+
+-- a collection for which the heap is short, or a small object without room and a heap that is short for the collection of
+-- generation 0, or a large object that lacks blocks
 abbrev pub WantsBlocks : Config → Store → Command → Type 0
 WantsBlocks config store (Collect g) = IsShortFor config store g
-WantsBlocks config store (New text mutator p q) = CollectsFirst config store (New text mutator p q) × IsShortFor config store 0
+WantsBlocks config store (New text mutator p q) = (CollectsFirst config store (New text mutator p q) × IsShortFor config store 0) ⊎ AsksTooLarge config store (New text mutator p q)
 WantsBlocks config store _ = ⊥
 
 abbrev pub ReadWantsBlocks : Config → Store → Result (Option Command) Kind → Type 0
 ReadWantsBlocks config store (Ok (Some command)) = WantsBlocks config store command
 ReadWantsBlocks config store _ = ⊥
+
+abbrev pub ReadAsksTooLarge : Config → Store → Result (Option Command) Kind → Type 0
+ReadAsksTooLarge config store (Ok (Some command)) = AsksTooLarge config store command
+ReadAsksTooLarge config store _ = ⊥
 
 -- the command has no fault at this store, and blocks are wanting in it
 pub record CommandMayBeFull (config : Config) (store : Store) (command : Command) : Type 0 where

@@ -28,6 +28,7 @@ pub struct Session<A: Allocator = Global> {
 
 impl<A: Allocator + Clone> Session<A> {
     ghost use Rattle.trace_session.specs.Session.{Stands};
+    ghost use Rattle.trace_session.specs.Refusals.{CommandMayBeFull};
 
     /// A heap without objects, and no names.
     pub fn new(alloc: A, config: Config) -> Result<Session<A>, Fault>
@@ -51,7 +52,8 @@ impl<A: Allocator + Clone> Session<A> {
         Ok(Session { heap, names, alloc })
     }
 
-    /// A new object, to which a free name leads. Where its nursery has no room, nothing has changed.
+    /// A new object, to which a free name leads. Where its nursery has no room, nothing has changed. `HeapFull` says that a
+    /// large one takes more blocks than are free.
     pub fn add(
         &mut self,
         number: u128,
@@ -66,7 +68,7 @@ impl<A: Allocator + Clone> Session<A> {
         ensures full { result ≡ Ok Attempt.NurseryFull → self.new ≡ self.old }
         ensures err { IfErr result (λ e. MatchFault e
             (λ at kind. (at ≡ number) × AtEach (Stands self.old) (λ config store. command_step config store (New name.now mutator pointers plain) ≡ Err kind))
-            (λ _. ⊥)
+            (λ at. (at ≡ Some number) × AtEach (Stands self.old) (λ config store. CommandMayBeFull config store (New name.now mutator pointers plain) × ¬ CollectsFirst config store (New name.now mutator pointers plain)))
             (λ at. (at ≡ Some number) × AtEach (Stands self.old) (λ config store. IsSoundCommand config store (New name.now mutator pointers plain)))
             ⊥ ⊥) }
     {
@@ -78,6 +80,7 @@ impl<A: Allocator + Clone> Session<A> {
             Err(AllocateError::NoMutator) => return Err(Fault::BadTrace(number, Kind::NoMutator)),
             Err(AllocateError::TooBig) => return Err(Fault::BadTrace(number, Kind::TooBig)),
             Err(AllocateError::NurseryFull) => return Ok(Attempt::NurseryFull),
+            Err(AllocateError::HeapFull) => return Err(Fault::HeapFull(Some(number))),
             Err(AllocateError::NoMemory) => return Err(Fault::NoMemory(Some(number))),
         };
         let Ok(alloc) = self.alloc.clone() else {

@@ -1,6 +1,6 @@
 -- A line that is a command does what the command does.
-use Rattle.std.proofs.Common.{◌≡◌, ℕ, List, [], Option, Some, Result, Ok, Err, sym, subst, ap, ◌∙◌}
-use Rattle.std.specs.Prelude.{IfOk, is_ok}
+use Rattle.std.proofs.Common.{◌≡◌, ℕ, List, [], Option, Some, Result, Ok, Err, refl, sym, subst, ap, ◌∙◌}
+use Rattle.std.specs.Prelude.{IfOk, IfErr, is_ok}
 use Rattle.std.proofs.KnownBytes.{Appends-nil}
 use Rattle.model.specs.declared.kind.Kind.{Kind}
 use Rattle.model.specs.Config.{Config}
@@ -55,6 +55,30 @@ new_line stands stands' line command says held (Ok NurseryFull) full = λ config
     let f = full config store there in
     (line_sound config store line command says f.0, subst (ReadCollectsFirst config store) (sym says) f.1)
 new_line stands stands' line command says held (Err e) f = tt
+
+-- a new object that may not be made
+pub new_fault : (stands : Config → Store → Type 0) (number : ℕ) (line : List ℕ) (command : Command) → entry_of line ≡ Ok (Some command) → {W : Type 0} (held : W) (written : Type 0) (r : Result Attempt Fault)
+    → IfErr r (λ e. MatchFault e
+    (λ at kind. (at ≡ number) × AtEach stands (λ config store. command_step config store command ≡ Err kind))
+    (λ at. (at ≡ Some number) × AtEach stands (λ config store. CommandMayBeFull config store command × ¬ CollectsFirst config store command))
+    (λ at. (at ≡ Some number) × AtEach stands (λ config store. IsSoundCommand config store command))
+    ⊥ ⊥)
+    → IfErr r (λ e. MatchFault e
+    (λ at kind. (at ≡ number) × AtEach stands (λ config store. line_step config store line ≡ Err kind) × (held ≡ held))
+    (λ at. (at ≡ Some number) × AtEach stands (λ config store. MayBeFull config store line × ¬ LineCollectsFirst config store line) × (held ≡ held))
+    (λ at. (at ≡ Some number) × AtEach stands (λ config store. IsSound config store line) × (held ≡ held))
+    ⊥ written)
+new_fault stands number line command says held written (Ok a) facts = tt
+new_fault stands number line command says held written (Err (BadTrace at kind)) facts = (facts.0, λ config store there. line_is config store line command says ∙ facts.1 config store there, refl)
+new_fault stands number line command says held written (Err (BadSchedule at kind)) facts = absurd facts
+new_fault stands number line command says held written (Err (HeapFull at)) facts = (
+  facts.0,
+  λ config store there. let may = facts.1 config store there in (line_full config store line command says may.0, λ first. may.1 (subst (ReadCollectsFirst config store) says first)),
+  refl,
+)
+new_fault stands number line command says held written (Err (NoMemory at)) facts = (facts.0, λ config store there. line_sound config store line command says (facts.1 config store there), refl)
+new_fault stands number line command says held written (Err ReadFailed) facts = absurd facts
+new_fault stands number line command says held written (Err WriteFailed) facts = absurd facts
 
 module _ (stands : Config → Store → Type 0) (number : ℕ) (line : List ℕ) (command : Command) (says : entry_of line ≡ Ok (Some command)) {W : Type 0} (old new : W) (written : Type 0) where
   pub line_fault : (e : Fault)

@@ -2,3 +2,4 @@
 pub use Rattle.trace_prints.proofs.StandsCollected
 pub mod CommandLine
 pub mod Twice
+pub mod NoMemory

@@ -1,11 +1,13 @@
 -- A line that is carried out once generation 0 was collected for it.
-use Rattle.std.proofs.Common.{◌≡◌, ℕ, List, [], ◌++◌, Option, None, Some, Result, Ok, Err, refl, sym, ap, subst, ◌∙◌, ◌⊎◌, inl, inr, append-nil}
+use Rattle.std.proofs.Common.{◌≡◌, ℕ, ◌+◌, true, List, [], ◌++◌, Option, None, Some, Result, Ok, Err, refl, sym, ap, subst, ◌∙◌, ◌⊎◌, inl, inr, append-nil}
 use Rattle.std.specs.Io.KnownBytes.{Appends}
 use Rattle.std.proofs.KnownBytes.{Appends-nil, Appends-trans}
 use Rattle.model.specs.declared.kind.Kind.{Kind}
 use Rattle.model.specs.Config.{Config}
 use Rattle.model.specs.Store.{Store, collected}
-use Rattle.model.specs.Commands.{Command, Outcome, New, Set, Put, Get, Drop, Collect, Census, Heap}
+use Rattle.std.proofs.lemmas.Bool.{true≢false, and_parts}
+use Rattle.std.specs.Prelude.{not, is_some}
+use Rattle.model.specs.Commands.{Command, Outcome, room_in, is_large_size, New, Set, Put, Get, Drop, Collect, Census, Heap}
 use Rattle.trace_text.specs.Grammar.{entry_of}
 use Rattle.trace_lines.specs.declared.fault.Fault.{Fault}
 use Rattle.trace_lines.specs.declared.fault.Fault.TheVariants.{BadTrace, BadSchedule, HeapFull, NoMemory, ReadFailed, WriteFailed}
@@ -35,7 +37,10 @@ told P Q a b is known = subst (λ x. MatchAttempt x P Q) is known
 full_again : (config : Config) (store next : Store) (read : Result (Option Command) Kind) → ReadCollectsFirst config store read → ReadWantsBlocks config next read → ReadCollectsFirst config next read
 full_again config store next (Err kind) first wants = first
 full_again config store next (Ok None) first wants = first
-full_again config store next (Ok (Some (New text m p q))) first wants = wants.0
+full_again config store next (Ok (Some (New text m p q))) first (inl wants) = wants.0
+full_again config store next (Ok (Some (New text m p q))) first (inr lacks) =
+    let small : not (is_large_size config (1 + p + q)) ≡ true = (and_parts (not (is_large_size config (1 + p + q))) (not (is_some (room_in config m (1 + p + q) store))) first).0 in
+    absurd (true≢false (sym (rw lacks.large at small)))
 full_again config store next (Ok (Some (Set text i target))) first wants = absurd first
 full_again config store next (Ok (Some (Put text i value))) first wants = absurd first
 full_again config store next (Ok (Some (Get new_text text i))) first wants = absurd first
@@ -47,7 +52,7 @@ full_again config store next (Ok (Some Heap)) first wants = absurd first
 pub wants_blocks : (config : Config) (store : Store) (read : Result (Option Command) Kind) → ReadCollectsFirst config store read → IsShortFor config store 0 → ReadWantsBlocks config store read
 wants_blocks config store (Err kind) first short = absurd first
 wants_blocks config store (Ok None) first short = absurd first
-wants_blocks config store (Ok (Some (New text m p q))) first short = (first, short)
+wants_blocks config store (Ok (Some (New text m p q))) first short = inl (first, short)
 wants_blocks config store (Ok (Some (Set text i target))) first short = absurd first
 wants_blocks config store (Ok (Some (Put text i value))) first short = absurd first
 wants_blocks config store (Ok (Some (Get new_text text i))) first short = absurd first

@@ -5,7 +5,7 @@ use Rattle.heap.proofs.barrier.note.Goals as goal
 
 pub note-requires : goal.note-requires
 note-requires g c =
-    let low : c.args.at.generation < c.args.space.now.config.shape.generations = generation_in_range c.args.space.now (place_word c.args.holder) c.args.at.generation c.free_count-free.ensures.space c.requires.at in
+    let low : c.args.at.generation < c.args.objects.now.config.shape.generations = generation_in_range c.args.objects.now (place_word c.args.holder) c.args.at.generation c.free_count-free.ensures.sound c.requires.at in
     omega (arith, low, c.requires.generations)
 
 pub returns-clause-memory : goal.returns-clause-memory

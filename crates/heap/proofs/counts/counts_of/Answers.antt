@@ -16,7 +16,7 @@ push-requires g c = (omega arith, let lt : length c.loop-number.counts.items < 1
 pub loop-number-preserved : goal.loop-number-preserved
 loop-number-preserved g c =
     let first : StepId = record { generation = 0; step = 0 } in
-    let each = step_count c.args.space.now.config.block_words (values c.args.space.now.objects) in
+    let each = step_count c.args.objects.now.config.block_words (values c.args.objects.now.objects) in
     record {
       counted =
           ap (map step_value) c.push.ensures.items
@@ -32,4 +32,4 @@ loop-number-preserved g c =
 pub returns : goal.returns
 returns g c =
     c.loop-number.invariant.counted
-    ∙ ap (λ ss. map (step_count c.args.space.now.config.block_words (values c.args.space.now.objects)) (map step_pair ss)) (take_all c.loop-number.number c.args.steps.now c.loop-number-test.false)
+    ∙ ap (λ ss. map (step_count c.args.objects.now.config.block_words (values c.args.objects.now.objects)) (map step_pair ss)) (take_all c.loop-number.number c.args.steps.now c.loop-number-test.false)

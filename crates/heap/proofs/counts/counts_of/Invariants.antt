@@ -8,6 +8,6 @@ use Rattle.heap.proofs.counts.counts_of.Given as goal
 -- the steps before this one are counted
 abbrev pub invariant-loop-number : goal.invariant-loop-number
 invariant-loop-number g l = record {
-  counted : map step_value l.counts.items ≡ map (step_count l.space.config.block_words (values l.space.objects)) (map step_pair (take l.number l.steps));
+  counted : map step_value l.counts.items ≡ map (step_count l.objects.config.block_words (values l.objects.objects)) (map step_pair (take l.number l.steps));
   len : length l.counts.items ≡ l.number;
 }

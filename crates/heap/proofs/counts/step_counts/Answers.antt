@@ -10,7 +10,7 @@ counts_of-requires g c = omega (arith, ap length c.as_slice.ensures.value, c.all
 
 pub returns : goal.returns
 returns g c =
-    let each = step_count c.args.space.now.config.block_words (values c.args.space.now.objects) in
+    let each = step_count c.args.objects.now.config.block_words (values c.args.objects.now.objects) in
     c.counts_of.ensures
     ∙ ap (λ ss. map each (map step_pair ss)) c.as_slice.ensures.value
     ∙ ap (map each) (c.all_steps-steps.ensures.steps ∙ ap (λ k. all_steps k.shape) c.config.ensures.value)

@@ -7,7 +7,7 @@ use Rattle.layout.specs.declared.place.Place.{Place}
 use Rattle.heap_commit.specs.declared.moves.RenamedRoot.{RenamedRoot}
 use Rattle.heap_data.specs.CollectionValue.{target_of_slot}
 use Rattle.heap_data.specs.SlotView.{slot_value}
-use Rattle.heap_space.specs.Collecting.{IsNumbered}
+use Rattle.heap_objects.specs.Collecting.{IsNumbered}
 use Rattle.heap_commit.specs.Moves.{roots_by}
 use Rattle.heap_commit.specs.RootView.{root_pair}
 use Rattle.heap_commit.proofs.MovedFields.{all_at, take_next, roots-append}
@@ -22,11 +22,11 @@ loop-slot-init g c = λ f moves. ap (map root_pair) c.new-roots.ensures.items
 
 pub place_after-requires-clause-there : goal.place_after-requires-clause-there
 place_after-requires-clause-there g c =
-    rw c.in-Root.is at (all_at (λ s. IsSome (get c.args.space.now.objects (target_of_slot s))) slot_value c.args.slots.now c.loop-slot.slot-index c.slot-item.result c.slot-item.is c.loop-slot-test.true c.requires.leads)
+    rw c.in-Root.is at (all_at (λ s. IsSome (get c.args.objects.now.objects (target_of_slot s))) slot_value c.args.slots.now c.loop-slot.slot-index c.slot-item.result c.slot-item.is c.loop-slot-test.true c.requires.leads)
 
 pub place_after-requires-clause-named : goal.place_after-requires-clause-named
 place_after-requires-clause-named g c =
-    rw c.in-Root.is at (all_at (λ s. (number : ℕ) → IsNumbered c.args.space.now c.args.g (target_of_slot s) number → IsSome (slice_index_or c.args.places.now number None)) slot_value c.args.slots.now c.loop-slot.slot-index c.slot-item.result c.slot-item.is c.loop-slot-test.true c.requires.named)
+    rw c.in-Root.is at (all_at (λ s. (number : ℕ) → IsNumbered c.args.objects.now c.args.g (target_of_slot s) number → IsSome (slice_index_or c.args.places.now number None)) slot_value c.args.slots.now c.loop-slot.slot-index c.slot-item.result c.slot-item.is c.loop-slot-test.true c.requires.named)
 
 pub loop-slot-preserved : goal.loop-slot-preserved
 loop-slot-preserved g c =

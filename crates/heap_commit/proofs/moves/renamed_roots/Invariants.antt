@@ -6,4 +6,4 @@ use Rattle.heap_commit.proofs.moves.renamed_roots.Given as goal
 
 -- the slots before this one are renamed
 abbrev pub invariant-loop-slot : goal.invariant-loop-slot
-invariant-loop-slot g l = (f : ℕ → ℕ) → Moves l.space l.g l.places f → map root_pair l.roots.items ≡ roots_by f (map slot_value (take l.slot-index l.slots))
+invariant-loop-slot g l = (f : ℕ → ℕ) → Moves l.objects l.g l.places f → map root_pair l.roots.items ≡ roots_by f (map slot_value (take l.slot-index l.slots))

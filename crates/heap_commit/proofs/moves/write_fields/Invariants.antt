@@ -7,8 +7,9 @@ use Rattle.heap_commit.proofs.moves.write_fields.Given as goal
 -- the fields before this one are written
 abbrev pub invariant-loop-write : goal.invariant-loop-write
 invariant-loop-write g l = record {
-  config : l.space.config ≡ l.fn.space.config;
-  rooms : l.space.rooms ≡ l.fn.space.rooms;
-  free : l.space.free ≡ l.fn.space.free;
-  objects : (name : ℕ) → get l.space.objects name ≡ option_map (with_writes (map field_write (take l.write-index l.fields)) name) (get l.fn.space.objects name);
+  config : l.objects.config ≡ l.fn.objects.config;
+  rooms : l.objects.rooms ≡ l.fn.objects.rooms;
+  free : l.objects.free ≡ l.fn.objects.free;
+  large_blocks : l.objects.large_blocks ≡ l.fn.objects.large_blocks;
+  objects : (name : ℕ) → get l.objects.objects name ≡ option_map (with_writes (map field_write (take l.write-index l.fields)) name) (get l.fn.objects.objects name);
 }

@@ -2,7 +2,7 @@ use Rattle.std.proofs.Common.{◌≡◌, ◌+◌, ◌++◌, map, sym, ap, ◌∙
 use Rattle.std.specs.Prelude.{count_by}
 use Rattle.model.specs.Graph.{object_at}
 use Rattle.model.specs.Census.{points_younger}
-use Rattle.heap_data.proofs.PlainObjects.{values_of}
+use Rattle.heap_data.proofs.Values.{values_of}
 use Rattle.block_table.specs.Table.{table_objects}
 use Rattle.block_table.proofs.TableCensus.{values_of-append}
 use Rattle.heap_graph.specs.WithLarge.{large_entries}

@@ -1,7 +1,7 @@
 use Rattle.std.proofs.Common.{◌≡◌, ◌≢◌, ℕ, ◌≤◌, true, length, drop}
 use Rattle.model.specs.Reached.{has}
 use Rattle.heap_data.specs.Remembered.{is_holder}
-use Rattle.heap_space.specs.Space.{graph_in}
+use Rattle.heap_objects.specs.Objects.{graph_in}
 use Rattle.remembered_set.specs.Sets.{members_of}
 use Rattle.remembering.proofs.holders.keep_generation.Given as goal
 
@@ -12,8 +12,8 @@ invariant-loop-k g l = record {
   others : (other : ℕ) → other ≢ l.h → members_of l.sets other ≡ members_of l.fn.sets other;
   in_range : l.k ≤ length (members_of l.sets l.h);
   members : (n : ℕ) → has (members_of l.sets l.h) n ≡ true → has (members_of l.fn.sets l.h) n ≡ true;
-  kept : (n : ℕ) → has (members_of l.fn.sets l.h) n ≡ true → is_holder (graph_in l.space) l.h n ≡ true → has (members_of l.sets l.h) n ≡ true;
-  from : (n : ℕ) → has (drop l.k (members_of l.sets l.h)) n ≡ true → is_holder (graph_in l.space) l.h n ≡ true;
+  kept : (n : ℕ) → has (members_of l.fn.sets l.h) n ≡ true → is_holder (graph_in l.objects) l.h n ≡ true → has (members_of l.sets l.h) n ≡ true;
+  from : (n : ℕ) → has (drop l.k (members_of l.sets l.h)) n ≡ true → is_holder (graph_in l.objects) l.h n ≡ true;
 }
 
 abbrev pub decreases-loop-k : goal.decreases-loop-k

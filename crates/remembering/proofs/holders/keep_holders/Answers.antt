@@ -4,7 +4,7 @@ use Rattle.std.specs.Prelude.{◌↔◌, IsTrue, nat_eq}
 use Rattle.std.specs.List.{IsDistinct}
 use Rattle.model.specs.Reached.{has}
 use Rattle.heap_data.specs.Remembered.{is_holder}
-use Rattle.heap_space.specs.Space.{graph_in}
+use Rattle.heap_objects.specs.Objects.{graph_in}
 use Rattle.remembered_set.specs.Sets.{members_of}
 use Rattle.remembering.proofs.holders.keep_holders.Goals as goal
 
@@ -19,7 +19,7 @@ loop-h-init g c = record {
 pub loop-h-preserved : goal.loop-h-preserved
 loop-h-preserved g c =
     let here = c.loop-h.h in
-    let holder = is_holder (graph_in c.args.space.now) in
+    let holder = is_holder (graph_in c.args.objects.now) in
     let same_set = c.loop-h.invariant.after here (omega arith) in
     let done : (n : ℕ) → IsTrue (has (members_of c.keep_generation.new.sets here) n) ↔ (IsTrue (has (members_of c.args.sets.now here) n) × IsTrue (holder here n)) =
     λ n. subst (λ ms. IsTrue (has (members_of c.keep_generation.new.sets here) n) ↔ (IsTrue (has ms n) × IsTrue (holder here n))) same_set (c.keep_generation.ensures.members n) in

@@ -3,7 +3,7 @@ use Rattle.std.specs.Prelude.{◌↔◌, IsTrue, nat_eq}
 use Rattle.std.specs.List.{IsDistinct}
 use Rattle.model.specs.Reached.{has}
 use Rattle.heap_data.specs.Remembered.{is_holder}
-use Rattle.heap_space.specs.Space.{graph_in}
+use Rattle.heap_objects.specs.Objects.{graph_in}
 use Rattle.remembered_set.specs.Sets.{members_of}
 use Rattle.remembering.proofs.holders.keep_holders.Given as goal
 
@@ -11,7 +11,7 @@ use Rattle.remembering.proofs.holders.keep_holders.Given as goal
 abbrev pub invariant-loop-h : goal.invariant-loop-h
 invariant-loop-h g l = record {
   generations : length l.sets ≡ length l.fn.sets;
-  members : (h n : ℕ) → h < l.h → IsTrue (has (members_of l.sets h) n) ↔ (IsTrue (has (members_of l.fn.sets h) n) × IsTrue (is_holder (graph_in l.space) h n));
+  members : (h n : ℕ) → h < l.h → IsTrue (has (members_of l.sets h) n) ↔ (IsTrue (has (members_of l.fn.sets h) n) × IsTrue (is_holder (graph_in l.objects) h n));
   once : (h : ℕ) → h < l.h → IsDistinct nat_eq (members_of l.sets h);
   after : (h : ℕ) → l.h ≤ h → members_of l.sets h ≡ members_of l.fn.sets h;
 }

@@ -7,12 +7,12 @@ use Rattle.heap_data.specs.CollectionValue.{field_slot_of}
 use Rattle.heap_data.specs.SlotView.{slot_value}
 use Rattle.heap_graph.specs.HeapGraph.{slots_at}
 use Rattle.heap_graph.proofs.FieldSlots.{pushed_more}
-use Rattle.heap_space.specs.Space.{graph_in}
+use Rattle.heap_objects.specs.Objects.{graph_in}
 use Rattle.remembering.proofs.old_slots.push_members.Goals as goal
 
 pub loop-k-preserved : goal.loop-k-preserved
 loop-k-preserved g c =
-    let slots = slots_at (graph_in c.args.space.now) c.args.g c.args.h in
+    let slots = slots_at (graph_in c.args.objects.now) c.args.g c.args.h in
     let k = c.loop-k.k in
     let place = c.index-members-k.result in
     let members = c.args.members.now in
@@ -26,4 +26,4 @@ loop-k-preserved g c =
 pub returns : goal.returns
 returns g c =
     c.loop-k.invariant
-    ∙ ap (λ ps. map slot_value c.args.slots.now.items ++ map field_slot_of (flat_map (slots_at (graph_in c.args.space.now) c.args.g c.args.h) (map place_word ps))) (take_all c.loop-k.k c.args.members.now c.loop-k-test.false)
+    ∙ ap (λ ps. map slot_value c.args.slots.now.items ++ map field_slot_of (flat_map (slots_at (graph_in c.args.objects.now) c.args.g c.args.h) (map place_word ps))) (take_all c.loop-k.k c.args.members.now c.loop-k-test.false)

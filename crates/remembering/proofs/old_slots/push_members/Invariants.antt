@@ -4,9 +4,9 @@ use Rattle.layout.specs.Place.{place_word}
 use Rattle.heap_data.specs.CollectionValue.{field_slot_of}
 use Rattle.heap_data.specs.SlotView.{slot_value}
 use Rattle.heap_graph.specs.HeapGraph.{slots_at}
-use Rattle.heap_space.specs.Space.{graph_in}
+use Rattle.heap_objects.specs.Objects.{graph_in}
 use Rattle.remembering.proofs.old_slots.push_members.Given as goal
 
 -- the slots of the members so far
 abbrev pub invariant-loop-k : goal.invariant-loop-k
-invariant-loop-k g l = map slot_value l.slots.items ≡ map slot_value l.fn.slots.items ++ map field_slot_of (flat_map (slots_at (graph_in l.space) l.g l.h) (map place_word (take l.k l.members)))
+invariant-loop-k g l = map slot_value l.slots.items ≡ map slot_value l.fn.slots.items ++ map field_slot_of (flat_map (slots_at (graph_in l.objects) l.g l.h) (map place_word (take l.k l.members)))

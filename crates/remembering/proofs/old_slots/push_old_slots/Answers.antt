@@ -5,7 +5,7 @@ use Rattle.model.specs.OldSlots.{slots_of_generation}
 use Rattle.heap_data.specs.CollectionValue.{field_slot_of}
 use Rattle.heap_data.specs.SlotView.{slot_value}
 use Rattle.heap_graph.proofs.FieldSlots.{pushed_more, pushed_none, generations-more}
-use Rattle.heap_space.specs.Space.{graph_in}
+use Rattle.heap_objects.specs.Objects.{graph_in}
 use Rattle.remembering.proofs.old_slots.push_old_slots.Goals as goal
 
 pub loop-h-init : goal.loop-h-init
@@ -14,7 +14,7 @@ loop-h-init g c = record {
   high = omega arith;
   pushed =
       let none : c.args.g + 1 - (c.args.g + 1) ≡ 0 = omega arith in
-      pushed_none (map slot_value c.args.slots.now.items) _ (ap (λ n. flat_map (slots_of_generation (graph_in c.args.space.now) c.args.g) (numbers_from (c.args.g + 1) n)) none);
+      pushed_none (map slot_value c.args.slots.now.items) _ (ap (λ n. flat_map (slots_of_generation (graph_in c.args.objects.now) c.args.g) (numbers_from (c.args.g + 1) n)) none);
 }
 
 pub loop-h-preserved : goal.loop-h-preserved
@@ -28,11 +28,11 @@ loop-h-preserved g c =
       high = omega (arith, c.loop-h-test.true, c.generations-h-end.ensures.value);
       pushed =
           pushed_more _ _ _ _ _ _ c.loop-h.invariant.pushed c.in_ok-push_generation.ensures
-          (generations-more (graph_in c.args.space.now) c.args.g from (h - from) (h + 1 - from) h count last);
+          (generations-more (graph_in c.args.objects.now) c.args.g from (h - from) (h + 1 - from) h count last);
     }
 
 pub returns : goal.returns
 returns g c =
     let none : c.loop-h.h - (c.args.g + 1) ≡ length c.args.sets.now - 1 - c.args.g = omega (arith, c.loop-h.invariant.low, c.loop-h.invariant.high, c.loop-h-test.false, c.generations-h-end.ensures.value) in
     c.loop-h.invariant.pushed
-    ∙ ap (λ n. map slot_value c.args.slots.now.items ++ map field_slot_of (flat_map (slots_of_generation (graph_in c.args.space.now) c.args.g) (numbers_from (c.args.g + 1) n))) none
+    ∙ ap (λ n. map slot_value c.args.slots.now.items ++ map field_slot_of (flat_map (slots_of_generation (graph_in c.args.objects.now) c.args.g) (numbers_from (c.args.g + 1) n))) none

@@ -4,7 +4,7 @@ use Rattle.model.specs.Destination.{numbers_from}
 use Rattle.model.specs.OldSlots.{slots_of_generation}
 use Rattle.heap_data.specs.CollectionValue.{field_slot_of}
 use Rattle.heap_data.specs.SlotView.{slot_value}
-use Rattle.heap_space.specs.Space.{graph_in}
+use Rattle.heap_objects.specs.Objects.{graph_in}
 use Rattle.remembering.proofs.old_slots.push_old_slots.Given as goal
 
 -- the slots of the generations so far
@@ -12,5 +12,5 @@ abbrev pub invariant-loop-h : goal.invariant-loop-h
 invariant-loop-h g l = record {
   low : l.g + 1 ≤ l.h;
   high : l.h ≤ max (l.g + 1) (length l.sets);
-  pushed : map slot_value l.slots.items ≡ map slot_value l.fn.slots.items ++ map field_slot_of (flat_map (slots_of_generation (graph_in l.space) l.g) (numbers_from (l.g + 1) (l.h - (l.g + 1))));
+  pushed : map slot_value l.slots.items ≡ map slot_value l.fn.slots.items ++ map field_slot_of (flat_map (slots_of_generation (graph_in l.objects) l.g) (numbers_from (l.g + 1) (l.h - (l.g + 1))));
 }

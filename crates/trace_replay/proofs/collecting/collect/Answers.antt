@@ -1,4 +1,4 @@
-use Rattle.std.proofs.Common.{◌≡◌, ◌++◌, refl, ap, subst, ◌∙◌, arith}
+use Rattle.std.proofs.Common.{◌≡◌, ◌<◌, ◌++◌, refl, ap, subst, ◌∙◌, arith}
 use Rattle.std.specs.Io.KnownBytes.{Appends}
 use Rattle.model.specs.Text.{collection_line}
 use Rattle.report_lines.specs.ReportText.{workers_text}
@@ -6,6 +6,9 @@ use Rattle.heap_text.specs.CollectionLine.{cause_word}
 use Rattle.heap_text.specs.declared.cause.Cause.TheVariants.{Command}
 use Rattle.trace_replay.proofs.BySchedule.{no_generation, no_memory_at, fault_of_schedule, at_commit, no_memory_in, collected_to}
 use Rattle.trace_replay.proofs.collecting.collect.Goals as goal
+
+pub settled_by_schedule-requires-clause-generation : goal.settled_by_schedule-requires-clause-generation
+settled_by_schedule-requires-clause-generation g c = omega (arith, c.if-generation-generations.false, c.generations.ensures.value, ap (λ x. x.shape.generations) c.config.ensures)
 
 pub returns-then-generation-generations-clause-err : goal.returns-then-generation-generations-clause-err
 returns-then-generation-generations-clause-err g c = (

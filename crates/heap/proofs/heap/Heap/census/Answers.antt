@@ -4,14 +4,14 @@ use Rattle.heap_data.specs.CensusView.{step_value}
 use Rattle.heap_commit.specs.Roots.{roots_map}
 use Rattle.heap_commit.proofs.RootMap.{len-roots}
 use Rattle.heap.proofs.HeapLemmas.{census_is}
-use Rattle.heap_commit.proofs.OpenedBases.{closed_in}
+use Rattle.remembering.proofs.WithSets.{closed_in}
 use Rattle.heap.proofs.heap.Heap.census.Goals as goal
 
 pub count_remembered-requires : goal.count_remembered-requires
-count_remembered-requires g c = closed_in c.self.inside.space c.self.inside.roots.slots c.self.invariant.closed
+count_remembered-requires g c = closed_in c.self.inside.objects c.self.inside.roots.slots c.self.inside.remembered c.self.invariant.closed
 
 pub returns : goal.returns
 returns g c =
     let roots = c.len.ensures ∙ sym (len-roots c.self.inside.roots.slots) in
     rw (← c.self.view_is, c.new.ensures, roots)
-    (sym (census_is c.self.inside.space.config c.self.inside.space.objects (len (roots_map c.self.inside.roots.slots)) c.count_remembered.result (map step_value c.step_counts-steps.result.items) c.free_count-free.ensures.space.small c.step_counts-steps.ensures c.count_remembered.ensures))
+    (sym (census_is c.self.inside.objects.config c.self.inside.objects.objects (len (roots_map c.self.inside.roots.slots)) c.count_remembered.result c.count_large.result.objects c.count_large.result.words (map step_value c.step_counts-steps.result.items) c.step_counts-steps.ensures c.count_large.ensures.objects c.count_large.ensures.words c.count_remembered.ensures))

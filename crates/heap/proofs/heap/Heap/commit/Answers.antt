@@ -1,18 +1,18 @@
 use Rattle.std.proofs.Common.{◌≡◌, ℕ, List, Ok, Err, Result, sym, ap, subst, ◌∙◌}
 use Rattle.std.specs.Prelude.{IfOk, OnErr}
 use Rattle.roots.specs.RootsValue.{RootsValue}
-use Rattle.heap_space.specs.Space.{SpaceValue}
+use Rattle.heap_objects.specs.Objects.{ObjectsValue}
 use Rattle.heap_commit.specs.HeapView.{heap_with}
 use Rattle.heap_commit.specs.IsHeap.{IsHeap}
 use Rattle.heap.specs.Whole.{IsWhole}
 use Rattle.heap.proofs.heap.Heap.commit.Goals as goal
 
-module _ {T E : Type 0} (space space' : SpaceValue) (roots roots' : RootsValue) (sets sets' : List (List ℕ)) where
-  as_before : (r : Result T E) → OnErr r (space' ≡ space) → OnErr r (roots' ≡ roots) → OnErr r (sets' ≡ sets) → OnErr r (heap_with space' roots'.slots sets' ≡ heap_with space roots.slots sets)
+module _ {T E : Type 0} (objects objects' : ObjectsValue) (roots roots' : RootsValue) (sets sets' : List (List ℕ)) where
+  as_before : (r : Result T E) → OnErr r (objects' ≡ objects) → OnErr r (roots' ≡ roots) → OnErr r (sets' ≡ sets) → OnErr r (heap_with objects' roots'.slots sets' ≡ heap_with objects roots.slots sets)
   as_before (Ok x) blocks same noted = tt
-  as_before (Err e) blocks same noted = ap (λ s. heap_with s roots'.slots sets') blocks ∙ ap (λ r. heap_with space r.slots sets') same ∙ ap (heap_with space roots.slots) noted
+  as_before (Err e) blocks same noted = ap (λ s. heap_with s roots'.slots sets') blocks ∙ ap (λ r. heap_with objects r.slots sets') same ∙ ap (heap_with objects roots.slots) noted
 
-  still_whole : (r : Result T E) → IfOk r (λ _. IsHeap (heap_with space' roots'.slots sets')) → OnErr r (heap_with space' roots'.slots sets' ≡ heap_with space roots.slots sets) → IsWhole (heap_with space roots.slots sets) → IsWhole (heap_with space' roots'.slots sets')
+  still_whole : (r : Result T E) → IfOk r (λ _. IsHeap (heap_with objects' roots'.slots sets')) → OnErr r (heap_with objects' roots'.slots sets' ≡ heap_with objects roots.slots sets) → IsWhole (heap_with objects roots.slots sets) → IsWhole (heap_with objects' roots'.slots sets')
   still_whole (Ok x) sound same whole = record { closed = sound.blocks.closed; sets = sound.sets; covers = sound.remembered }
   still_whole (Err e) sound same whole = subst IsWhole (sym same) whole
 
@@ -30,8 +30,8 @@ commit-requires-clause-generations g c = c.self.invariant.sets
 
 pub invariant_of-self : goal.invariant_of-self
 invariant_of-self g c =
-    let same = as_before c.self.inside.space c.commit.new.space c.self.inside.roots c.commit.new.roots c.self.inside.remembered c.commit.new.sets c.commit.result c.commit.ensures.space_as_before c.commit.ensures.roots_as_before c.commit.ensures.sets_as_before in
-    still_whole c.self.inside.space c.commit.new.space c.self.inside.roots c.commit.new.roots c.self.inside.remembered c.commit.new.sets c.commit.result c.commit.ensures.sound same c.self.invariant
+    let same = as_before c.self.inside.objects c.commit.new.objects c.self.inside.roots c.commit.new.roots c.self.inside.remembered c.commit.new.sets c.commit.result c.commit.ensures.objects_as_before c.commit.ensures.roots_as_before c.commit.ensures.sets_as_before in
+    still_whole c.self.inside.objects c.commit.new.objects c.self.inside.roots c.commit.new.roots c.self.inside.remembered c.commit.new.sets c.commit.result c.commit.ensures.sound same c.self.invariant
 
 pub returns-clause-ok : goal.returns-clause-ok
 returns-clause-ok g c = rw (← c.self.view_is) c.commit.ensures.ok
@@ -44,4 +44,4 @@ returns-clause-freed g c = rw (← c.self.view_is) c.commit.ensures.freed
 
 pub returns-clause-err : goal.returns-clause-err
 returns-clause-err g c =
-    rw (← c.self.view_is) (as_before c.self.inside.space c.commit.new.space c.self.inside.roots c.commit.new.roots c.self.inside.remembered c.commit.new.sets c.commit.result c.commit.ensures.space_as_before c.commit.ensures.roots_as_before c.commit.ensures.sets_as_before)
+    rw (← c.self.view_is) (as_before c.self.inside.objects c.commit.new.objects c.self.inside.roots c.commit.new.roots c.self.inside.remembered c.commit.new.sets c.commit.result c.commit.ensures.objects_as_before c.commit.ensures.roots_as_before c.commit.ensures.sets_as_before)

@@ -1,13 +1,12 @@
-use Rattle.heap_commit.proofs.OpenedBases.{opened_bases, young_in}
-use Rattle.remembering.proofs.WithSets.{opened_without}
+use Rattle.remembering.proofs.WithSets.{numbering_in, young_in}
 use Rattle.heap.proofs.heap.Heap.number_of.Goals as goal
 
-pub number_of-requires-clause-bases : goal.number_of-requires-clause-bases
-number_of-requires-clause-bases g c =
+pub number_of-requires-clause-numbering : goal.number_of-requires-clause-numbering
+number_of-requires-clause-numbering g c =
     let opened = rw (← c.self.view_is) at c.requires.opened in
-    rw (c.bases.ensures, c.generation.ensures) (opened_bases c.self.inside.space c.self.inside.roots.slots c.args.collection.now.generation c.args.collection.now (opened_without c.self.inside.space c.self.inside.roots.slots c.self.inside.remembered c.args.collection.now.generation c.args.collection.now opened))
+    rw (c.numbering.ensures, c.generation.ensures) (numbering_in c.self.inside.objects c.self.inside.roots.slots c.self.inside.remembered c.args.collection.now.generation c.args.collection.now.numbering opened.numbering)
 
 pub number_of-requires-clause-young : goal.number_of-requires-clause-young
 number_of-requires-clause-young g c =
     let young = rw (← c.self.view_is) at c.requires.young in
-    rw c.generation.ensures (young_in c.self.inside.space c.self.inside.roots.slots c.args.collection.now.generation _ young)
+    rw c.generation.ensures (young_in c.self.inside.objects c.self.inside.roots.slots c.self.inside.remembered c.args.collection.now.generation _ young)

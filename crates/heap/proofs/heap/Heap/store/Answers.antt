@@ -10,18 +10,18 @@ use Rattle.heap.proofs.heap.Heap.store.Goals.{in-None, in-Some-value+in-Some-tar
 
 pub invariant_of-self-2 : goal.invariant_of-self-2
 invariant_of-self-2 g c =
-    let graph = (heap_of c.self.inside.space c.self.inside.roots.slots).graph in
+    let graph = (heap_of c.self.inside.objects c.self.inside.roots.slots).graph in
     let h = held graph c.args.root.number _ _ c.self.invariant.closed (rw (← c.self.view_is) at c.target.ensures) c.in-Some.is in
     let to : option_map place_word c.match-value.target ≡ value_at graph (option_map (λ r. r.number) c.args.value) =
     elim c.match-value.branch [
       | in-None w ↦ rw (w.target-is, w.in-None.is) refl
       | in-Some-value+in-Some-target w ↦ rw (w.target-is, w.in-Some-value.is) (sym (ap (option_map place_word) w.in-Some-target.is) ∙ (rw (← c.self.view_is) at w.target-in-Some-value.ensures))
     ] in
-    whole_stored c.self.inside.space c.set_pointer.new.self c.self.inside.roots.slots c.self.inside.remembered c.args.root.number _ c.free_count-space.ensures.space c.self.invariant h c.args.field _ _ c.remember.new.sets to (c.set_pointer.ensures h.object h.there) (c.in-Ok.ensures.ok h.object h.there)
+    whole_stored c.self.inside.objects c.set_pointer.new.self c.self.inside.roots.slots c.self.inside.remembered c.args.root.number _ c.free_count-objects.ensures.sound c.self.invariant h c.args.field _ _ c.remember.new.sets to (c.set_pointer.ensures h.object h.there) (c.in-Ok.ensures.ok h.object h.there)
 
 pub returns-in_default-remember-clause-memory : goal.returns-in_default-remember-clause-memory
 returns-in_default-remember-clause-memory g c = λ _.
-    let heap = heap_with c.self.inside.space c.self.inside.roots.slots c.self.inside.remembered in
+    let heap = heap_with c.self.inside.objects c.self.inside.roots.slots c.self.inside.remembered in
     let value = option_map (λ r. r.number) c.args.value in
     let h = held heap.graph c.args.root.number _ _ c.self.invariant.closed (rw (← c.self.view_is) at c.target.ensures) c.in-Some.is in
     let to : option_map place_word c.match-value.target ≡ value_at heap.graph value =

@@ -1,0 +1,388 @@
+//! The objects of a heap, small and large, and its blocks.
+ghost use Rattle.std.specs.Prelude.{◌≡◌, ℕ, ◌+◌, ◌/◌, ◌<◌, ◌≤◌, ◌↔◌, ◌++◌, Some, None, Err, map, length, count_by, filter, sum_by, IsTrue, IsSome, IsSomeAnd, IfOk, IfSome, IfNone, OnOk, OnErr, MatchOption, slice_set};
+ghost use Rattle.std.specs.FinMap.{values, get, insert};
+ghost use Rattle.std.specs.Option.{option_map};
+ghost use Rattle.model.specs.Graph.{Object, IsClosed, with_pointer, size_of, is_large};
+ghost use Rattle.model.specs.Census.{step_count, points_younger};
+ghost use Rattle.model.specs.Live.{IsYoung};
+ghost use Rattle.layout.specs.Place.{place_word, pointer_word, large_word};
+ghost use Rattle.layout.specs.ObjectRef.{raw_of};
+ghost use Rattle.steps.specs.ConfigRange.{IsInRange};
+ghost use Rattle.steps.specs.StepPairs.{step_pair, stands_at};
+ghost use Rattle.heap_data.specs.HeapValue.{nursery_count};
+ghost use Rattle.heap_data.specs.Remembered.{is_holder};
+ghost use Rattle.heap_data.specs.Words.{IsShownAs};
+ghost use Rattle.heap_data.specs.CensusView.{step_value};
+ghost use Rattle.heap_data.specs.SlotView.{slot_value};
+ghost use Rattle.heap_data.specs.CollectionValue.{IsNumbering, young_names, field_slot_of};
+ghost use Rattle.heap_graph.specs.HeapGraph.{slots_at};
+ghost use Rattle.heap_objects.specs.Objects.{AllocatesSmall, AllocatesLarge, wanted, empty_objects, room_in, graph_in, heap_in};
+ghost use Rattle.heap_objects.specs.Sound.{AreObjects};
+ghost use Rattle.heap_objects.specs.Collecting.{IsNumbered, CanReplace, IsReplaced, NoLargeFrom, IsNextLarge};
+
+use crate::large::{count_large, large_numbers};
+use crate::renewing::renew;
+use block_pool::{Block, GrantError, RankedSet};
+use heap_data::{LargeCount, Numbering, Slot, StepCount};
+use heap_graph::{count_remembered, is_holder, push_slots_of};
+use heap_space::Space;
+use large_objects::LargeTable;
+use layout::{LargeNumber, ObjectRef, Place};
+use std::alloc::{AllocError, Allocator, Global};
+use std::marker::Model;
+use steps::{Config, StepId};
+
+/// The word of a pointer, which is 0 for nil.
+fn word_of(target: Option<Place>) -> u64
+    ensures { result ≡ pointer_word target }
+{
+    match target {
+        Some(place) => place.to_word(),
+        None => 0,
+    }
+}
+
+/// The objects of a heap. Small ones stand in blocks, one after the other. Each large one has blocks of its own, and never
+/// moves.
+#[derive(Drop)]
+pub struct HeapObjects<A: Allocator = Global> {
+    alloc: A,
+    space: Space<A>,
+    large: LargeTable<A>,
+}
+
+impl<A: Allocator> Model for HeapObjects<A> {
+    ghost use Rattle.heap_objects.specs.Objects.{ObjectsValue, objects_code, objects_of};
+    ghost use Rattle.heap_objects.specs.Inside.{AreApart};
+
+    ghost Value = { ObjectsValue };
+
+    ghost coded = { objects_code };
+
+    ghost view = { λ o. objects_of o.space o.large };
+
+    ghost invariant = { λ o. AreApart o.space o.large };
+}
+
+impl<A: Allocator + Clone> HeapObjects<A> {
+    /// No object. The first blocks are set aside for the nurseries.
+    pub fn new(alloc: A, config: Config) -> Result<HeapObjects<A>, AllocError>
+        requires { nursery_count config ≤ config.blocks }
+        ensures { IfOk result (λ objects. objects ≡ empty_objects config) }
+    {
+        let space = Space::new(alloc.clone()?, config)?;
+        let large = LargeTable::new(alloc.clone()?)?;
+        let _numbers = large.len();
+        let _free = space.free_count();
+        Ok(HeapObjects {
+            alloc,
+            space,
+            large,
+        })
+    }
+
+    /// Whether a mutator's nursery has room for an object of `size` words, at most a quarter of a block.
+    pub fn has_room(&self, mutator: usize, size: usize) -> bool
+        requires mutator { mutator < self.now.config.mutators }
+        requires small { size ≤ self.now.config.block_words / 4 }
+        ensures { IsTrue result ↔ IsSome (room_in self.now mutator size) }
+    {
+        self.space.has_room(mutator, size)
+    }
+
+    /// Puts a new small object into a mutator's nursery. `None` says that there is no room.
+    pub fn allocate(&mut self, mutator: usize, p: u32, q: u32) -> Option<Place>
+        requires mutator { mutator < self.old.config.mutators }
+        requires small { 1 + p + q ≤ self.old.config.block_words / 4 }
+        ensures room { IsSome result ↔ IsSome (room_in self.old mutator (1 + p + q)) }
+        ensures some { IfSome result (λ place. AllocatesSmall self.old mutator p q (place_word place) self.new) }
+        ensures none { IfNone result (self.new ≡ self.old) }
+    {
+        let place = self.space.allocate(mutator, p, q);
+        let _free = self.space.free_count();
+        place
+    }
+
+    /// How many blocks a large object with `p` pointers and `q` plain words takes.
+    pub fn wanted(&self, p: u32, q: u32) -> usize
+        ensures { result ≡ wanted self.now.config p q }
+    {
+        let words = self.space.config().block_words();
+        (p as usize + q as usize + words) / words
+    }
+
+    /// Makes a new large object in the free blocks with the lowest numbers, as many as hold it. `HeapFull` says that fewer are
+    /// free. `NoMemory` says that memory ran out, or that there are 65,535 large objects.
+    pub fn allocate_large(&mut self, p: u32, q: u32) -> Result<Place, GrantError>
+        requires pointers { p ≤ 100000 }
+        requires plain { q ≤ 100000 }
+        requires large { self.old.config.block_words / 4 < 1 + p + q }
+        ensures ok { IfOk result (λ place. AllocatesLarge self.old p q (place_word place) self.new) }
+        ensures full { (result ≡ Err GrantError.HeapFull) ↔ (length self.old.free < wanted self.old.config p q) }
+        ensures err { OnErr result (self.new ≡ self.old) }
+    {
+        if self.space.free_count() < self.wanted(p, q) {
+            return Err(GrantError::HeapFull);
+        }
+        let Ok(alloc) = self.alloc.clone() else {
+            return Err(GrantError::NoMemory);
+        };
+        let number = self.space.add_large(alloc, &mut self.large, p, q)?;
+        let _free = self.space.free_count();
+        let _numbers = self.large.len();
+        Ok(Place::Large(number))
+    }
+
+    /// The object at a place, where there is one.
+    pub fn object(&self, place: Place) -> Option<ObjectRef<'_>>
+        ensures { MatchOption result (get self.now.objects (place_word place) ≡ None)
+            (λ object. IsSomeAnd (get self.now.objects (place_word place)) (λ o. IsShownAs o (raw_of object))) }
+    {
+        match place {
+            Place::Small(_) => self.space.object(place),
+            Place::Large(number) => self.large.get(number),
+        }
+    }
+
+    /// The generation and step of the object at a place, where there is one.
+    pub fn step_of(&self, place: Place) -> Option<StepId>
+        ensures { option_map step_pair result ≡ option_map stands_at (get self.now.objects (place_word place)) }
+    {
+        match place {
+            Place::Small(_) => self.space.step_of(place),
+            Place::Large(number) => match self.large.step_of(number) {
+                Some((generation, step)) => Some(StepId { generation, step }),
+                None => None,
+            },
+        }
+    }
+
+    /// How many pointers the object at a place has.
+    pub fn pointer_count(&self, place: Place) -> u32
+        requires { IsSome (get self.now.objects (place_word place)) }
+        ensures { (o : Object) → get self.now.objects (place_word place) ≡ Some o → result ≡ length o.pointers }
+    {
+        match self.object(place) {
+            Some(object) => object.header.pointers,
+            None => 0,
+        }
+    }
+
+    /// How many plain words the object at a place has.
+    pub fn plain_count(&self, place: Place) -> u32
+        requires { IsSome (get self.now.objects (place_word place)) }
+        ensures { (o : Object) → get self.now.objects (place_word place) ≡ Some o → result ≡ length o.plain }
+    {
+        match self.object(place) {
+            Some(object) => object.header.plain,
+            None => 0,
+        }
+    }
+
+    /// Changes pointer `i` of the object at a place.
+    pub fn set_pointer(&mut self, place: Place, i: usize, target: Option<Place>)
+        requires { IsSomeAnd (get self.old.objects (place_word place)) (λ o. i < length o.pointers) }
+        ensures { (o : Object) → get self.old.objects (place_word place) ≡ Some o
+            → self.new ≡ record self.old { objects = insert self.old.objects (place_word place) (with_pointer o i (option_map place_word target)) } }
+    {
+        match place {
+            Place::Small(_) => {
+                self.space.set_pointer(place, i, target);
+                let _free = self.space.free_count();
+            }
+            Place::Large(number) => self.large.set_pointer(number, i, word_of(target)),
+        }
+    }
+
+    /// Changes plain word `i` of the object at a place.
+    pub fn set_plain(&mut self, place: Place, i: usize, word: u64)
+        requires { IsSomeAnd (get self.old.objects (place_word place)) (λ o. i < length o.plain) }
+        ensures { (o : Object) → get self.old.objects (place_word place) ≡ Some o
+            → self.new ≡ record self.old { objects = insert self.old.objects (place_word place) (record o { plain = slice_set o.plain i word }) } }
+    {
+        match place {
+            Place::Small(_) => {
+                self.space.set_plain(place, i, word);
+                let _free = self.space.free_count();
+            }
+            Place::Large(number) => self.large.set_plain(number, i, word),
+        }
+    }
+
+    /// How many small objects stand at a generation and step, and how many words they take.
+    pub fn count(&self, at: StepId) -> StepCount
+        ensures { step_value result ≡ step_count self.now.config.block_words (values self.now.objects) (step_pair at) }
+    {
+        self.space.count(at)
+    }
+
+    /// How many large objects there are, and how many words they take.
+    pub fn count_large(&self) -> LargeCount
+        ensures objects { result.objects ≡ length (filter (is_large self.now.config.block_words) (values self.now.objects)) }
+        ensures words { result.words ≡ sum_by size_of (filter (is_large self.now.config.block_words) (values self.now.objects)) }
+    {
+        count_large(&self.large)
+    }
+
+    /// How many objects have a pointer to an object of a younger generation.
+    pub fn count_remembered(&self) -> u64
+        requires { IsClosed (graph_in self.now) }
+        ensures { result ≡ count_by (points_younger (get self.now.objects)) (values self.now.objects) }
+    {
+        count_remembered(self.space.table(), &self.large)
+    }
+
+    /// Puts the pointers of the object of generation `h` at a place, where there is one, at the end of the slots, those
+    /// that lead to objects of generation at most `g`.
+    pub fn push_slots_of<B: Allocator>(
+        &self,
+        slots: &mut Vec<Slot, B>,
+        g: u8,
+        h: u8,
+        place: Place,
+    ) -> Result<(), AllocError>
+        requires { IsClosed (graph_in self.now) }
+        ensures { OnOk result (map slot_value slots.new.items ≡ map slot_value slots.old.items
+            ++ map field_slot_of (slots_at (graph_in self.now) g h (place_word place))) }
+    {
+        push_slots_of(slots, self.space.table(), &self.large, g, h, place)
+    }
+
+    /// Whether the object at a place is of generation `h` and has a pointer to an object of a younger one.
+    pub fn is_holder(&self, h: u8, place: Place) -> bool
+        requires { IsClosed (graph_in self.now) }
+        ensures { result ≡ is_holder (graph_in self.now) h (place_word place) }
+    {
+        is_holder(self.space.table(), &self.large, h, place)
+    }
+
+    /// The lowest number of a large object, from this one on. None says that there is none from there on.
+    pub fn next_large(&self, from: usize) -> Option<LargeNumber>
+        ensures { MatchOption result (NoLargeFrom self.now from) (λ of. IsNextLarge self.now from of.number) }
+    {
+        self.large.next_from(from)
+    }
+
+    /// How the objects of generation at most `g` are numbered, and how many such objects there are.
+    pub fn numbering(&self, alloc: A, g: u8) -> Result<(Numbering<A>, u32), AllocError>
+        ensures numbering { IfOk result (λ r. IsNumbering (graph_in self.now) g r.0) }
+        ensures all { IfOk result (λ r. r.1 ≡ length (young_names (graph_in self.now) g)) }
+    {
+        let (blocks, small) = self.space.bases(alloc.clone()?, g)?;
+        let (large, all) = large_numbers(alloc, &self.large, g, small)?;
+        Ok((Numbering::new(blocks, large), all))
+    }
+
+    /// The number of an object of generation at most `g`.
+    pub fn number_of(&self, numbering: &Numbering<A>, g: u8, place: Place) -> u32
+        requires numbering { IsNumbering (graph_in self.now) g numbering.now }
+        requires young { IsYoung (graph_in self.now) g (place_word place) }
+        ensures { IsNumbered self.now g (place_word place) result }
+    {
+        match place {
+            Place::Small(_) => self.space.number_of(numbering.blocks(), g, place),
+            Place::Large(number) => numbering.large()[number.number as usize],
+        }
+    }
+
+    /// The large object with a number, its generation and step, and its number among those of generation at most `g`.
+    fn find_large(
+        &self,
+        numbering: &Numbering<A>,
+        g: u8,
+        number: LargeNumber,
+    ) -> (ObjectRef<'_>, StepId, Option<u32>)
+        requires numbering { IsNumbering (graph_in self.now) g numbering.now }
+        requires there { IsSome (get self.now.objects (large_word number.number)) }
+        ensures object { IsSomeAnd (get self.now.objects (large_word number.number)) (λ o. IsShownAs o (raw_of result.0)) }
+        ensures step { Some (step_pair result.1) ≡ option_map stands_at (get self.now.objects (large_word number.number)) }
+        ensures number { MatchOption result.2 (IsYoung (graph_in self.now) g (large_word number.number) → ⊥)
+            (λ n. IsYoung (graph_in self.now) g (large_word number.number) × IsNumbered self.now g (large_word number.number) n) }
+    {
+        let Some(object) = self.large.get(number) else {
+            unreachable!();
+        };
+        let Some((generation, step)) = self.large.step_of(number) else {
+            unreachable!();
+        };
+        let at = StepId { generation, step };
+        if generation > g {
+            return (object, at, None);
+        }
+        (object, at, Some(numbering.large()[number.number as usize]))
+    }
+
+    /// The object at a place where there is one, its generation and step, and its number where its generation is at
+    /// most `g`.
+    #[inline]
+    pub fn find(
+        &self,
+        numbering: &Numbering<A>,
+        g: u8,
+        place: Place,
+    ) -> (ObjectRef<'_>, StepId, Option<u32>)
+        requires numbering { IsNumbering (graph_in self.now) g numbering.now }
+        requires there { IsSome (get self.now.objects (place_word place)) }
+        ensures object { IsSomeAnd (get self.now.objects (place_word place)) (λ o. IsShownAs o (raw_of result.0)) }
+        ensures step { Some (step_pair result.1) ≡ option_map stands_at (get self.now.objects (place_word place)) }
+        ensures number { MatchOption result.2 (IsYoung (graph_in self.now) g (place_word place) → ⊥)
+            (λ n. IsYoung (graph_in self.now) g (place_word place) × IsNumbered self.now g (place_word place) n) }
+    {
+        match place {
+            Place::Small(_) => self.space.find(numbering.blocks(), g, place),
+            Place::Large(number) => self.find_large(numbering, g, number),
+        }
+    }
+
+    /// How many blocks are free.
+    pub fn free_count(&self) -> usize
+        ensures value { result ≡ length self.now.free }
+        // What holds of the objects of every heap.
+        ensures sound { AreObjects (heap_in self.now) }
+    {
+        self.space.free_count()
+    }
+
+    /// The numbers of the free blocks, rising.
+    pub fn free_numbers(&self, alloc: A) -> Result<RankedSet<A>, AllocError>
+        ensures { IfOk result (λ numbers. numbers ≡ self.now.free) }
+    {
+        self.space.free_numbers(alloc)
+    }
+
+    /// The sizes that the heap was made with.
+    pub fn config(&self) -> Config
+        ensures value { result ≡ self.now.config }
+        ensures in_range { IsInRange self.now.config }
+    {
+        self.space.config()
+    }
+
+    /// Puts blocks in the place of all small objects of generation at most `g`. The large ones of them that have a new place
+    /// go to their destinations, and the others are gone. Where memory runs out nothing changes.
+    pub fn replace(
+        &mut self,
+        alloc: A,
+        g: u8,
+        blocks: Vec<Block<A>, A>,
+        numbering: &Numbering<A>,
+        places: &[Option<Place>],
+    ) -> Result<(), AllocError>
+        requires blocks { CanReplace self.old blocks.items }
+        requires numbering { IsNumbering (graph_in self.old) g numbering.now }
+        requires count { length places.now ≡ length (young_names (graph_in self.old) g) }
+        ensures ok { OnOk result (IsReplaced self.old g blocks.items places.now self.new) }
+        ensures err { OnErr result (self.new ≡ self.old) }
+    {
+        self.space.replace(alloc, g, blocks)?;
+        let _free = self.space.free_count();
+        renew(
+            &mut self.space,
+            &mut self.large,
+            g,
+            numbering.large(),
+            places,
+        );
+        Ok(())
+    }
+}
