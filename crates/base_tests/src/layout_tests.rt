@@ -1,8 +1,10 @@
-use layout::{Header, Place, TooBig, is_large, size};
+use layout::{Header, Place, TooBig, is_large, size, word_of};
 
 /// Whether the place is that word, and is read back from it.
 fn is_word_of(place: Place, word: u64) -> bool {
-    place.to_word() == word && Place::from_word(word) == Some(Some(place))
+    place.to_word() == word
+        && word_of(Some(place)) == word
+        && Place::from_word(word) == Some(Some(place))
 }
 
 /// How many pointers and plain words a header has, and its ordinal.
@@ -21,6 +23,7 @@ fn words_of_places(rt: HostRuntime) {
     for (place, word) in table {
         assert!(rt; is_word_of(place, word), "at {word}");
     }
+    assert_eq!(rt; word_of(None), 0);
     assert_eq!(rt; Place::from_word(0), Some(None));
     assert_eq!(rt; Place::from_word(65535), None);
 }

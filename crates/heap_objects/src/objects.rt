@@ -5,7 +5,7 @@ ghost use Rattle.std.specs.Option.{option_map};
 ghost use Rattle.model.specs.Graph.{Object, IsClosed, with_pointer, size_of, is_large};
 ghost use Rattle.model.specs.Census.{step_count, points_younger};
 ghost use Rattle.model.specs.Live.{IsYoung};
-ghost use Rattle.layout.specs.Place.{place_word, pointer_word, large_word};
+ghost use Rattle.layout.specs.Place.{place_word, large_word};
 ghost use Rattle.layout.specs.ObjectRef.{raw_of};
 ghost use Rattle.steps.specs.ConfigRange.{IsInRange};
 ghost use Rattle.steps.specs.StepPairs.{step_pair, stands_at};
@@ -27,20 +27,10 @@ use heap_data::{LargeCount, Numbering, Slot, StepCount};
 use heap_graph::{count_remembered, is_holder, push_slots_of};
 use heap_space::Space;
 use large_objects::LargeTable;
-use layout::{LargeNumber, ObjectRef, Place};
+use layout::{LargeNumber, ObjectRef, Place, word_of};
 use std::alloc::{AllocError, Allocator, Global};
 use std::marker::Model;
 use steps::{Config, StepId};
-
-/// The word of a pointer, which is 0 for nil.
-fn word_of(target: Option<Place>) -> u64
-    ensures { result ≡ pointer_word target }
-{
-    match target {
-        Some(place) => place.to_word(),
-        None => 0,
-    }
-}
 
 /// The objects of a heap. Small ones stand in blocks, one after the other. Each large one has blocks of its own, and never
 /// moves.

@@ -5,7 +5,7 @@ ghost use Rattle.std.specs.Option.{option_map};
 ghost use Rattle.model.specs.Graph.{Object, with_pointer};
 ghost use Rattle.model.specs.Census.{step_count};
 ghost use Rattle.model.specs.Live.{IsYoung};
-ghost use Rattle.layout.specs.Place.{place_word, pointer_word};
+ghost use Rattle.layout.specs.Place.{place_word};
 ghost use Rattle.layout.specs.ObjectRef.{raw_of};
 ghost use Rattle.steps.specs.ConfigRange.{IsInRange};
 ghost use Rattle.steps.specs.StepPairs.{step_pair, stands_at};
@@ -29,21 +29,11 @@ use block_table::{
 };
 use heap_data::StepCount;
 use large_objects::LargeTable;
-use layout::{LargeNumber, ObjectRef, Place};
+use layout::{LargeNumber, ObjectRef, Place, word_of};
 use nursery::Nursery;
 use std::alloc::{AllocError, Allocator, Global};
 use std::marker::Model;
 use steps::{Config, StepId};
-
-/// The word of a pointer, which is 0 for nil.
-fn word_of(target: Option<Place>) -> u64
-    ensures { result ≡ pointer_word target }
-{
-    match target {
-        Some(place) => place.to_word(),
-        None => 0,
-    }
-}
 
 /// The blocks of a heap, and which numbers are free.
 #[derive(Drop)]

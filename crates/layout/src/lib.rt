@@ -4,7 +4,9 @@
 mod header;
 mod object;
 mod place;
+mod pointer;
 
 pub use header::{Header, MOST_FIELDS, TooBig, is_large, size};
 pub use object::ObjectRef;
 pub use place::{LargeNumber, Place, SmallPlace};
+pub use pointer::word_of;

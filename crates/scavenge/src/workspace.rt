@@ -18,12 +18,12 @@ use crate::opening::{destination_count, every_target};
 use crate::proposed::Proposed;
 use block_pool::Block;
 use heap::{Collection, Config, Heap};
-use layout::Place;
+use layout::{Place, word_of};
 use std::alloc::{AllocError, Allocator, Global};
 use std::collections::VecDeque;
 use std::marker::Model;
 use std::mem;
-use to_space::{AllocationBlocks, pass_front, word_of, write_front};
+use to_space::{AllocationBlocks, pass_front, write_front};
 
 /// One worker's part of a collection.
 #[derive(Drop)]

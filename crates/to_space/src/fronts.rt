@@ -11,16 +11,6 @@ use block_pool::Block;
 use layout::Place;
 use std::alloc::Allocator;
 
-/// The word of a pointer, 0 for nil.
-pub fn word_of(pointer: Option<Place>) -> u64
-    ensures { result ≡ pointer_word pointer }
-{
-    match pointer {
-        None => 0,
-        Some(place) => place.to_word(),
-    }
-}
-
 /// The pointer with this word.
 pub fn pointer_of(word: u64) -> Option<Place>
     requires { IsPointer word }

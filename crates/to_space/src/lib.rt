@@ -5,4 +5,4 @@ mod allocation;
 mod fronts;
 
 pub use allocation::AllocationBlocks;
-pub use fronts::{front_pointer, pass_front, pointer_of, word_of, write_front};
+pub use fronts::{front_pointer, pass_front, pointer_of, write_front};
