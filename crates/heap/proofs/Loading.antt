@@ -34,7 +34,7 @@ module _ (heap : HeapValue) (sound : AreHeapObjects heap) (root name i word : �
   at_word o there field true e leads =
       let target : target_of_word word ≡ Some word = ap (λ b. cond b (Some word) None) e in
       let to = sound.closed.fields name i word (field_is heap.graph name i word o there (field ∙ ap (λ t. Some t) target)) in
-      let stands = objects_places heap sound word to.0 to.1 in
+      let stands = objects_places heap sound.sound word to.0 to.1 in
       record { pointer = Some stands.0; word_is = stands.1; leads = leads ∙ ap (λ w. Some (Some w)) (sym stands.1) }
 
   at_object : (o : Object) → object_at heap.graph name ≡ Some o → slice_get o.pointers i ≡ Some (target_of_word word) → Reads heap.graph root i word

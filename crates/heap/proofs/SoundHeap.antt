@@ -15,20 +15,20 @@ use Rattle.heap_data.specs.NamesArePlaces.{NamesArePlaces}
 use Rattle.block_table.proofs.Areas.{has_at}
 use Rattle.block_table.proofs.TableSteps.{get_or_any}
 use Rattle.heap_space.specs.Space.{IsPlace}
-use Rattle.heap_objects.specs.Sound.{IsHeapObject, IsLargePlace}
-use Rattle.heap_commit.specs.IsHeap.{IsHeap, AreHeapObjects}
+use Rattle.heap_objects.specs.Sound.{IsHeapObject, IsLargePlace, AreObjects}
+use Rattle.heap_commit.specs.IsHeap.{IsHeap}
 
 pub heap_closed : (heap : HeapValue) → IsHeap heap → IsClosed heap.graph
 heap_closed heap sound = sound.blocks.closed
 
 pub heap_object : (heap : HeapValue) → IsHeap heap → (name : ℕ) (o : Object) → object_at heap.graph name ≡ Some o → IsHeapObject heap.config o
-heap_object heap sound = sound.blocks.objects
+heap_object heap sound = sound.blocks.sound.objects
 
 -- how many pointers an object has
 pub heap_fields : (heap : HeapValue) → IsHeap heap → (name : ℕ) (o : Object) → object_at heap.graph name ≡ Some o → length o.pointers ≤ 100000
-heap_fields heap sound name o is = (sound.blocks.objects name o is).pointers
+heap_fields heap sound name o is = (sound.blocks.sound.objects name o is).pointers
 
-small_place : (heap : HeapValue) → AreHeapObjects heap → (name : ℕ) → IsPlace heap.config.blocks name → (place : Place) × (place_word place ≡ name)
+small_place : (heap : HeapValue) → AreObjects heap → (name : ℕ) → IsPlace heap.config.blocks name → (place : Place) × (place_word place ≡ name)
 small_place heap sound name at =
     let place : SmallPlace = record {
       block = at.block;
@@ -41,30 +41,30 @@ small_place heap sound name at =
 large_place : (name : ℕ) → IsLargePlace name → (place : Place) × (place_word place ≡ name)
 large_place name at = let of : LargeNumber = record { number = at.number; in_range = at.in_range } in (Large of, sym at.is)
 
-pub objects_places : (heap : HeapValue) → AreHeapObjects heap → NamesArePlaces heap.graph
+pub objects_places : (heap : HeapValue) → AreObjects heap → NamesArePlaces heap.graph
 objects_places heap sound name o is = by_size (is_large heap.config.block_words o) refl
   where
     by_size : (b : Bool) → is_large heap.config.block_words o ≡ b → (place : Place) × (place_word place ≡ name)
     by_size false small = small_place heap sound name ((sound.places name o is).small small)
     by_size true large = large_place name ((sound.places name o is).large large)
 
-small_below : (heap : HeapValue) → AreHeapObjects heap → (name : ℕ) → IsPlace heap.config.blocks name → name < large_word 0
+small_below : (heap : HeapValue) → AreObjects heap → (name : ℕ) → IsPlace heap.config.blocks name → name < large_word 0
 small_below heap sound name at = let most = sound.range.most_blocks in omega (arith, at.is, at.block_in_range, at.offset_in_range, most)
 
 -- an object is large exactly when its name is no word of a small place
 pub heap_large_name : (heap : HeapValue) → IsHeap heap → (name : ℕ) (o : Object) → object_at heap.graph name ≡ Some o → IsTrue (is_large heap.config.block_words o) → large_word 0 ≤ name
-heap_large_name heap sound name o is large = let at = (sound.blocks.places name o is).large large in omega (arith, at.is)
+heap_large_name heap sound name o is large = let at = (sound.blocks.sound.places name o is).large large in omega (arith, at.is)
 
 pub heap_small_name : (heap : HeapValue) → IsHeap heap → (name : ℕ) (o : Object) → object_at heap.graph name ≡ Some o → is_large heap.config.block_words o ≡ false → name < large_word 0
-heap_small_name heap sound name o is small = small_below heap sound.blocks name ((sound.blocks.places name o is).small small)
+heap_small_name heap sound name o is small = small_below heap sound.blocks.sound name ((sound.blocks.sound.places name o is).small small)
 
 pub heap_places : (heap : HeapValue) → IsHeap heap → NamesArePlaces heap.graph
-heap_places heap sound = objects_places heap sound.blocks
+heap_places heap sound = objects_places heap sound.blocks.sound
 
 pub heap_free : (heap : HeapValue) → IsHeap heap → AreFreeBlocks heap.config.blocks heap.free
 heap_free heap sound = record {
-  rising = sound.blocks.rising;
-  in_range = λ k d lt. ((sound.blocks.free (get_or heap.free k d)).0 (subst (λ n. has heap.free n ≡ true) (get_or_any heap.free k 0 d lt) (has_at heap.free k lt))).in_range;
+  rising = sound.blocks.sound.rising;
+  in_range = λ k d lt. ((sound.blocks.sound.free (get_or heap.free k d)).0 (subst (λ n. has heap.free n ≡ true) (get_or_any heap.free k 0 d lt) (has_at heap.free k lt))).in_range;
 }
 
 pub heap_empty : (heap : HeapValue) → IsHeap heap → FreeBlocksAreEmpty heap
@@ -79,12 +79,12 @@ heap_empty heap sound block offset free lt = go (object_at heap.graph (small_wor
             let same : at.block ≡ block = omega (arith, at.is, at.offset_in_range, lt) in
             let here : object_at heap.graph (small_word block at.offset) ≡ Some x = subst (λ b. object_at heap.graph (small_word b at.offset) ≡ Some x) same (sym (ap (object_at heap.graph) at.is) ∙ there) in
             let holds : HoldsObject heap.graph block = record { offset = at.offset; object = x; in_range = at.offset_in_range; there = here } in
-            ((sound.blocks.free block).0 free).holds_none holds
+            ((sound.blocks.sound.free block).0 free).holds_none holds
 
         by_size : (x : Object) → object_at heap.graph (small_word block offset) ≡ Some x → (b : Bool) → is_large heap.config.block_words x ≡ b → ⊥
-        by_size x there false small = in_small x there ((sound.blocks.places (small_word block offset) x there).small small)
+        by_size x there false small = in_small x there ((sound.blocks.sound.places (small_word block offset) x there).small small)
         by_size x there true large =
-            let at = (sound.blocks.places (small_word block offset) x there).large large in
-            let below = ((sound.blocks.free block).0 free).in_range in
-            let most = sound.blocks.range.most_blocks in
+            let at = (sound.blocks.sound.places (small_word block offset) x there).large large in
+            let below = ((sound.blocks.sound.free block).0 free).in_range in
+            let most = sound.blocks.sound.range.most_blocks in
             absurd (omega (arith, at.is, below, most, lt))

@@ -5,7 +5,7 @@ use Rattle.std.proofs.lemmas.List.{length-replicate}
 use Rattle.std.specs.Option.{option_map_or, option_and_then}
 use Rattle.std.specs.Prelude.{nat_eq}
 use Rattle.std.specs.Ordering.{nat_cmp}
-use Rattle.std.specs.FinMap.{get, insert, get-empty}
+use Rattle.std.specs.FinMap.{get, insert, empty, get-empty}
 use Rattle.model.specs.Config.{Config}
 use Rattle.model.specs.Graph.{Object, IsClosed, with_pointer, with_object, with_root, fresh_object}
 use Rattle.model.specs.Census.{points_younger}
@@ -13,10 +13,10 @@ use Rattle.model.specs.Reached.{has}
 use Rattle.model.proofs.ClosedLemmas.{closed_empty, closed_fresh}
 use Rattle.layout.specs.declared.place.Place.{Place}
 use Rattle.heap_data.specs.HeapValue.{HeapValue, empty_heap}
-use Rattle.heap_data.specs.CollectedHeap.{HoldsObject, IsFreeBlock}
 use Rattle.heap_objects.specs.Objects.{ObjectsValue, heap_in}
-use Rattle.heap_objects.specs.Blocks.{HasBlocks, HaveBlocks}
 use Rattle.heap_objects.specs.Sound.{AreObjects}
+use Rattle.heap_objects.proofs.WithRoots.{objects_at}
+use Rattle.heap_commit.specs.Roots.{roots_map}
 use Rattle.heap_commit.specs.HeapView.{heap_of, heap_with}
 use Rattle.heap_commit.specs.IsHeap.{IsHeap, AreHeapObjects}
 use Rattle.remembered_set.specs.Sets.{members_of, noted}
@@ -29,40 +29,8 @@ use Rattle.heap.proofs.Storing.{Held, pointer_stored, plain_stored}
 
 -- the objects make a sound heap with any roots and remembered sets
 module _ (objects : ObjectsValue) (slots : List (Option Place)) (sets : List (List ℕ)) where
-  holds_in : (block : ℕ) → HoldsObject (heap_with objects slots sets).graph block → HoldsObject (heap_in objects).graph block
-  holds_in block holds = record { offset = holds.offset; object = holds.object; in_range = holds.in_range; there = holds.there }
-
-  holds_of : (block : ℕ) → HoldsObject (heap_in objects).graph block → HoldsObject (heap_with objects slots sets).graph block
-  holds_of block holds = record { offset = holds.offset; object = holds.object; in_range = holds.in_range; there = holds.there }
-
-  free_of : (block : ℕ) → IsFreeBlock (heap_in objects) block → IsFreeBlock (heap_with objects slots sets) block
-  free_of block free = record { in_pool = free.in_pool; in_range = free.in_range; holds_none = λ holds. free.holds_none (holds_in block holds); no_large = free.no_large }
-
-  free_in : (block : ℕ) → IsFreeBlock (heap_with objects slots sets) block → IsFreeBlock (heap_in objects) block
-  free_in block free = record { in_pool = free.in_pool; in_range = free.in_range; holds_none = λ holds. free.holds_none (holds_of block holds); no_large = free.no_large }
-
-  blocks_of : (o : Object) (blocks : List ℕ) → HasBlocks (heap_in objects) o blocks → HasBlocks (heap_with objects slots sets) o blocks
-  blocks_of o blocks theirs = record { large = theirs.large; count = theirs.count; once = theirs.once; in_pool = theirs.in_pool; hold_none = λ block h holds. theirs.hold_none block h (holds_in block holds) }
-
-  large_of : HaveBlocks (heap_in objects) → HaveBlocks (heap_with objects slots sets)
-  large_of large = record {
-    each = large.each;
-    theirs = λ name blocks is. let there = large.theirs name blocks is in (there.0, there.1, blocks_of there.0 blocks there.2);
-    apart = large.apart;
-  }
-
   pub objects_are : AreObjects (heap_in objects) → IsClosed (heap_with objects slots sets).graph → AreHeapObjects (heap_with objects slots sets)
-  objects_are sound closed = record {
-    range = sound.range;
-    closed = closed;
-    objects = sound.objects;
-    places = sound.places;
-    mutators = sound.mutators;
-    rooms = sound.rooms;
-    free = λ block. (λ h. free_of block ((sound.free block).0 h), λ free. (sound.free block).1 (free_in block free));
-    rising = sound.rising;
-    large = large_of sound.large;
-  }
+  objects_are sound closed = record { sound = objects_at objects empty (roots_map slots) [] sets sound; closed = closed }
 
   pub heap_is : AreObjects (heap_in objects) → IsWhole (heap_with objects slots sets) → IsHeap (heap_with objects slots sets)
   heap_is sound whole = record {

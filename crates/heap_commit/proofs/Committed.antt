@@ -4,7 +4,7 @@ use Rattle.std.proofs.lemmas.Bool.{true≢false, cases_Bool, le-ltb, lt-ltb}
 use Rattle.std.specs.Prelude.{IsSome, IsTrue, slice_get, unwrap_or}
 use Rattle.std.specs.Option.{option_map, option_and_then}
 use Rattle.std.specs.Ordering.{nat_cmp, eq_by_cmp}
-use Rattle.std.specs.FinMap.{get, find, entries, get-entries}
+use Rattle.std.specs.FinMap.{get, find, entries, get-entries, empty}
 use Rattle.model.specs.Graph.{Graph, Object, IsClosed, object_at, field_at, is_large}
 use Rattle.model.specs.Live.{Live, IsYoung, IsOlder}
 use Rattle.model.specs.OldSlots.{Slot, old_slots}
@@ -26,6 +26,7 @@ use Rattle.heap_commit.specs.Roots.{roots_map, root_word, renamed_word}
 use Rattle.heap_objects.specs.Objects.{ObjectsValue, heap_in}
 use Rattle.heap_objects.specs.Collecting.{Stays, new_place, at_step}
 use Rattle.heap_objects.specs.Sound.{AreObjects}
+use Rattle.heap_objects.proofs.WithRoots.{objects_at}
 use Rattle.heap_commit.specs.Installed.{Installed}
 use Rattle.heap_commit.specs.LargeSlots.{IsLargeSlot, AreLargeSlots}
 use Rattle.heap_data.specs.ReportValue.{renaming_of}
@@ -38,7 +39,6 @@ use Rattle.heap_commit.proofs.RootMap.{get-roots}
 use Rattle.heap_commit.proofs.FieldsMoved.{written, written_or_not, with_writes-none, moved_pointers}
 use Rattle.heap_commit.proofs.SettledLemmas.{old_slot, generations_below, stays, large_field, live_placed, stays_kept, kept_stays}
 use Rattle.heap_commit.proofs.GraphIn.{young_in}
-use Rattle.heap_commit.proofs.SoundObjects.{is_heap}
 
 find_pairs : (f : ℕ → ℕ) (es : List (ℕ × ℕ)) (n : ℕ) → find nat_cmp n (map {B = ℕ × ℕ} (λ e. (e.0, f e.1)) es) ≡ option_map f (find nat_cmp n es)
 find_pairs f [] n = refl
@@ -286,7 +286,7 @@ module _ (objects objects' : ObjectsValue) (slots slots' : List (Option Place)) 
   is_in_free place at = (at.0, (at.1.0, (at.1.1.0, at.1.1.1, all_numbers blocks objects.free at.0 settled.were_free at.1.1.2)))
 
   pub now_sound : AreHeapObjects (heap_of objects' slots')
-  now_sound = is_heap objects' slots' sound' now_closed
+  now_sound = record { sound = objects_at objects' empty (roots_map slots') [] [] sound'; closed = now_closed }
 
   -- the blocks of the large objects that are kept, and no others, stay theirs
   blocks_stay : (name : ℕ) (bs : List ℕ) → get objects'.large_blocks name ≡ Some bs → IsKept old collection.generation name × (get objects.large_blocks name ≡ Some bs)
@@ -307,7 +307,7 @@ module _ (objects objects' : ObjectsValue) (slots slots' : List (Option Place)) 
     graph = collected;
     fresh = λ name o live is. ⊎_elim (λ big. inl big) (λ at. inr (is_in_free _ at)) (settled.fresh name o live is);
     rooms = installed.rooms ∙ installed.replaces.rooms;
-    free = now_sound.free;
-    rising = now_sound.rising;
+    free = now_sound.sound.free;
+    rising = now_sound.sound.rising;
     large_blocks = λ name bs. (blocks_stay name bs, λ h. blocks_kept name bs h.0 h.1);
   }

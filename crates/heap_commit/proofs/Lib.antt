@@ -1,7 +1,6 @@
 -- A collection's end.
 pub mod RootMap
 pub mod GraphIn
-pub mod SoundObjects
 pub mod Ranks
 pub mod CopyWords
 pub mod FieldSlots

@@ -7,6 +7,7 @@ pub mod Written
 pub mod Allocated
 pub mod LargeAdded
 pub mod SoundObjects
+pub mod WithRoots
 pub mod Counts
 pub mod LargeSizes
 pub mod YoungLarge

@@ -30,6 +30,8 @@ use Rattle.heap_data.proofs.WonNames.{won_as}
 use Rattle.heap_graph.proofs.HeldObjects.{held}
 use Rattle.heap_objects.specs.Objects.{ObjectsValue, graph_in, heap_in}
 use Rattle.heap_objects.specs.Sound.{AreObjects}
+use Rattle.heap_objects.proofs.WithRoots.{objects_at}
+use Rattle.heap_commit.specs.Roots.{roots_map}
 use Rattle.heap_objects.specs.Collecting.{IsNumbered}
 use Rattle.heap_commit.specs.Ended.{IsEnded}
 use Rattle.heap_commit.specs.HeapView.{heap_of, heap_with}
@@ -39,7 +41,7 @@ use Rattle.remembering.specs.Growth.{AreGrown}
 use Rattle.remembering.specs.Noted.{IsNoted, AreNoted, AreLargeNoted}
 use Rattle.remembering.proofs.Grown.{grown_has}
 use Rattle.remembering.proofs.Holding.{PointsTo, at_any, younger_from, younger_is, has_some, holder_is}
-use Rattle.remembering.proofs.WithSets.{free_with, free_without, objects_with}
+use Rattle.remembering.proofs.WithSets.{free_with, free_without}
 
 -- where an entry that is found stands
 record Stands (es : List (ℕ × Object)) (q : ℕ) (o : Object) : Type 0 where
@@ -168,7 +170,7 @@ module _ (objects objects' : ObjectsValue) (slots slots' : List (Option Place)) 
       go (Some o) is e =
           let at = held (graph_in objects') h name o is in
           let points = younger_from (get objects'.objects) o e in
-          let step = (whole.objects name o at.0).step in
+          let step = (whole.sound.objects name o at.0).step in
           let low : o.generation < length noted_sets = omega (arith, step.generation, ap (λ c. c.shape.generations) ended.config, count, grown.generations) in
           let from = ended.graph.no_others name o at.0 in
           let there = ⊎_elim
@@ -207,7 +209,7 @@ module _ (objects objects' : ObjectsValue) (slots slots' : List (Option Place)) 
 
   pub whole_with : IsHeap (heap_with objects' slots' sets')
   whole_with = record {
-    blocks = objects_with objects' slots' sets' whole;
+    blocks = record { sound = objects_at objects' (roots_map slots') (roots_map slots') [] sets' whole.sound; closed = whole.closed };
     sets = omega (arith, generations, grown.generations, count, ap (λ c. c.shape.generations) ended.config);
     remembered = λ h name holder. let there = covered h name holder in (members h name there.0).1 (there.1, holder);
   }

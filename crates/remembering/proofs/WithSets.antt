@@ -2,7 +2,7 @@
 use Rattle.std.proofs.Common.{ℕ, List, Option, sym, ◌∙◌}
 use Rattle.std.specs.Ordering.{nat_cmp}
 use Rattle.std.specs.FinMap.{get-empty}
-use Rattle.model.specs.Graph.{Object, IsClosed}
+use Rattle.model.specs.Graph.{IsClosed}
 use Rattle.model.specs.Live.{IsYoung}
 use Rattle.model.proofs.Options.{some_not_none}
 use Rattle.layout.specs.declared.place.Place.{Place}
@@ -12,9 +12,7 @@ use Rattle.heap_data.specs.Numbering.{NumberingValue}
 use Rattle.heap_data.specs.SettledValue.{IsSettled}
 use Rattle.heap_data.specs.CollectedHeap.{IsFreeBlock}
 use Rattle.heap_objects.specs.Objects.{ObjectsValue, graph_in}
-use Rattle.heap_objects.specs.Blocks.{HasBlocks, HaveBlocks}
 use Rattle.heap_commit.specs.HeapView.{heap_of, heap_with}
-use Rattle.heap_commit.specs.IsHeap.{AreHeapObjects}
 
 module _ (objects : ObjectsValue) (slots : List (Option Place)) (sets : List (List ℕ)) where
   -- an object is young in the heap exactly where it is among its objects
@@ -90,26 +88,3 @@ module _ (objects : ObjectsValue) (slots : List (Option Place)) (sets : List (Li
 
   pub free_without : (block : ℕ) → IsFreeBlock (heap_with objects slots sets) block → IsFreeBlock (heap_of objects slots) block
   free_without block free = record { in_pool = free.in_pool; in_range = free.in_range; holds_none = free.holds_none; no_large = free.no_large }
-
-  blocks_with : (o : Object) (blocks : List ℕ) → HasBlocks (heap_of objects slots) o blocks → HasBlocks (heap_with objects slots sets) o blocks
-  blocks_with o blocks has = record { large = has.large; count = has.count; once = has.once; in_pool = has.in_pool; hold_none = has.hold_none }
-
-  large_with : HaveBlocks (heap_of objects slots) → HaveBlocks (heap_with objects slots sets)
-  large_with large = record {
-    each = large.each;
-    theirs = λ name blocks is. let there = large.theirs name blocks is in (there.0, there.1, blocks_with there.0 blocks there.2);
-    apart = large.apart;
-  }
-
-  pub objects_with : AreHeapObjects (heap_of objects slots) → AreHeapObjects (heap_with objects slots sets)
-  objects_with whole = record {
-    range = whole.range;
-    closed = whole.closed;
-    objects = whole.objects;
-    places = whole.places;
-    mutators = whole.mutators;
-    rooms = whole.rooms;
-    free = λ block. (λ h. free_with block ((whole.free block).0 h), λ free. (whole.free block).1 (free_without block free));
-    rising = whole.rising;
-    large = large_with whole.large;
-  }
