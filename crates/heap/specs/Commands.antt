@@ -1,22 +1,15 @@
 -- What the commands on a heap do.
-use Rattle.std.specs.Prelude.{◌≡◌, ℕ, ◌+◌, ◌/◌, ◌<◌, ◌≤◌, ◌⊎◌, ◌||◌, Bool, false, List, length, take, drop, Option, Some, None, IsTrue, IsSome, IsSomeAnd, nat_lt, if◌then◌else◌, slice_get, slice_set, option_and_then}
+use Rattle.std.specs.Prelude.{◌≡◌, ℕ, ◌+◌, ◌<◌, ◌≤◌, ◌⊎◌, Bool, false, List, length, take, drop, Option, Some, None, IsTrue, IsSome, IsSomeAnd, nat_lt, if◌then◌else◌, slice_get, slice_set, option_and_then}
 use Rattle.std.specs.FinMap.{values, len, insert}
 use Rattle.model.specs.Graph.{Graph, Object, object_at, root_at, with_object, with_root, with_pointer, fresh_object}
 use Rattle.model.specs.Reached.{has}
 use Rattle.model.specs.Room.{Room, room_after}
+use Rattle.model.specs.Commands.{is_large_size}
 use Rattle.model.specs.Census.{Census, census_of, points_to}
 use Rattle.remembered_set.specs.Sets.{noted}
 use Rattle.heap_data.specs.HeapValue.{HeapValue}
 use Rattle.heap_data.specs.Remembered.{members_at}
 use Rattle.heap_objects.specs.Objects.{wanted}
-
--- an object may have at most so many pointers, and so many plain words
-abbrev pub is_too_big : ℕ → ℕ → Bool
-is_too_big p q = nat_lt 100000 p || nat_lt 100000 q
-
--- an object with so many pointers and plain words takes more than a quarter of a block
-abbrev pub is_large_size : HeapValue → ℕ → ℕ → Bool
-is_large_size heap p q = nat_lt (heap.config.block_words / 4) (1 + p + q)
 
 -- how many blocks a large object takes
 abbrev pub wanted_blocks : HeapValue → ℕ → ℕ → ℕ
@@ -30,7 +23,7 @@ room_for heap mutator size = option_and_then (λ room. room_after heap.config.bl
 pub record AllocatesSmall (old : HeapValue) (mutator p q root : ℕ) (new : HeapValue) : Type 0 where
   pub name : ℕ
   pub room : Room
-  pub small : is_large_size old p q ≡ false
+  pub small : is_large_size old.config (1 + p + q) ≡ false
   pub new_name : object_at old.graph name ≡ None
   pub new_root : root_at old.graph root ≡ None
   pub has_room : room_for old mutator (1 + p + q) ≡ Some room
@@ -39,7 +32,7 @@ pub record AllocatesSmall (old : HeapValue) (mutator p q root : ℕ) (new : Heap
 -- a new large object at a new name, in the first free blocks, and a new root to it
 pub record AllocatesLarge (old : HeapValue) (p q root : ℕ) (new : HeapValue) : Type 0 where
   pub name : ℕ
-  pub large : IsTrue (is_large_size old p q)
+  pub large : IsTrue (is_large_size old.config (1 + p + q))
   pub enough : wanted_blocks old p q ≤ length old.free
   pub new_name : object_at old.graph name ≡ None
   pub new_root : root_at old.graph root ≡ None

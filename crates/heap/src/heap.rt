@@ -2,11 +2,12 @@
 ghost use Rattle.std.specs.Prelude.{◌≡◌, ◌≢◌, ◌+◌, ◌/◌, ◌<◌, ◌≤◌, ◌↔◌, Some, None, false, IsTrue, IsSome, IsOk, IfOk, OnOk, OnErr};
 ghost use Rattle.std.specs.Option.{option_map};
 ghost use Rattle.model.specs.Graph.{root_at, without_root};
+ghost use Rattle.model.specs.Commands.{is_too_big, is_large_size};
 ghost use Rattle.layout.specs.Place.{place_word};
 ghost use Rattle.heap_data.specs.HeapValue.{empty_heap, nursery_count};
 ghost use Rattle.heap.specs.Found.{IsFound};
 ghost use Rattle.heap_commit.specs.IsHeap.{IsHeap};
-ghost use Rattle.heap.specs.Commands.{Allocates, AllocatesSmall, AllocatesLarge, is_too_big, is_large_size, wanted_blocks, room_for, heap_census, Changes, HasPointer, HasPlain, IsValue, value_at, rooted_object, pointer_of, Loads, Stores, MustNote};
+ghost use Rattle.heap.specs.Commands.{Allocates, AllocatesSmall, AllocatesLarge, wanted_blocks, room_for, heap_census, Changes, HasPointer, HasPlain, IsValue, value_at, rooted_object, pointer_of, Loads, Stores, MustNote};
 ghost use Rattle.std.specs.Prelude.{MatchOption, IsSomeAnd, IsNone, ◌⊎◌, slice_get, slice_set, slice_index, length, sum_by, Err};
 ghost use Rattle.model.specs.Graph.{object_at};
 ghost use Rattle.model.specs.Live.{IsYoung};
@@ -164,10 +165,10 @@ impl<A: Allocator + Clone> Heap<A> {
         ensures too_big { (result ≡ Err AllocateError.TooBig)
             ↔ ((mutator < self.old.config.mutators) × IsTrue (is_too_big p q)) }
         ensures full { (result ≡ Err AllocateError.NurseryFull)
-            ↔ ((mutator < self.old.config.mutators) × (is_too_big p q ≡ false) × (is_large_size self.old p q ≡ false)
+            ↔ ((mutator < self.old.config.mutators) × (is_too_big p q ≡ false) × (is_large_size self.old.config (1 + p + q) ≡ false)
             × (room_for self.old mutator (1 + p + q) ≡ None)) }
         ensures heap_full { (result ≡ Err AllocateError.HeapFull)
-            ↔ ((mutator < self.old.config.mutators) × (is_too_big p q ≡ false) × IsTrue (is_large_size self.old p q)
+            ↔ ((mutator < self.old.config.mutators) × (is_too_big p q ≡ false) × IsTrue (is_large_size self.old.config (1 + p + q))
             × (length self.old.free < wanted_blocks self.old p q)) }
         ensures err { OnErr result (self.new ≡ self.old) }
     {
