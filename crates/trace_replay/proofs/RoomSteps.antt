@@ -8,32 +8,31 @@ use Rattle.model.specs.Commands.{Command, New, Set, Put, Get, Drop, Collect, Cen
 use Rattle.trace_text.specs.Grammar.{entry_of}
 use Rattle.trace_lines.specs.declared.fault.Fault.{Fault}
 use Rattle.trace_lines.specs.declared.fault.Fault.TheVariants.{BadTrace, BadSchedule, HeapFull, NoMemory, ReadFailed, WriteFailed}
-use Rattle.trace_lines.specs.CollectsFirst.{ReadCollectsFirst, LineCollectsFirst, auto_line}
+use Rattle.trace_lines.specs.CollectsFirst.{LineCollectsFirst, auto_line}
 use Rattle.trace_lines.specs.Faults.{MatchFault}
 use Rattle.trace_lines.specs.Outcome.{line_step}
 use Rattle.trace_lines.specs.Stepped.{AtEach, StepsTo, Writes}
-use Rattle.trace_step.specs.Refusals.{MayBeFull, ReadWantsBlocks, ReadAsksTooLarge}
+use Rattle.trace_step.specs.Refusals.{MayBeFull, ReadWantsBlocks, ReadAsksTooLarge, NewLacksBlocks}
 use Rattle.trace_step.specs.SessionType.{Session}
 use Rattle.trace_step.specs.Session.{Stands}
 use Rattle.trace_replay.specs.ReplayStops.{WantsRoom, for_large}
 use Rattle.trace_replay.specs.Replays.{State, state_of, IsNoCollection, MakesRoom, HasMadeRoom, LineReplayed}
 
-read_large : (config : Config) (store : Store) (read : Result (Option Command) Kind) → IsNoCollection read → ReadWantsBlocks config store read → ¬ ReadCollectsFirst config store read → ReadAsksTooLarge config store read
-read_large config store (Err kind) plain wants not = wants
-read_large config store (Ok None) plain wants not = wants
-read_large config store (Ok (Some (New text m p q))) plain (inl wants) not = absurd (not wants.0)
-read_large config store (Ok (Some (New text m p q))) plain (inr lacks) not = lacks
-read_large config store (Ok (Some (Set text i target))) plain wants not = wants
-read_large config store (Ok (Some (Put text i value))) plain wants not = wants
-read_large config store (Ok (Some (Get new_text text i))) plain wants not = wants
-read_large config store (Ok (Some (Drop text))) plain wants not = wants
-read_large config store (Ok (Some (Collect g))) plain wants not = absurd plain
-read_large config store (Ok (Some Census)) plain wants not = wants
-read_large config store (Ok (Some Heap)) plain wants not = wants
+read_large : (config : Config) (s : State) (read : Result (Option Command) Kind) → IsNoCollection read → ReadWantsBlocks config s.store read → NewLacksBlocks s.heap read → ReadAsksTooLarge s.heap read
+read_large config s (Err kind) plain wants lacks = wants
+read_large config s (Ok None) plain wants lacks = wants
+read_large config s (Ok (Some (New text m p q))) plain wants lacks = lacks
+read_large config s (Ok (Some (Set text i target))) plain wants lacks = wants
+read_large config s (Ok (Some (Put text i value))) plain wants lacks = wants
+read_large config s (Ok (Some (Get new_text text i))) plain wants lacks = wants
+read_large config s (Ok (Some (Drop text))) plain wants lacks = wants
+read_large config s (Ok (Some (Collect g))) plain wants lacks = absurd plain
+read_large config s (Ok (Some Census)) plain wants lacks = wants
+read_large config s (Ok (Some Heap)) plain wants lacks = wants
 
 -- a line that collects nothing wants blocks for a large object alone
-pub wants_large : (config : Config) (n : ℕ) (s : State) (line : List ℕ) → IsNoCollection (entry_of line) → MayBeFull config s.store line → ¬ LineCollectsFirst config s.store line → WantsRoom config n s line
-wants_large config n s line plain may not = for_large may.sound (read_large config s.store (entry_of line) plain may.wants not)
+pub wants_large : (config : Config) (n : ℕ) (s : State) (line : List ℕ) → IsNoCollection (entry_of line) → MayBeFull config s.store line → NewLacksBlocks s.heap (entry_of line) → WantsRoom config n s line
+wants_large config n s line plain may lacks = for_large may.sound (read_large config s (entry_of line) plain may.wants lacks)
 
 -- where blocks are wanting at any store
 pub each_short : (stands : Config → Store → Type 0) (number : ℕ) {S W : Type 0} (session session' : S) (writer writer' : W) (failed Short : Type 0) (e : Fault)

@@ -41,10 +41,10 @@ pub record HasScheduleFault (config : Config) (n : ℕ) (kind : ScheduleKind) (s
   pub stops : StopsWith (setting_at s.heap opens.g n) (opening_at s.heap opens.g n) number opens.text at kind
 
 -- a new object without a fault: a small one for which there is no room, and too few blocks for n workers to collect
--- generation 0, or a large one that takes more blocks than are free
+-- generation 0, or a large one that takes more blocks than are free in this heap
 pub data WantsRoom (config : Config) (n : ℕ) (s : State) (line : List ℕ) : Type 0 where
   for_collection : IsSound config s.store line → LineCollectsFirst config s.store line → IsShortOfBlocks s.heap 0 n → WantsRoom config n s line
-  for_large : IsSound config s.store line → ReadAsksTooLarge config s.store (entry_of line) → WantsRoom config n s line
+  for_large : IsSound config s.store line → ReadAsksTooLarge s.heap (entry_of line) → WantsRoom config n s line
 
 -- the line has no fault, and blocks are wanting in it
 pub data WantsBlocks (config : Config) (n : ℕ) (s : State) (number : ℕ) (left : List Piece) (at : ℕ) : Type 0 where

@@ -13,14 +13,13 @@ use Rattle.model.specs.Store.{Store, empty_store}
 use Rattle.model.specs.Commands.{New, Drop, room_in, is_large_size, is_too_big, with_new, with_room, without_name}
 use Rattle.heap.specs.HeapValue.{HeapValue, empty_heap}
 use Rattle.heap.specs.Commands.{Allocates, AllocatesSmall, AllocatesLarge}
-use Rattle.heap.specs.Commands as commands
 use Rattle.heap_data.specs.declared.root_id.RootId.{RootId}
 use Rattle.trace_lines.specs.CollectsFirst.{CollectsFirst}
 use Rattle.trace_lines.specs.Outcome.{command_step}
 use Rattle.trace_lines.specs.Sound.{IsSoundCommand}
 use Rattle.trace_lines.specs.Stepped.{StepsQuietly}
 use Rattle.trace_names.specs.NamesView.{named}
-use Rattle.trace_session.specs.Refusals.{CommandMayBeFull}
+use Rattle.trace_session.specs.Refusals.{CommandMayBeFull, LacksBlocks}
 use Rattle.store_places.specs.Made.{MadeByCalls, made, allocated, released}
 use Rattle.store_places.specs.Stands.{StandsFor, IsPlaced, IsNamed}
 use Rattle.trace_names.proofs.NamedLemmas.{added, dropped, none_is_some}
@@ -166,14 +165,15 @@ module _ (heap : HeapValue) (names : List (List ℕ × ℕ)) (config : Config) (
   had_room text m p q root heap' (inr allocates) first = not_first text m p q (rw (← stands.config_is) allocates.large) first
 
   -- a large object without blocks has no fault of its own
-  pub large_full : (text : List ℕ) (m p q : ℕ) → named names text ≡ None → m < heap.config.mutators → is_too_big p q ≡ false → IsTrue (commands.is_large_size heap p q) → length heap.free < commands.wanted_blocks heap p q → CommandMayBeFull config store (New text m p q) × ¬ CollectsFirst config store (New text m p q)
-  large_full text m p q free in_range fits big few =
-      let large : is_large_size config (1 + p + q) ≡ true = rw (← stands.config_is) big in (
+  pub large_full : (text : List ℕ) (m p q : ℕ) → named names text ≡ None → m < heap.config.mutators → is_too_big p q ≡ false → LacksBlocks heap p q → CommandMayBeFull config store (New text m p q) × ¬ CollectsFirst config store (New text m p q) × LacksBlocks heap p q
+  large_full text m p q free in_range fits lacks =
+      let large : is_large_size config (1 + p + q) ≡ true = rw (← stands.config_is) lacks.large in (
         record {
           sound = ap is_ok (new_large text m p q (stands.names_are.free text free) (rw (← stands.config_is) in_range) fits large);
-          wants = inr (record { heap = heap; names = names; stands = stands; large = large; few = few });
+          wants = inr (record { heap = heap; names = names; stands = stands; lacks = lacks });
         },
         not_first text m p q large,
+        lacks,
       )
 
   pub steps_drop : (text : List ℕ) (root : ℕ) (heap' : HeapValue) (names' : List (List ℕ × ℕ)) → named names text ≡ Some root → heap' ≡ record heap { graph = without_root heap.graph root } → names' ≡ dropped names text → StepsQuietly (StandsFor heap' names') config (command_step config store (Drop text))

@@ -19,33 +19,38 @@ pub record IsShortFor (config : Config) (store : Store) (g : ℕ) : Type 0 where
   pub stands : StandsFor heap names config store
   pub short : IsShortOfBlocks heap g
 
--- the object is large, and in a heap that stands for the store fewer blocks are free than it takes
-pub record LacksBlocks (config : Config) (store : Store) (p q : ℕ) : Type 0 where
+-- the object is large, and in this heap fewer blocks are free than it takes: nothing is collected for it
+pub record LacksBlocks (heap : HeapValue) (p q : ℕ) : Type 0 where
+  pub large : IsTrue (is_large_size heap.config (1 + p + q))
+  pub few : length heap.free < wanted_blocks heap p q
+
+-- in a heap that stands for the store the object lacks blocks
+pub record LacksBlocksFor (config : Config) (store : Store) (p q : ℕ) : Type 0 where
   pub heap : HeapValue
   pub names : List (List ℕ × ℕ)
   pub stands : StandsFor heap names config store
-  pub large : IsTrue (is_large_size config (1 + p + q))
-  pub few : length heap.free < wanted_blocks heap p q
-
--- a new object that is large and lacks blocks: nothing is collected for it
-abbrev pub AsksTooLarge : Config → Store → Command → Type 0
-AsksTooLarge config store (New text mutator p q) = LacksBlocks config store p q
-AsksTooLarge config store _ = ⊥
+  pub lacks : LacksBlocks heap p q
 
 -- a collection for which the heap is short, or a small object without room and a heap that is short for the collection of
 -- generation 0, or a large object that lacks blocks
 abbrev pub WantsBlocks : Config → Store → Command → Type 0
 WantsBlocks config store (Collect g) = IsShortFor config store g
-WantsBlocks config store (New text mutator p q) = (CollectsFirst config store (New text mutator p q) × IsShortFor config store 0) ⊎ AsksTooLarge config store (New text mutator p q)
+WantsBlocks config store (New text mutator p q) = (CollectsFirst config store (New text mutator p q) × IsShortFor config store 0) ⊎ LacksBlocksFor config store p q
 WantsBlocks config store _ = ⊥
 
 abbrev pub ReadWantsBlocks : Config → Store → Result (Option Command) Kind → Type 0
 ReadWantsBlocks config store (Ok (Some command)) = WantsBlocks config store command
 ReadWantsBlocks config store _ = ⊥
 
-abbrev pub ReadAsksTooLarge : Config → Store → Result (Option Command) Kind → Type 0
-ReadAsksTooLarge config store (Ok (Some command)) = AsksTooLarge config store command
-ReadAsksTooLarge config store _ = ⊥
+-- what was read is a new object, and it lacks blocks in this heap
+abbrev pub ReadAsksTooLarge : HeapValue → Result (Option Command) Kind → Type 0
+ReadAsksTooLarge heap (Ok (Some (New text mutator p q))) = LacksBlocks heap p q
+ReadAsksTooLarge heap _ = ⊥
+
+-- where what was read is a new object, it lacks blocks in this heap
+abbrev pub NewLacksBlocks : HeapValue → Result (Option Command) Kind → Type 0
+NewLacksBlocks heap (Ok (Some (New text mutator p q))) = LacksBlocks heap p q
+NewLacksBlocks heap _ = Unit {0}
 
 -- the command has no fault at this store, and blocks are wanting in it
 pub record CommandMayBeFull (config : Config) (store : Store) (command : Command) : Type 0 where

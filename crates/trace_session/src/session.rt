@@ -28,7 +28,7 @@ pub struct Session<A: Allocator = Global> {
 
 impl<A: Allocator + Clone> Session<A> {
     ghost use Rattle.trace_session.specs.Session.{Stands};
-    ghost use Rattle.trace_session.specs.Refusals.{CommandMayBeFull};
+    ghost use Rattle.trace_session.specs.Refusals.{CommandMayBeFull, LacksBlocks};
 
     /// A heap without objects, and no names.
     pub fn new(alloc: A, config: Config) -> Result<Session<A>, Fault>
@@ -68,7 +68,7 @@ impl<A: Allocator + Clone> Session<A> {
         ensures full { result ≡ Ok Attempt.NurseryFull → self.new ≡ self.old }
         ensures err { IfErr result (λ e. MatchFault e
             (λ at kind. (at ≡ number) × AtEach (Stands self.old) (λ config store. command_step config store (New name.now mutator pointers plain) ≡ Err kind))
-            (λ at. (at ≡ Some number) × AtEach (Stands self.old) (λ config store. CommandMayBeFull config store (New name.now mutator pointers plain) × ¬ CollectsFirst config store (New name.now mutator pointers plain)))
+            (λ at. (at ≡ Some number) × AtEach (Stands self.old) (λ config store. CommandMayBeFull config store (New name.now mutator pointers plain) × ¬ CollectsFirst config store (New name.now mutator pointers plain) × LacksBlocks self.old.heap pointers plain))
             (λ at. (at ≡ Some number) × AtEach (Stands self.old) (λ config store. IsSoundCommand config store (New name.now mutator pointers plain)))
             ⊥ ⊥) }
     {

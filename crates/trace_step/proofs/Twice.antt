@@ -40,7 +40,8 @@ full_again config store next (Ok None) first wants = first
 full_again config store next (Ok (Some (New text m p q))) first (inl wants) = wants.0
 full_again config store next (Ok (Some (New text m p q))) first (inr lacks) =
     let small : not (is_large_size config (1 + p + q)) ≡ true = (and_parts (not (is_large_size config (1 + p + q))) (not (is_some (room_in config m (1 + p + q) store))) first).0 in
-    absurd (true≢false (sym (rw lacks.large at small)))
+    let large : is_large_size config (1 + p + q) ≡ true = rw (← lacks.stands.config_is) lacks.lacks.large in
+    absurd (true≢false (sym (rw large at small)))
 full_again config store next (Ok (Some (Set text i target))) first wants = absurd first
 full_again config store next (Ok (Some (Put text i value))) first wants = absurd first
 full_again config store next (Ok (Some (Get new_text text i))) first wants = absurd first
@@ -74,10 +75,10 @@ module _ (stands : Config → Store → Type 0) (number : ℕ) (line : List ℕ)
   }
 
   -- a first attempt
-  pub first_fault : ((config : Config) (store : Store) → MayBeFull config store line → ¬ LineCollectsFirst config store line → Full config store) → (new : W) (failed : Type 0) (e : Fault)
+  pub first_fault : {Lacks : Type 0} → ((config : Config) (store : Store) → MayBeFull config store line → ¬ LineCollectsFirst config store line → Lacks → Full config store) → (new : W) (failed : Type 0) (e : Fault)
       → MatchFault e
       (λ at kind. (at ≡ number) × AtEach stands (λ config store. line_step config store line ≡ Err kind) × (new ≡ old))
-      (λ at. (at ≡ Some number) × AtEach stands (λ config store. MayBeFull config store line × ¬ LineCollectsFirst config store line) × (new ≡ old))
+      (λ at. (at ≡ Some number) × AtEach stands (λ config store. MayBeFull config store line × ¬ LineCollectsFirst config store line × Lacks) × (new ≡ old))
       (λ at. (at ≡ Some number) × AtEach stands (λ config store. IsSound config store line) × (new ≡ old))
       ⊥ failed
       → MatchFault e
@@ -87,7 +88,7 @@ module _ (stands : Config → Store → Type 0) (number : ℕ) (line : List ℕ)
       ⊥ failed
   first_fault full new failed (BadTrace at kind) f = (f.0, λ config store there. (f.1 config store there, f.2))
   first_fault full new failed (BadSchedule at kind) f = f
-  first_fault full new failed (HeapFull at) f = (f.0, λ config store there. let may = f.1 config store there in (full config store may.0 may.1, f.2))
+  first_fault full new failed (HeapFull at) f = (f.0, λ config store there. let may = f.1 config store there in (full config store may.0 may.1 may.2, f.2))
   first_fault full new failed (NoMemory at) f = (f.0, λ config store there. silent config store new f.2 (f.1 config store there))
   first_fault full new failed ReadFailed f = f
   first_fault full new failed WriteFailed f = f
@@ -143,10 +144,10 @@ module _ (stands : Config → Store → Type 0) (number : ℕ) (line : List ℕ)
           let again = line_again config store line w.1 w.0 in
           absurd (again.has_room (full config (collected config 0 store) (room config store there).0).1)
 
-      pub second_fault : (before new : W) (failed failed' : Type 0) → contents before ≡ between → (failed → failed') → (e : Fault)
+      pub second_fault : (Lacks : Type 0) (before new : W) (failed failed' : Type 0) → contents before ≡ between → (failed → failed') → (e : Fault)
           → MatchFault e
           (λ at kind. (at ≡ number) × AtEach mid (λ config store. line_step config store line ≡ Err kind) × (new ≡ before))
-          (λ at. (at ≡ Some number) × AtEach mid (λ config store. MayBeFull config store line × ¬ LineCollectsFirst config store line) × (new ≡ before))
+          (λ at. (at ≡ Some number) × AtEach mid (λ config store. MayBeFull config store line × ¬ LineCollectsFirst config store line × Lacks) × (new ≡ before))
           (λ at. (at ≡ Some number) × AtEach mid (λ config store. IsSound config store line) × (new ≡ before))
           ⊥ failed
           → MatchFault e
@@ -154,7 +155,7 @@ module _ (stands : Config → Store → Type 0) (number : ℕ) (line : List ℕ)
           (λ at. (at ≡ Some number) × AtEach stands (λ config store. Full config store × (new ≡ old)))
           (λ at. (at ≡ Some number) × AtEach stands (λ config store. Writes (SoFar config store) (contents old) (contents new)))
           ⊥ failed'
-      second_fault before new failed failed' same told (BadTrace at kind) f = (
+      second_fault Lacks before new failed failed' same told (BadTrace at kind) f = (
         f.0,
         λ config store there.
             let w = wants config store there in
@@ -162,15 +163,15 @@ module _ (stands : Config → Store → Type 0) (number : ℕ) (line : List ℕ)
             let both : Ok (again.next, []) ≡ Err kind = sym again.there_is ∙ f.1 config (collected config 0 store) (room config store there).0 in
             absurd (cc),
       )
-      second_fault before new failed failed' same told (BadSchedule at kind) f = f
-      second_fault before new failed failed' same told (HeapFull at) f = (
+      second_fault Lacks before new failed failed' same told (BadSchedule at kind) f = f
+      second_fault Lacks before new failed failed' same told (HeapFull at) f = (
         f.0,
         λ config store there.
             let w = wants config store there in
             let may = f.1 config (collected config 0 store) (room config store there).0 in
             absurd (may.1 (full_again config store (collected config 0 store) (entry_of line) w.1 may.0.wants)),
       )
-      second_fault before new failed failed' same told (NoMemory at) f = (
+      second_fault Lacks before new failed failed' same told (NoMemory at) f = (
         f.0,
         λ config store there.
             let w = wants config store there in
@@ -181,5 +182,5 @@ module _ (stands : Config → Store → Type 0) (number : ℕ) (line : List ℕ)
               holds = (w.0, inr (w.1, own.holds));
             },
       )
-      second_fault before new failed failed' same told ReadFailed f = f
-      second_fault before new failed failed' same told WriteFailed f = told f
+      second_fault Lacks before new failed failed' same told ReadFailed f = f
+      second_fault Lacks before new failed failed' same told WriteFailed f = told f

@@ -1,13 +1,14 @@
 //! What one line does where the nurseries have room.
 ghost use Rattle.std.specs.Prelude.{◌≡◌, ◌+◌, ◌-◌, ◌^◌, ◌<◌, ◌≤◌, Some, Ok, Err, IfOk, OnOk, IfErr};
 ghost use Rattle.model.specs.Commands.{command_of};
+ghost use Rattle.trace_text.specs.Grammar.{entry_of};
 ghost use Rattle.trace_lines.specs.Attempts.{MatchAttempt};
 ghost use Rattle.trace_lines.specs.CollectsFirst.{LineCollectsFirst};
 ghost use Rattle.trace_lines.specs.Faults.{MatchFault};
 ghost use Rattle.trace_lines.specs.Outcome.{line_step, command_step};
 ghost use Rattle.trace_lines.specs.Sound.{IsSound, IsSoundCommand};
 ghost use Rattle.trace_lines.specs.Stepped.{AtEach, StepsTo};
-ghost use Rattle.trace_prints.specs.Refusals.{MayBeFull, CommandMayBeFull};
+ghost use Rattle.trace_prints.specs.Refusals.{MayBeFull, CommandMayBeFull, NewLacksBlocks};
 ghost use Rattle.trace_prints.specs.Session.{Stands};
 ghost use Rattle.trace_step.specs.Commands.{MakesNone};
 
@@ -74,7 +75,7 @@ pub fn attempt<A: Allocator + Clone, W: Sink>(
     ensures rises { W.failed_writes writer.new ≤ W.failed_writes writer.old + 1 }
     ensures err { IfErr result (λ e. MatchFault e
         (λ at kind. (at ≡ number) × AtEach (Stands session.old) (λ config store. line_step config store line.now ≡ Err kind) × (writer.new ≡ writer.old))
-        (λ at. (at ≡ Some number) × AtEach (Stands session.old) (λ config store. MayBeFull config store line.now × ¬ LineCollectsFirst config store line.now) × (writer.new ≡ writer.old))
+        (λ at. (at ≡ Some number) × AtEach (Stands session.old) (λ config store. MayBeFull config store line.now × ¬ LineCollectsFirst config store line.now × NewLacksBlocks session.old.heap (entry_of line.now)) × (writer.new ≡ writer.old))
         (λ at. (at ≡ Some number) × AtEach (Stands session.old) (λ config store. IsSound config store line.now) × (writer.new ≡ writer.old))
         ⊥
         (W.failed_writes writer.new ≡ W.failed_writes writer.old + 1)) }

@@ -16,7 +16,7 @@ returns-in-Ok-Done-clause-ok g c = λ config store stands.
 pub returns-in-Err-clause-err : goal.returns-in-Err-clause-err
 returns-in-Err-clause-err g c =
     first_fault (Stands c.args.session.now) c.args.number c.args.line.now (λ config store. WantsRoom config c.args.workers (state_of c.args.session.now store) c.args.line.now) (λ config store. HasMadeRoom c.args.workers (state_of c.args.session.now store)) g.W.Sink.contents c.args.writer.now
-    (λ config store may not. wants_large config c.args.workers (state_of c.args.session.now store) c.args.line.now c.requires.plain may not) c.attempt.new.writer _ c.in-Err.fault c.in-Err.ensures.err
+    (λ config store may not lacks. wants_large config c.args.workers (state_of c.args.session.now store) c.args.line.now c.requires.plain may lacks) c.attempt.new.writer _ c.in-Err.fault c.in-Err.ensures.err
 
 pub returns-in-Err-make_room-clause-err : goal.returns-in-Err-make_room-clause-err
 returns-in-Err-make_room-clause-err g c =
@@ -55,4 +55,4 @@ returns-in-Err-attempt-clause-err g c =
     second_fault (Stands c.args.session.now) c.args.number c.args.line.now (λ config store. WantsRoom config c.args.workers (state_of c.args.session.now store) c.args.line.now) (λ config store. HasMadeRoom c.args.workers (state_of c.args.session.now store)) g.W.Sink.contents c.args.writer.now
     (λ config store there. told _ _ c.in-Ok-NurseryFull.field-0 NurseryFull c.in-Ok-NurseryFull.field-0-is (c.in-Ok-NurseryFull.ensures.ok config store there)) (Stands c.make_room.new.session) (g.W.Sink.contents c.make_room.new.writer)
     (made_at_first c.args.workers c.args.session.now c.attempt.new.session c.make_room.new.session same.0 g.W.Sink.contents c.args.writer.now c.attempt.new.writer c.make_room.new.writer same.1 c.in-Ok.ensures.ok)
-    c.make_room.new.writer c.attempt-2.new.writer _ _ refl (λ is. is ∙ ap (λ n. n + 1) (c.in-Ok.ensures.counts ∙ ap (λ w. g.W.Sink.failed_writes w) same.1)) c.in-Err-attempt.fault c.in-Err-attempt.ensures.err
+    _ c.make_room.new.writer c.attempt-2.new.writer _ _ refl (λ is. is ∙ ap (λ n. n + 1) (c.in-Ok.ensures.counts ∙ ap (λ w. g.W.Sink.failed_writes w) same.1)) c.in-Err-attempt.fault c.in-Err-attempt.ensures.err

@@ -21,7 +21,7 @@ returns-in-Err-carry_out_command g c =
       counts = tt;
       rises = c.in-Err-carry_out_command.ensures.rises;
       err =
-          line_fault (Stands c.args.session.now) c.args.number c.args.line.now (command_of c.in-Ok-Command.command) says _ _ _
+          line_fault c.args.session.now (Stands c.args.session.now) c.args.number c.args.line.now (command_of c.in-Ok-Command.command) says _ _ _
           c.in-Err-carry_out_command.fault c.in-Err-carry_out_command.ensures.err;
     }
 
@@ -29,4 +29,4 @@ pub returns-in-Ok-Command-New-clause-err : goal.returns-in-Ok-Command-New-clause
 returns-in-Ok-Command-New-clause-err g c =
     let line_says = subst (λ l. entry_of c.args.line.now ≡ Ok (view l)) c.in-Ok-Command-New.field-0-is c.in-Ok-Command-New.ensures in
     let says = subst (λ k. entry_of c.args.line.now ≡ Ok (Some (command_of k))) c.in-Ok-Command-New.field-0-0-is line_says in
-    new_fault (Stands c.args.session.now) c.args.number c.args.line.now _ says c.args.writer.now _ c.add.result c.add.ensures.err
+    new_fault c.args.session.now (Stands c.args.session.now) c.args.number c.args.line.now _ _ _ _ says c.args.writer.now _ c.add.result c.add.ensures.err

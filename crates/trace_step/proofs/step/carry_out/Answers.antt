@@ -14,7 +14,7 @@ returns-in-Ok-Done-clause-ok g c = λ config store stands. (told _ _ c.in-Ok-Don
 pub returns-in-Err-clause-err : goal.returns-in-Err-clause-err
 returns-in-Err-clause-err g c =
     first_fault (Stands c.args.session.now) c.args.number c.args.line.now (λ config store. MayBeFull config store c.args.line.now) (λ config store written. written ≡ auto_line store) g.W.Sink.contents c.args.writer.now
-    (λ config store may not. may) c.attempt.new.writer _ c.in-Err.fault c.in-Err.ensures.err
+    (λ config store may not lacks. may) c.attempt.new.writer _ c.in-Err.fault c.in-Err.ensures.err
 
 pub returns-in-Err-make_room-clause-err : goal.returns-in-Err-make_room-clause-err
 returns-in-Err-make_room-clause-err g c =
@@ -65,4 +65,4 @@ returns-in-Err-attempt-clause-err g c =
     (λ config store there.
     let made = c.in-Ok.ensures.ok config store (subst (λ s. Stands s config store) (sym same.0) there) in
     (made.0, record { written = auto_line store; held = subst (λ w. Appends (g.W.Sink.contents w) (g.W.Sink.contents c.make_room.new.writer) (auto_line store)) same.1 made.1; holds = refl }))
-    c.make_room.new.writer c.attempt-2.new.writer _ _ refl (λ is. is ∙ ap (λ n. n + 1) (c.in-Ok.ensures.counts ∙ ap (λ w. g.W.Sink.failed_writes w) same.1)) c.in-Err-attempt.fault c.in-Err-attempt.ensures.err
+    _ c.make_room.new.writer c.attempt-2.new.writer _ _ refl (λ is. is ∙ ap (λ n. n + 1) (c.in-Ok.ensures.counts ∙ ap (λ w. g.W.Sink.failed_writes w) same.1)) c.in-Err-attempt.fault c.in-Err-attempt.ensures.err
