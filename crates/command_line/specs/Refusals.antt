@@ -1,5 +1,5 @@
 -- What is told of words that ask for no run, by the kind of clap's error.
-use Rattle.std.specs.Prelude.{◌≡◌, ◌≢◌, ⊤}
+use Rattle.std.specs.Prelude.{◌≢◌, ⊤}
 use Rattle.clap.specs.declared.error.ErrorKind.{ErrorKind}
 use Rattle.clap.specs.declared.error.ErrorKind.TheVariants.{DisplayHelp, DisplayVersion, OutOfMemory}
 use Rattle.command_line.specs.declared.words.Refused.{Refused}

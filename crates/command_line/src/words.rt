@@ -41,10 +41,38 @@ pub enum Refused {
     NoMemory,
 }
 
+/// What the program is, as `--version` tells.
+const VERSION: &str = "0.1.0";
+
+const ABOUT: &str = "Carries out traces of heap commands, in a heap that is collected by copying.
+A trace comes from standard input. What it writes goes to standard output, and a fault to standard error.";
+
+const ABOUT_RUN: &str = "Carries out a trace. A nursery that is full is collected by itself.";
+
+const ABOUT_REPLAY: &str =
+    "Carries out a trace in which each collection has a schedule, up to its line `commit`.";
+
+/// What stands below the options, whatever the help is about.
+const AFTER_HELP: &str = "Examples:
+  gctrace run < trace
+  gctrace run --generations 1 --block-words 64 --blocks 100 < trace
+  gctrace replay --threads 2 < trace-with-schedules
+
+Status:
+  0  each line was carried out
+  1  the heap is full, or memory is wanting
+  2  a line is faulty
+  3  the words are mistaken, or an option is out of range
+  4  a read or a write failed
+
+The lines of traces and schedules are described in docs/FORMATS.md.";
+
 /// An option with one whole number.
-fn number_option<'a>(alloc: Global, name: &'a str, default: &'a str) -> Arg<'a> {
+fn number_option<'a>(alloc: Global, name: &'a str, default: &'a str, help: &'a str) -> Arg<'a> {
     Arg::new(alloc, name)
         .long(name)
+        .value_name("NUMBER")
+        .help(help)
         .value_parser(value_parser!(u64))
         .default_value(default)
 }
@@ -53,28 +81,45 @@ fn number_option<'a>(alloc: Global, name: &'a str, default: &'a str) -> Arg<'a> 
 fn cells_option<'a>(alloc: Global) -> Arg<'a> {
     Arg::new(alloc, "cells")
         .long("cells")
+        .value_name("KIND")
+        .help("Kind of forwarding cells, which changes nothing yet")
         .value_parser(["box"].as_slice())
         .default_value("box")
 }
 
 /// A subcommand with the options that each of them takes.
-fn task_command<'a>(alloc: Global, name: &'a str) -> Result<Command<'a>, AllocError> {
+fn task_command<'a>(
+    alloc: Global,
+    name: &'a str,
+    about: &'a str,
+    threads: &'a str,
+) -> Result<Command<'a>, AllocError> {
+    let of_nurseries = "Blocks of each mutator's nursery: 1 to 64";
+    let of_steps = "Steps of each generation but the oldest: 1 to 4";
+    let of_words = "Words of a block: 16 to 512, a multiple of 4";
     Command::new(alloc, name)
-        .arg(number_option(alloc, "threads", "1"))?
-        .arg(number_option(alloc, "mutators", "1"))?
-        .arg(number_option(alloc, "generations", "2"))?
-        .arg(number_option(alloc, "steps", "2"))?
-        .arg(number_option(alloc, "block-words", "512"))?
-        .arg(number_option(alloc, "nursery", "4"))?
-        .arg(number_option(alloc, "blocks", "4096"))
+        .about(about)
+        .after_help(AFTER_HELP)
+        .arg(number_option(alloc, "threads", "1", threads))?
+        .arg(number_option(alloc, "mutators", "1", "Mutators: 1 to 16"))?
+        .arg(number_option(alloc, "generations", "2", "Generations: 1 to 4"))?
+        .arg(number_option(alloc, "steps", "2", of_steps))?
+        .arg(number_option(alloc, "block-words", "512", of_words))?
+        .arg(number_option(alloc, "nursery", "4", of_nurseries))?
+        .arg(number_option(alloc, "blocks", "4096", "Blocks in all: 1 to 65535"))
 }
 
 fn gctrace_command<'a>(alloc: Global) -> Result<Command<'a>, AllocError> {
-    let run = task_command(alloc, "run")?.arg(cells_option(alloc))?;
+    let run = task_command(alloc, "run", ABOUT_RUN, "Workers of a collection: 1")?;
+    let of_workers = "Workers of a collection: 1 to 16";
+    let replay = task_command(alloc, "replay", ABOUT_REPLAY, of_workers)?;
     Command::new(alloc, "gctrace")
+        .version(VERSION)
+        .about(ABOUT)
+        .after_help(AFTER_HELP)
         .subcommand_required(true)
-        .subcommand(run)?
-        .subcommand(task_command(alloc, "replay")?)
+        .subcommand(run.arg(cells_option(alloc))?)?
+        .subcommand(replay)
 }
 
 /// The task of the subcommand of this name.

@@ -243,7 +243,12 @@ fn mistakes_in_the_words(rt: HostRuntime) {
         assert_eq!(rt; (ended.status, ended.output.is_empty()), (3, true));
         assert!(rt; !ended.errors.is_empty());
     }
-    for words in [["gctrace", "--help"].as_slice(), &["gctrace", "run", "-h"]] {
+    for words in [
+        ["gctrace", "--help"].as_slice(),
+        &["gctrace", "help", "replay"],
+        &["gctrace", "run", "-h"],
+        &["gctrace", "run", "--steps", "3", "--help", "--blocks", "9"],
+    ] {
         let ended = ran(rt.alloc(), words, b"new\n");
         assert_eq!(rt; (ended.status, ended.errors.is_empty()), (0, true));
         assert!(rt; !ended.output.is_empty());
@@ -253,7 +258,7 @@ fn mistakes_in_the_words(rt: HostRuntime) {
 #[test]
 fn texts_of_mistakes(rt: HostRuntime) {
     let bad_value =
-        b"error: invalid value 'x' for '--threads <threads>': invalid digit found in string
+        b"error: invalid value 'x' for '--threads <NUMBER>': invalid digit found in string
 
 For more information, try '--help'.
 ";
@@ -270,18 +275,34 @@ For more information, try '--help'.
 
 #[test]
 fn text_of_help(rt: HostRuntime) {
-    let help = b"Usage: gctrace run [OPTIONS]
+    let help = b"Carries out a trace. A nursery that is full is collected by itself.
+
+Usage: gctrace run [OPTIONS]
 
 Options:
-      --threads <threads>          [default: 1]
-      --mutators <mutators>        [default: 1]
-      --generations <generations>  [default: 2]
-      --steps <steps>              [default: 2]
-      --block-words <block-words>  [default: 512]
-      --nursery <nursery>          [default: 4]
-      --blocks <blocks>            [default: 4096]
-      --cells <cells>              [default: box] [possible values: box]
-  -h, --help                       Print help
+      --threads <NUMBER>      Workers of a collection: 1 [default: 1]
+      --mutators <NUMBER>     Mutators: 1 to 16 [default: 1]
+      --generations <NUMBER>  Generations: 1 to 4 [default: 2]
+      --steps <NUMBER>        Steps of each generation but the oldest: 1 to 4 [default: 2]
+      --block-words <NUMBER>  Words of a block: 16 to 512, a multiple of 4 [default: 512]
+      --nursery <NUMBER>      Blocks of each mutator's nursery: 1 to 64 [default: 4]
+      --blocks <NUMBER>       Blocks in all: 1 to 65535 [default: 4096]
+      --cells <KIND>          Kind of forwarding cells, which changes nothing yet [default: box] [possible values: box]
+  -h, --help                  Print help
+
+Examples:
+  gctrace run < trace
+  gctrace run --generations 1 --block-words 64 --blocks 100 < trace
+  gctrace replay --threads 2 < trace-with-schedules
+
+Status:
+  0  each line was carried out
+  1  the heap is full, or memory is wanting
+  2  a line is faulty
+  3  the words are mistaken, or an option is out of range
+  4  a read or a write failed
+
+The lines of traces and schedules are described in docs/FORMATS.md.
 ";
     assert_run(
         &rt,
@@ -292,4 +313,11 @@ Options:
         b"",
         0,
     );
+}
+
+#[test]
+fn version(rt: HostRuntime) {
+    for words in [["gctrace", "--version"], ["gctrace", "-V"]] {
+        assert_run(&rt, rt.alloc(), &words, b"", b"gctrace 0.1.0\n", b"", 0);
+    }
 }
