@@ -189,11 +189,14 @@ fn is_cut_off(alloc: Global, lines: &[Line], number: u128, output: &[u8]) -> Res
     Ok(output == before.as_slice() || is_automatic(lines, number) && output == with_it.as_slice())
 }
 
+/// Blocks enough for each run and replay.
+const AMPLE: u64 = 40;
+
 /// Three generations and two mutators, whose nurseries have one block of 16 words.
-fn sizes() -> Sizes {
+fn sizes(blocks: u64) -> Sizes {
     Sizes {
         block_words: 16,
-        blocks: 40,
+        blocks,
         mutators: 2,
         nursery_blocks: 1,
         generations: 3,
@@ -204,12 +207,12 @@ fn sizes() -> Sizes {
 fn one_worker() -> Result<RunConfig, Fail>
     ensures { IfOk result (λ run. run.workers ≡ 1) }
 {
-    let config = Config::new(sizes())?;
+    let config = Config::new(sizes(AMPLE))?;
     Ok(RunConfig::new(config, 1)?)
 }
 
-fn two_workers() -> Result<RunConfig, Fail> {
-    let config = Config::new(sizes())?;
+fn two_workers(blocks: u64) -> Result<RunConfig, Fail> {
+    let config = Config::new(sizes(blocks))?;
     Ok(RunConfig::new(config, 2)?)
 }
 
@@ -241,7 +244,7 @@ fn ran(alloc: Global, input: &[u8], refused: u64) -> Result<Ended, Fail> {
     })
 }
 
-fn replayed(alloc: Global, input: &[u8], refused: u64) -> Result<Ended, Fail> {
+fn replayed(alloc: Global, input: &[u8], blocks: u64, refused: u64) -> Result<Ended, Fail> {
     let refusing = Refusing::new(alloc, refused);
     let mut reader = CountedReader {
         inner: input,
@@ -251,7 +254,7 @@ fn replayed(alloc: Global, input: &[u8], refused: u64) -> Result<Ended, Fail> {
         inner: Vec::new(alloc),
         failed_writes: 0,
     };
-    let result = replay(&refusing, &mut reader, &mut writer, two_workers()?);
+    let result = replay(&refusing, &mut reader, &mut writer, two_workers(blocks)?);
     Ok(Ended {
         result,
         output: writer.inner,
@@ -313,13 +316,45 @@ pub(crate) fn assert_each_replay_refused(
 ) -> Result<(), Fail> {
     let input = input_of(alloc, lines)?;
     for refused in 0..MANY {
-        let ended = replayed(alloc, input.as_slice(), refused)?;
+        let ended = replayed(alloc, input.as_slice(), AMPLE, refused)?;
         if ended.result.is_ok() {
             assert_whole(rt, alloc, lines, &ended)?;
             assert!(rt; refused > least);
             return Ok(());
         }
         assert_refused(rt, alloc, lines, &ended)?;
+    }
+    Err(Fail::from("each replay was refused"))
+}
+
+/// Asserts that blocks were wanting: nothing but the output of the lines before the refused one, and all is given back.
+fn assert_full(rt: &impl Abort, alloc: Global, lines: &[Line], ended: &Ended) -> Result<(), Fail> {
+    let Err(Fault::HeapFull(Some(number))) = ended.result else {
+        return Err(Fail::from("another answer than heap full in a line"));
+    };
+    let output = output_before(alloc, lines, number)?;
+    assert_eq!(rt; ended.output.as_slice(), output.as_slice());
+    assert_eq!(rt; ended.asked, ended.returned);
+    Ok(())
+}
+
+/// Asserts that each draw of a block in a replay is refused in turn, by a heap of the nurseries' two blocks, and of one more
+/// each time, and that more than `least` are needed.
+pub(crate) fn assert_each_draw_refused(
+    rt: &impl Abort,
+    alloc: Global,
+    lines: &[Line],
+    least: u64,
+) -> Result<(), Fail> {
+    let input = input_of(alloc, lines)?;
+    for blocks in 2..AMPLE {
+        let ended = replayed(alloc, input.as_slice(), blocks, MANY)?;
+        if ended.result.is_ok() {
+            assert_whole(rt, alloc, lines, &ended)?;
+            assert!(rt; blocks > least);
+            return Ok(());
+        }
+        assert_full(rt, alloc, lines, &ended)?;
     }
     Err(Fail::from("each replay was refused"))
 }
@@ -332,4 +367,9 @@ fn each_request_of_a_run_is_refused(rt: HostRuntime) -> Result<(), Fail> {
 #[test]
 fn each_request_of_a_replay_is_refused(rt: HostRuntime) -> Result<(), Fail> {
     assert_each_replay_refused(&rt, rt.alloc(), replay_lines(), 80)
+}
+
+#[test]
+fn each_draw_of_a_replay_is_refused(rt: HostRuntime) -> Result<(), Fail> {
+    assert_each_draw_refused(&rt, rt.alloc(), replay_lines(), 4)
 }

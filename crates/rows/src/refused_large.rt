@@ -1,6 +1,8 @@
 //! Runs and replays with large objects in two generations and in a remembered set, whose requests for memory are refused in
 //! turn.
-use crate::refused_generations::{Line, assert_each_replay_refused, assert_each_run_refused};
+use crate::refused_generations::{
+    Line, assert_each_draw_refused, assert_each_replay_refused, assert_each_run_refused,
+};
 use std::test::Fail;
 
 /// The third collection finds a large object in a remembered set, and one that is gone.
@@ -96,4 +98,9 @@ fn each_request_of_a_run_with_large_objects_is_refused(rt: HostRuntime) -> Resul
 #[test]
 fn each_request_of_a_replay_with_large_objects_is_refused(rt: HostRuntime) -> Result<(), Fail> {
     assert_each_replay_refused(&rt, rt.alloc(), replay_lines(), 40)
+}
+
+#[test]
+fn each_draw_of_a_replay_with_large_objects_is_refused(rt: HostRuntime) -> Result<(), Fail> {
+    assert_each_draw_refused(&rt, rt.alloc(), replay_lines(), 6)
 }

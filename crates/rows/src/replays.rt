@@ -34,6 +34,9 @@ const ONE_WORKER: [&str; 4] = ["gctrace", "replay", "--generations", "1"];
 
 const TWO_WORKERS: [&str; 6] = ["gctrace", "replay", "--generations", "1", "--threads", "2"];
 
+/// Two workers, and all else as it is where no word says otherwise.
+const TWO_ALONE: [&str; 4] = ["gctrace", "replay", "--threads", "2"];
+
 /// A block is full while it is in hand, and the next copy retires it there: it is never exported.
 const RETIRED_IN_HAND: Row = Row {
     words: &[
@@ -90,7 +93,7 @@ worker 0: 5 won, 5 scanned
 
 /// A worker that was idle wakes, and the ends come in any order.
 const WAKE_AND_END: Row = Row {
-    words: &TWO_WORKERS,
+    words: &TWO_ALONE,
     input: b"collect 0\nidle 0\nwake 0\nidle 0\nidle 1\nend 1\nend 0\ncommit\n",
     output: b"collected 0: 0 kept, 0 freed
 worker 0: 0 won, 0 scanned
@@ -330,7 +333,7 @@ const fn stopped(
 fn faults_of_schedules(rt: HostRuntime) {
     let rows = [
         stopped(
-            &TWO_WORKERS,
+            &TWO_ALONE,
             b"collect 0\nidle 0\nidle 1\nwake 0\n",
             b"gctrace: line 4: event not lawful\n",
         ),
