@@ -5,18 +5,22 @@ use machine::{Event, Machine, StepError};
 use std::alloc::Global;
 use std::test::Fail;
 
-/// An event of worker `t`, of the kind that is numbered so, the last for all numbers from 9 on.
-pub(crate) fn event_at(kind: u32, t: u32, u: u32) -> Event {
-    match kind {
+/// How many events of a worker `event_at` tells apart.
+pub(crate) const EVENTS: u32 = 40;
+
+/// The event of worker `t` that is numbered so, the last for all numbers from 39 on. What it takes of each of 16 workers
+/// comes in turn, from worker `first` on, and so do 16 destinations.
+pub(crate) fn event_at(number: u32, t: u32, first: u32) -> Event {
+    match number {
         0 => Event::Race(t),
         1 => Event::Look(t),
         2 => Event::Scan(t),
         3 => Event::Export(t),
-        4 => Event::Take(t, u),
-        5 => Event::Own(t, 0),
-        6 => Event::OwnLarge(t),
-        7 => Event::Idle(t),
-        8 => Event::Wake(t),
+        4..=19 => Event::Take(t, number.wrapping_add(first).wrapping_sub(4) % 16),
+        20..=35 => Event::Own(t, number.wrapping_sub(20) as usize),
+        36 => Event::OwnLarge(t),
+        37 => Event::Idle(t),
+        38 => Event::Wake(t),
         _ => Event::End(t),
     }
 }
@@ -39,12 +43,26 @@ fn heap_of_one(alloc: Global) -> Result<Heap, Fail> {
     Ok(heap)
 }
 
+/// The events of a worker that is alone, with one destination.
+const OF_ONE: [Event; 10] = [
+    Event::Race(0),
+    Event::Look(0),
+    Event::Scan(0),
+    Event::Export(0),
+    Event::Take(0, 0),
+    Event::Own(0, 0),
+    Event::OwnLarge(0),
+    Event::Idle(0),
+    Event::Wake(0),
+    Event::End(0),
+];
+
 /// The list of three events of one worker that is numbered so, below 1,000.
-fn three_events(number: u32) -> [Event; 3] {
+fn three_events(number: usize) -> [Event; 3] {
     [
-        event_at(number / 100, 0, 0),
-        event_at(number / 10 % 10, 0, 0),
-        event_at(number % 10, 0, 0),
+        OF_ONE[number / 100 % 10],
+        OF_ONE[number / 10 % 10],
+        OF_ONE[number % 10],
     ]
 }
 
@@ -68,7 +86,7 @@ fn ends_so(alloc: Global, heap: &Heap, events: &[Event; 3]) -> Result<bool, Fail
 }
 
 /// The first list that ends otherwise, or after which the census is another.
-fn first_other(alloc: Global, heap: &Heap) -> Result<Option<u32>, Fail> {
+fn first_other(alloc: Global, heap: &Heap) -> Result<Option<usize>, Fail> {
     let before = census_of(alloc, heap)?;
     for number in 0..1000 {
         let is_so = ends_so(alloc, heap, &three_events(number))?;

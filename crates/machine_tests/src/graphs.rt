@@ -1,5 +1,6 @@
 //! Heaps with a graph that a seed draws.
-use heap::{Config, Heap, RootId, Sizes};
+use collector::collect_one;
+use heap::{AllocateError, Config, Heap, RootId, Sizes};
 use rand_core::utils::NextWord;
 use rand_pcg::Pcg32;
 use std::alloc::Global;
@@ -24,22 +25,35 @@ impl Draws {
     }
 }
 
-/// A heap, and the roots that lead into its graph.
+/// Which graph is drawn, and the heap for it.
+#[derive(Clone, Copy)]
+pub(crate) struct Drawing {
+    pub(crate) seed: u64,
+    /// How many objects are made after the heap has aged.
+    pub(crate) count: u32,
+    /// How many blocks there are beside the nursery's.
+    pub(crate) blocks: u64,
+    /// How many of these blocks objects take that are no part of the graph.
+    pub(crate) taken: u32,
+}
+
+/// A heap, the roots that lead into its graph, and which generation is the oldest to collect.
 #[derive(Drop)]
 pub(crate) struct Graph {
     pub(crate) heap: Heap,
     pub(crate) roots: Vec<RootId>,
+    pub(crate) generation: u64,
 }
 
-/// A heap of one generation, with a nursery of 8 blocks of 64 words, and so many other blocks.
-fn heap_with(alloc: Global, free: u64) -> Result<Heap, Fail> {
+/// A heap of one to three generations, with a nursery of 8 blocks of 64 words.
+fn heap_of(alloc: Global, generations: u32, steps: u32, blocks: u64) -> Result<Heap, Fail> {
     let sizes = Sizes {
         block_words: 64,
-        blocks: free.saturating_add(8),
+        blocks: blocks.saturating_add(8),
         mutators: 1,
         nursery_blocks: 8,
-        generations: 1,
-        steps: 1,
+        generations: generations as u64,
+        steps: steps as u64,
     };
     let Ok(config) = Config::new(sizes) else {
         return Err(Fail::from("bad sizes"));
@@ -47,25 +61,28 @@ fn heap_with(alloc: Global, free: u64) -> Result<Heap, Fail> {
     Ok(Heap::new(alloc, config)?)
 }
 
-/// A new object of three pointers and one to four words, the first of which marks it.
+/// How many plain words an object has: one in eight is large.
+fn plain_words(draws: &mut Draws) -> u32 {
+    if draws.below(8) == 0 {
+        return draws.below(100).saturating_add(20);
+    }
+    draws.below(4).saturating_add(1)
+}
+
+/// A new object of three pointers and some words, the first of which marks it.
 fn add_object(heap: &mut Heap, draws: &mut Draws) -> Result<RootId, Fail> {
-    let plain_words = draws.below(4).saturating_add(1);
-    let root = heap.allocate(0, 3, plain_words as u64)?;
+    let plain = plain_words(draws);
+    let root = heap.allocate(0, 3, plain as u64)?;
     heap.put(root, 0, draws.below(1000) as u64)?;
     Ok(root)
 }
 
-fn add_objects(
-    alloc: Global,
-    heap: &mut Heap,
-    draws: &mut Draws,
-    count: u32,
-) -> Result<Vec<RootId>, Fail> {
-    let mut objects = Vec::new(alloc);
+fn add_objects(graph: &mut Graph, draws: &mut Draws, count: u32) -> Result<(), Fail> {
     for _object in 0..count {
-        objects.push(add_object(heap, draws)?)?;
+        let root = add_object(&mut graph.heap, draws)?;
+        graph.roots.push(root)?;
     }
-    Ok(objects)
+    Ok(())
 }
 
 /// Lets fields of an object lead to some of these objects, itself among them.
@@ -91,30 +108,70 @@ fn link_all(heap: &mut Heap, draws: &mut Draws, objects: &[RootId]) -> Result<()
     Ok(())
 }
 
-/// Releases all but some of these roots, the first among those that stay.
-fn release_most(
-    alloc: Global,
-    heap: &mut Heap,
-    draws: &mut Draws,
-    objects: &[RootId],
-) -> Result<Vec<RootId>, Fail> {
+/// Releases all but some of the roots, the first among those that stay.
+fn release_most(alloc: Global, graph: &mut Graph, draws: &mut Draws) -> Result<(), Fail> {
     let mut roots = Vec::new(alloc);
-    for object in objects {
+    for object in graph.roots.iter() {
         if roots.is_empty() || draws.below(6) == 0 {
             roots.push(*object)?;
         } else {
-            heap.release(*object)?;
+            graph.heap.release(*object)?;
         }
     }
-    Ok(roots)
+    graph.roots = roots;
+    Ok(())
 }
 
-/// So many objects, with cycles and shared ones among them, in a heap with so many free blocks.
-pub(crate) fn drawn_graph(alloc: Global, seed: u64, count: u32, free: u64) -> Result<Graph, Fail> {
-    let mut draws = Draws::new(seed);
-    let mut heap = heap_with(alloc, free)?;
-    let objects = add_objects(alloc, &mut heap, &mut draws, count)?;
-    link_all(&mut heap, &mut draws, &objects)?;
-    let roots = release_most(alloc, &mut heap, &mut draws, &objects)?;
-    Ok(Graph { heap, roots })
+/// So many new objects, linked with those that have roots, of which most lose theirs then.
+fn grow(alloc: Global, graph: &mut Graph, draws: &mut Draws, count: u32) -> Result<(), Fail> {
+    add_objects(graph, draws, count)?;
+    link_all(&mut graph.heap, draws, &graph.roots)?;
+    release_most(alloc, graph, draws)
+}
+
+/// Up to three times objects are made, and some generations collected.
+fn age(alloc: Global, graph: &mut Graph, draws: &mut Draws, generations: u32) -> Result<(), Fail> {
+    for _time in 0..draws.below(4) {
+        let count = draws.below(20);
+        grow(alloc, graph, draws, count)?;
+        let _report = collect_one(alloc, &mut graph.heap, draws.below(generations) as u64)?;
+    }
+    Ok(())
+}
+
+/// Takes so many blocks, each for a large object with a root of its own.
+fn take_blocks(heap: &mut Heap, count: u32) -> Result<(), Fail> {
+    for _block in 0..count {
+        let _root = heap.allocate(0, 0, 60)?;
+    }
+    Ok(())
+}
+
+/// The graph of that seed, with cycles and shared objects in it, large ones and old ones.
+pub(crate) fn drawn_graph(alloc: Global, drawing: Drawing) -> Result<Graph, Fail> {
+    let mut draws = Draws::new(drawing.seed);
+    let generations = draws.below(3).saturating_add(1);
+    let steps = draws.below(2).saturating_add(1);
+    let mut graph = Graph {
+        heap: heap_of(alloc, generations, steps, drawing.blocks)?,
+        roots: Vec::new(alloc),
+        generation: draws.below(generations) as u64,
+    };
+    age(alloc, &mut graph, &mut draws, generations)?;
+    grow(alloc, &mut graph, &mut draws, drawing.count)?;
+    take_blocks(&mut graph.heap, drawing.taken)?;
+    Ok(graph)
+}
+
+/// How many blocks are free beside such a graph.
+pub(crate) fn free_beside(alloc: Global, drawing: Drawing) -> Result<u32, Fail> {
+    let mut graph = drawn_graph(alloc, drawing)?;
+    for count in 0..100_000 {
+        match graph.heap.allocate(0, 0, 60) {
+            Ok(_) => {}
+            Err(AllocateError::HeapFull) => return Ok(count),
+            Err(error) => return Err(Fail::from(error)),
+        }
+    }
+    Err(Fail::from("no end of blocks"))
 }

@@ -1,8 +1,8 @@
 //! Collections by several workers leave what a collection by one leaves.
 ghost use Rattle.std.specs.Prelude.{◌≡◌};
 
-use crate::events::event_at;
-use crate::graphs::{Draws, Graph, drawn_graph};
+use crate::events::{EVENTS, event_at};
+use crate::graphs::{Drawing, Draws, Graph, drawn_graph, free_beside};
 use collector::collect_one;
 use heap::{Heap, RootId};
 use heap_text::{Counted, Name, write_census, write_heap};
@@ -10,41 +10,30 @@ use machine::{Event, Machine, StepError};
 use std::alloc::Global;
 use std::test::Fail;
 
+/// How many schedules are drawn.
+const SCHEDULES: u64 = 2000;
+
+/// So many blocks are enough for what a seed draws, and for its collections by one worker.
+const AMPLE: u64 = 200;
+
 /// In which order the workers' events come.
 #[derive(Clone, Copy)]
 enum Schedule {
     /// One worker after another, each with one event.
     InTurn,
-    /// So many tries of events that the seed draws, and then what comes next by itself.
-    Drawn { seed: u64, tries: u32 },
+    /// So many events that the seed draws, and then what comes next by itself.
+    Drawn { seed: u64, steps: u32 },
 }
 
 /// What a worker does in its turn: it takes of another before it takes of itself.
-fn turn_of(machine: &Machine<'_>, t: u32, u: u32) -> Option<Event> {
-    let own = Event::Take(t, t);
-    for kind in 0..10 {
-        let event = event_at(kind, t, u);
+fn turn_of(machine: &Machine<'_>, t: u32) -> Option<Event> {
+    for number in 0..EVENTS {
+        let event = event_at(number, t, t.wrapping_add(1));
         if machine.lawful(event) {
             return Some(event);
         }
-        if kind == 4 && machine.lawful(own) {
-            return Some(own);
-        }
     }
     None
-}
-
-/// The event comes where it is lawful, and nothing where it isn't.
-fn attempt(machine: &mut Machine<'_>, event: Event) -> Result<(), StepError>
-    ensures { machine.new.heap ≡ machine.old.heap }
-{
-    let lawful = machine.lawful(event);
-    match machine.step(event) {
-        Ok(()) if lawful => Ok(()),
-        Err(StepError::NotLawful) if !lawful => Ok(()),
-        Ok(()) => Err(StepError::NotLawful),
-        Err(error) => Err(error),
-    }
 }
 
 /// The workers take turns, until nothing is left to do.
@@ -53,22 +42,65 @@ fn take_turns(machine: &mut Machine<'_>, n: u32) -> Result<(), StepError>
 {
     for turn in 0..100_000_u32 {
         let t = turn.checked_rem(n).unwrap_or(0);
-        let u = turn.wrapping_add(1).checked_rem(n).unwrap_or(0);
-        if let Some(event) = turn_of(machine, t, u) {
+        if let Some(event) = turn_of(machine, t) {
             machine.step(event)?;
         }
     }
     Ok(machine.finish()?)
 }
 
-/// So many events are tried.
-fn wander(machine: &mut Machine<'_>, n: u32, draws: &mut Draws, tries: u32) -> Result<(), StepError>
+/// Tries each event of a worker. One that can't come is refused. Gives one of those that can come, which `draws` chooses, or what was
+/// chosen of so many before.
+fn try_each(
+    machine: &mut Machine<'_>,
+    t: u32,
+    draws: &mut Draws,
+    chosen: (u32, Option<Event>),
+) -> Result<(u32, Option<Event>), StepError>
     ensures { machine.new.heap ≡ machine.old.heap }
 {
-    for _try in 0..tries {
-        let t = draws.below(n);
-        let u = draws.below(n);
-        attempt(machine, event_at(draws.below(10), t, u))?;
+    let (mut count, mut event) = chosen;
+    for number in 0..EVENTS {
+        let other = event_at(number, t, 0);
+        if machine.lawful(other) {
+            count = count.saturating_add(1);
+            if draws.below(count) == 0 {
+                event = Some(other);
+            }
+        } else if machine.step(other) != Err(StepError::NotLawful) {
+            return Err(StepError::NotLawful);
+        }
+    }
+    Ok((count, event))
+}
+
+/// Tries each event of each worker, which changes nothing, and carries out one of those that can come. Tells whether there is one.
+fn step_drawn(machine: &mut Machine<'_>, n: u32, draws: &mut Draws) -> Result<bool, StepError>
+    ensures { machine.new.heap ≡ machine.old.heap }
+{
+    let next = machine.next_lawful();
+    let mut chosen = (0, None);
+    for t in 0..n {
+        chosen = try_each(machine, t, draws, chosen)?;
+    }
+    if machine.next_lawful() != next {
+        return Err(StepError::NotLawful);
+    }
+    let Some(event) = chosen.1 else {
+        return Ok(false);
+    };
+    machine.step(event)?;
+    Ok(true)
+}
+
+/// So many drawn events come.
+fn wander(machine: &mut Machine<'_>, n: u32, draws: &mut Draws, steps: u32) -> Result<(), StepError>
+    ensures { machine.new.heap ≡ machine.old.heap }
+{
+    for _step in 0..steps {
+        if !step_drawn(machine, n, draws)? {
+            break;
+        }
     }
     Ok(machine.finish()?)
 }
@@ -78,18 +110,19 @@ fn drive(machine: &mut Machine<'_>, n: u32, schedule: Schedule) -> Result<(), St
 {
     match schedule {
         Schedule::InTurn => take_turns(machine, n),
-        Schedule::Drawn { seed, tries } => wander(machine, n, &mut Draws::new(seed), tries),
+        Schedule::Drawn { seed, steps } => wander(machine, n, &mut Draws::new(seed), steps),
     }
 }
 
 /// Collects with so many workers, and tells how many objects were kept and freed, unless blocks ran out.
 fn collected(
     alloc: Global,
-    heap: &mut Heap,
+    graph: &mut Graph,
     n: u32,
     schedule: Schedule,
 ) -> Result<Option<(u64, u64)>, Fail> {
-    let mut machine = Machine::open(alloc, heap, 0, n)?;
+    let heap = &mut graph.heap;
+    let mut machine = Machine::open(alloc, heap, graph.generation, n)?;
     match drive(&mut machine, n, schedule) {
         Ok(()) => {}
         Err(StepError::HeapFull) => return Ok(None),
@@ -133,44 +166,50 @@ fn seen(alloc: Global, graph: &Graph) -> Result<Vec<u8>, Fail> {
     Ok(all)
 }
 
-/// What one worker leaves of such a graph, and how many objects it kept and freed.
-fn left_by_one(
-    alloc: Global,
-    seed: u64,
-    count: u32,
-) -> Result<(Option<(u64, u64)>, Vec<u8>), Fail> {
-    let mut graph = drawn_graph(alloc, seed, count, 40)?;
-    let report = collect_one(alloc, &mut graph.heap, 0)?;
-    let text = seen(alloc, &graph)?;
-    Ok((Some((report.kept, report.freed)), text))
+/// How many objects a collection kept and freed, unless blocks ran out, and what it left.
+#[derive(Drop, PartialEq)]
+struct Left {
+    counts: Option<(u64, u64)>,
+    text: Vec<u8>,
 }
 
-/// What so many workers leave of it, with so many free blocks.
-fn left_by_many(
-    alloc: Global,
-    seed: u64,
-    count: u32,
-    free: u64,
-    n: u32,
-    schedule: Schedule,
-) -> Result<(Option<(u64, u64)>, Vec<u8>), Fail> {
-    let mut graph = drawn_graph(alloc, seed, count, free)?;
-    let answer = collected(alloc, &mut graph.heap, n, schedule)?;
-    let text = seen(alloc, &graph)?;
-    Ok((answer, text))
+/// What one worker leaves of such a graph.
+fn left_by_one(alloc: Global, drawing: Drawing) -> Result<Left, Fail> {
+    let mut graph = drawn_graph(alloc, drawing)?;
+    let report = collect_one(alloc, &mut graph.heap, graph.generation)?;
+    Ok(Left {
+        counts: Some((report.kept, report.freed)),
+        text: seen(alloc, &graph)?,
+    })
+}
+
+/// What so many workers leave of it.
+fn left_by_many(alloc: Global, drawing: Drawing, n: u32, schedule: Schedule) -> Result<Left, Fail> {
+    let mut graph = drawn_graph(alloc, drawing)?;
+    let counts = collected(alloc, &mut graph, n, schedule)?;
+    Ok(Left {
+        counts,
+        text: seen(alloc, &graph)?,
+    })
 }
 
 /// Whether so many workers in turn leave what one leaves.
-fn agrees_in_turn(alloc: Global, seed: u64, count: u32, n: u32) -> Result<bool, Fail> {
-    let one = left_by_one(alloc, seed, count)?;
-    let many = left_by_many(alloc, seed, count, 40, n, Schedule::InTurn)?;
+fn agrees_in_turn(alloc: Global, seed: u64, n: u32) -> Result<bool, Fail> {
+    let drawing = Drawing {
+        seed,
+        count: 50,
+        blocks: AMPLE,
+        taken: 0,
+    };
+    let one = left_by_one(alloc, drawing)?;
+    let many = left_by_many(alloc, drawing, n, Schedule::InTurn)?;
     Ok(one == many)
 }
 
 #[test]
 fn one_worker_in_turn(rt: HostRuntime) -> Result<(), Fail> {
     for seed in 0..20 {
-        assert!(rt; agrees_in_turn(rt.alloc(), seed, 60, 1)?);
+        assert!(rt; agrees_in_turn(rt.alloc(), seed, 1)?);
     }
     Ok(())
 }
@@ -178,7 +217,7 @@ fn one_worker_in_turn(rt: HostRuntime) -> Result<(), Fail> {
 #[test]
 fn two_workers_in_turn(rt: HostRuntime) -> Result<(), Fail> {
     for seed in 0..20 {
-        assert!(rt; agrees_in_turn(rt.alloc(), seed, 60, 2)?);
+        assert!(rt; agrees_in_turn(rt.alloc(), seed, 2)?);
     }
     Ok(())
 }
@@ -186,7 +225,7 @@ fn two_workers_in_turn(rt: HostRuntime) -> Result<(), Fail> {
 #[test]
 fn three_workers_in_turn(rt: HostRuntime) -> Result<(), Fail> {
     for seed in 0..20 {
-        assert!(rt; agrees_in_turn(rt.alloc(), seed, 60, 3)?);
+        assert!(rt; agrees_in_turn(rt.alloc(), seed, 3)?);
     }
     Ok(())
 }
@@ -201,21 +240,28 @@ struct Ends {
 /// Whether a drawn schedule of 1 to 16 workers leaves what one leaves, or finds too few blocks and leaves the heap as it is.
 fn agrees_as_drawn(alloc: Global, seed: u64, ends: &mut Ends) -> Result<bool, Fail> {
     let mut draws = Draws::new(seed);
-    let count = draws.below(50);
-    let free = draws.below(30) as u64;
-    let n = draws.below(16).saturating_add(1);
-    let schedule = Schedule::Drawn {
+    let ample = Drawing {
         seed,
-        tries: draws.below(2000),
+        count: draws.below(50),
+        blocks: AMPLE,
+        taken: 0,
     };
-    let many = left_by_many(alloc, seed, count, free, n, schedule)?;
-    if many.0.is_some() {
+    let taken = free_beside(alloc, ample)?.saturating_sub(draws.below(40));
+    let few = Drawing { taken, ..ample };
+    let n = draws.below(16).saturating_add(1);
+    let steps = draws.below(300);
+    let many = left_by_many(alloc, few, n, Schedule::Drawn { seed, steps })?;
+    if many.counts.is_some() {
         ends.ended = ends.ended.saturating_add(1);
-        return Ok(many == left_by_one(alloc, seed, count)?);
+        let more = Drawing {
+            blocks: AMPLE.saturating_add(100),
+            ..few
+        };
+        return Ok(many == left_by_one(alloc, more)?);
     }
     ends.refused = ends.refused.saturating_add(1);
-    let graph = drawn_graph(alloc, seed, count, free)?;
-    Ok(many.1 == seen(alloc, &graph)?)
+    let graph = drawn_graph(alloc, few)?;
+    Ok(many.text == seen(alloc, &graph)?)
 }
 
 #[test]
@@ -224,9 +270,12 @@ fn drawn_schedules(rt: HostRuntime) -> Result<(), Fail> {
         ended: 0,
         refused: 0,
     };
-    for seed in 0..2000 {
-        assert!(rt; agrees_as_drawn(rt.alloc(), seed, &mut ends)?);
+    for seed in 0..SCHEDULES {
+        assert!(rt;
+            agrees_as_drawn(rt.alloc(), seed, &mut ends)?,
+            "with seed {seed}"
+        );
     }
-    assert!(rt; ends.ended > 1000 && ends.refused > 100);
+    assert!(rt; ends.ended as u64 > SCHEDULES / 2 && ends.refused as u64 > SCHEDULES / 20);
     Ok(())
 }
