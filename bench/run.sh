@@ -3,13 +3,14 @@
 # copied a second, by traces that are collected again and again, and on a large live tree beside GHC's collector too
 # (live_tree.hs, which ghc builds); what a collection costs that finds nothing, and one of ten young objects without and with
 # many old ones, what the members of a remembered set cost, and what the write barrier does; one of large objects, which are not
-# copied, whatever their size; and lines carried out a second, beside
-# what `wc -l` reads of the same file. It builds gctrace first, or
-# takes the program that GCTRACE names. Not part of the tests.
+# copied, whatever their size; one as the events of four workers, each the next by itself; and lines carried out a second,
+# beside what `wc -l` reads of the same file. It builds gctrace first, or takes the program that GCTRACE names. Not part of the
+# tests.
 #   run.sh                  all of it, which takes some minutes
 #   run.sh live [NODES]     the large live tree alone
 #   run.sh young [OBJECTS]  the collections of little alone
 #   run.sh large            the collections of large objects alone
+#   run.sh events [NODES]   the collections as events of four workers alone
 set -eu
 here=$(cd "$(dirname "$0")" && pwd)
 work=$(mktemp -d)
@@ -49,8 +50,9 @@ seconds() {
 }
 
 gctrace() { "$program" run --generations "$generations" --nursery 64 --blocks "$blocks" < "$1"; }
+events() { "$program" replay --threads 4 --generations "$generations" --nursery 64 --blocks "$blocks" < "$1"; }
 beside() { "$plain" "$blocks" "$generations" < "$1"; }
-export -f gctrace beside
+export -f gctrace events beside
 export program plain blocks generations
 
 measure() { seconds bash -c "$1 \"\$1\"" measure "$2"; }
@@ -166,6 +168,24 @@ collections_of_large() {
     printf "ten live objects of 1001 words: %.2f microseconds a collection; of 100001 words: %.2f, so %.2f times that\n", small, large, large / small }'
 }
 
+# scheduled: the trace with a schedule for each collection, in which each event is the next by itself
+scheduled() { awk '{ print } $1 == "collect" { print "finish"; print "commit" }'; }
+
+# collections_by_events NODES COLLECTIONS: what a collection costs as events of four workers
+collections_by_events() {
+  local one four
+  "$here/traces.sh" tree "$1" 0 > "$work/run_made"
+  "$here/traces.sh" tree "$1" "$2" > "$work/run_all"
+  cp "$work/run_made" "$work/made"
+  cp "$work/run_all" "$work/all"
+  one=$(each gctrace "$2")
+  scheduled < "$work/run_made" > "$work/made"
+  scheduled < "$work/run_all" > "$work/all"
+  four=$(each events "$2")
+  awk -v nodes="$1" -v one="$one" -v four="$four" 'BEGIN {
+    printf "tree of %d objects: %.0f microseconds a collection; as events of four workers %.0f, so %.2f times that\n", nodes, one, four, four / one }'
+}
+
 # collections_of_little OBJECTS
 collections_of_little() {
   empty 4096
@@ -182,6 +202,7 @@ case "${1:-}" in
   live) live "${2:-2000000}" 20; exit ;;
   young) collections_of_little "${2:-100000}"; exit ;;
   large) collections_of_large; exit ;;
+  events) collections_by_events "${2:-100000}" 20; exit ;;
 esac
 
 copies graph 8000 1000
@@ -191,6 +212,7 @@ copies mixed 80000 100
 live 2000000 20
 collections_of_little 100000
 collections_of_large
+collections_by_events 100000 20
 
 "$here/traces.sh" commands 100 > "$work/commands"
 lines=$(wc -l < "$work/commands")

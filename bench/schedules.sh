@@ -1,0 +1,14 @@
+#!/usr/bin/env bash
+# Drives drawn schedules of 1 to 16 workers to their end, each beside a collection by one worker, as the test of
+# machine_tests does with 2,000 of them. Not part of the tests.
+#   schedules.sh [SCHEDULES]   100,000, or so many
+set -eu
+here=$(cd "$(dirname "$0")" && pwd)
+work=$(mktemp -d)
+trap 'rm -rf "$work"' EXIT
+
+cp -r "$here/../crates" "$here/../crates.txt" "$here/../HANDLES" "$work/"
+mkdir "$work/.git"
+sed -i "s/^const SCHEDULES: u64 = .*/const SCHEDULES: u64 = ${1:-100000};/" "$work/crates/machine_tests/src/together.rt"
+cd "$work/crates/machine_tests"
+rt test
