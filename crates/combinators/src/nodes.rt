@@ -51,11 +51,6 @@ impl Nodes {
         }
     }
 
-    /// How often the heap was collected.
-    pub(crate) fn collections(&self) -> u64 {
-        self.collections
-    }
-
     /// Whatever no root leads to gives its room back.
     fn collect(&mut self, alloc: Global) -> Result<(), Trouble> {
         self.collections = self.collections.saturating_add(1);
