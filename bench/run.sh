@@ -3,14 +3,15 @@
 # copied a second, by traces that are collected again and again, and on a large live tree beside GHC's collector too
 # (live_tree.hs, which ghc builds); what a collection costs that finds nothing, and one of ten young objects without and with
 # many old ones, what the members of a remembered set cost, and what the write barrier does; one of large objects, which are not
-# copied, whatever their size; one as the events of four workers, each the next by itself; and lines carried out a second,
-# beside what `wc -l` reads of the same file. It builds gctrace first, or takes the program that GCTRACE names. Not part of the
-# tests.
+# copied, whatever their size; one as the events of four workers, each the next by itself; a line with many names in use; and
+# lines carried out a second, beside what `wc -l` reads of the same file. It builds gctrace first, or takes the program that
+# GCTRACE names. Not part of the tests.
 #   run.sh                  all of it, which takes some minutes
 #   run.sh live [NODES]     the large live tree alone
 #   run.sh young [OBJECTS]  the collections of little alone
 #   run.sh large            the collections of large objects alone
 #   run.sh events [NODES]   the collections as events of four workers alone
+#   run.sh names            the lines with many names alone
 set -eu
 here=$(cd "$(dirname "$0")" && pwd)
 work=$(mktemp -d)
@@ -186,6 +187,23 @@ collections_by_events() {
     printf "tree of %d objects: %.0f microseconds a collection; as events of four workers %.0f, so %.2f times that\n", nodes, one, four, four / one }'
 }
 
+# puts NAMES: what a line costs that puts a word into one of so many named objects
+puts() {
+  "$here/traces.sh" names "$1" 0 > "$work/made"
+  "$here/traces.sh" names "$1" 1000000 > "$work/all"
+  local own other=''
+  own=$(each gctrace 1000000)
+  [ -n "$plain" ] && other=$(each beside 1000000)
+  awk -v names="$1" -v own="$own" -v other="$other" 'BEGIN {
+    printf "a put with %d names in use: %.0f nanoseconds", names, own * 1000
+    if (other != "") printf "; plain %.0f, so %.2f times that", other * 1000, own / other
+    print "" }'
+}
+
+lines_by_names() {
+  for count in 100 10000 100000 1000000; do puts "$count"; done
+}
+
 # collections_of_little OBJECTS
 collections_of_little() {
   empty 4096
@@ -203,6 +221,7 @@ case "${1:-}" in
   young) collections_of_little "${2:-100000}"; exit ;;
   large) collections_of_large; exit ;;
   events) collections_by_events "${2:-100000}" 20; exit ;;
+  names) lines_by_names; exit ;;
 esac
 
 copies graph 8000 1000
@@ -213,6 +232,7 @@ live 2000000 20
 collections_of_little 100000
 collections_of_large
 collections_by_events 100000 20
+lines_by_names
 
 "$here/traces.sh" commands 100 > "$work/commands"
 lines=$(wc -l < "$work/commands")

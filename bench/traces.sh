@@ -10,6 +10,7 @@
 #   traces.sh stores young|old [STORES]       such an old object, whose pointer is made to lead to a young one (old: to an old one) so often
 #   traces.sh empty [COLLECTIONS]             collections of a heap without objects
 #   traces.sh large [WORDS] [COLLECTIONS]     ten objects of so many words, collected again and again
+#   traces.sh names [NAMES] [PUTS]            objects with a name each, and words put into them by names in an order that jumps about
 #   traces.sh commands [BATCHES]              batches of 10,000 commands: new, put, set and drop of 2,500 names, and a collection after each
 # The nursery has to hold 8,000 objects of 4 words.
 set -eu
@@ -114,6 +115,17 @@ stores() {
   }'
 }
 
+names() {
+  awk -v names="$1" -v puts="$2" 'BEGIN {
+    for (i = 0; i < names; i++) {
+      if (i > 0 && i % 8000 == 0) print "collect 0"
+      printf "new n%d 0 0 1\n", i
+    }
+    for (i = 0; i < puts; i++) { it = (it * 8021 + 104729) % names; printf "put n%d 0 %d\n", it, i }
+    print "census"
+  }'
+}
+
 empty() {
   awk -v collections="$1" 'BEGIN {
     for (i = 0; i < collections; i++) print "collect 0"
@@ -139,6 +151,7 @@ case "${1:-}" in
   young) young "${2:-100000}" "${3:-20000}" "${4:-}" ;;
   members) members "${2:-young}" "${3:-1000}" "${4:-200}" ;;
   stores) stores "${2:-young}" "${3:-1000000}" ;;
+  names) names "${2:-100000}" "${3:-1000000}" ;;
   empty) empty "${2:-20000}" ;;
   large) large "${2:-100001}" "${3:-1000}" ;;
   commands) commands "${2:-100}" ;;

@@ -10,13 +10,14 @@ ghost use Rattle.heap_text.specs.HeapLines.{name_value};
 use heap::RootId;
 use heap_text::Name;
 use std::alloc::{AllocError, Allocator, Global};
-use std::collections::BTreeMap;
+use std::collections::HashMap;
+use std::hash::{BuildHasherDefault, FoldHasher};
 use std::marker::Model;
 
-/// What each name in use leads to. A look-up or change compares at most logarithmically many names.
+/// What each name in use leads to. A look-up or change finds it by its hash.
 #[derive(Drop)]
 pub struct Names<A: Allocator = Global> {
-    roots: BTreeMap<Vec<u8, A>, RootId, A>,
+    roots: HashMap<Vec<u8, A>, RootId, BuildHasherDefault<FoldHasher>, A>,
 }
 
 impl<A: Allocator> Model for Names<A> {
@@ -36,7 +37,7 @@ impl<A: Allocator + Clone> Names<A> {
         ensures { result ≡ [] }
     {
         Names {
-            roots: BTreeMap::new(alloc),
+            roots: HashMap::new(alloc),
         }
     }
 
@@ -62,6 +63,7 @@ impl<A: Allocator + Clone> Names<A> {
         ensures root { option_map (λ r. r.number) result ≡ find (slice_cmp nat_cmp) name.now self.old }
         ensures names { self.new ≡ filter (λ e. not (eq_by_cmp (slice_cmp nat_cmp) name.now e.0)) self.old }
     {
+        let _count = self.roots.len();
         self.roots.remove(name)
     }
 
@@ -77,6 +79,7 @@ impl<A: Allocator + Clone> Names<A> {
                 root: *root,
             })?;
         }
+        list.sort_unstable_by_key(|name| name.text);
         Ok(list)
     }
 }
