@@ -1,6 +1,7 @@
 //! Events by number, and each list of three of them.
+use crate::graphs::heap_of;
 use crate::together::census_of;
-use heap::{Config, Heap, Sizes};
+use heap::{Heap, Sizes};
 use machine::{Event, Machine, StepError};
 use std::alloc::Global;
 use std::test::Fail;
@@ -35,10 +36,7 @@ fn heap_of_one(alloc: Global) -> Result<Heap, Fail> {
         generations: 1,
         steps: 1,
     };
-    let Ok(config) = Config::new(sizes) else {
-        return Err(Fail::from("bad sizes"));
-    };
-    let mut heap = Heap::new(alloc, config)?;
+    let mut heap = heap_of(alloc, sizes)?;
     let _root = heap.allocate(0, 1, 1)?;
     Ok(heap)
 }

@@ -45,20 +45,24 @@ pub(crate) struct Graph {
     pub(crate) generation: u64,
 }
 
-/// A heap of one to three generations, with a nursery of 8 blocks of 64 words.
-fn heap_of(alloc: Global, generations: u32, steps: u32, blocks: u64) -> Result<Heap, Fail> {
-    let sizes = Sizes {
+/// A heap of these sizes.
+pub(crate) fn heap_of(alloc: Global, sizes: Sizes) -> Result<Heap, Fail> {
+    let Ok(config) = Config::new(sizes) else {
+        return Err(Fail::from("bad sizes"));
+    };
+    Ok(Heap::new(alloc, config)?)
+}
+
+/// The sizes of a heap of one to three generations, with a nursery of 8 blocks of 64 words.
+fn drawn_sizes(generations: u32, steps: u32, blocks: u64) -> Sizes {
+    Sizes {
         block_words: 64,
         blocks: blocks.saturating_add(8),
         mutators: 1,
         nursery_blocks: 8,
         generations: generations as u64,
         steps: steps as u64,
-    };
-    let Ok(config) = Config::new(sizes) else {
-        return Err(Fail::from("bad sizes"));
-    };
-    Ok(Heap::new(alloc, config)?)
+    }
 }
 
 /// How many plain words an object has: one in eight is large.
@@ -153,7 +157,7 @@ pub(crate) fn drawn_graph(alloc: Global, drawing: Drawing) -> Result<Graph, Fail
     let generations = draws.below(3).saturating_add(1);
     let steps = draws.below(2).saturating_add(1);
     let mut graph = Graph {
-        heap: heap_of(alloc, generations, steps, drawing.blocks)?,
+        heap: heap_of(alloc, drawn_sizes(generations, steps, drawing.blocks))?,
         roots: Vec::new(alloc),
         generation: draws.below(generations) as u64,
     };

@@ -1,5 +1,6 @@
 //! Schedules of several workers.
-use heap::{Config, Heap, RootId, Sizes};
+use crate::graphs::heap_of;
+use heap::{Heap, RootId, Sizes};
 use machine::{Event, Machine, StepError};
 use std::alloc::Global;
 use std::test::Fail;
@@ -14,10 +15,7 @@ fn small_heap(alloc: Global) -> Result<Heap, Fail> {
         generations: 1,
         steps: 1,
     };
-    let Ok(config) = Config::new(sizes) else {
-        return Err(Fail::from("bad sizes"));
-    };
-    Ok(Heap::new(alloc, config)?)
+    heap_of(alloc, sizes)
 }
 
 /// A new object with one pointer, which leads where the root does.
