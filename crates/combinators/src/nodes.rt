@@ -1,7 +1,14 @@
 //! Nodes in a heap: made, read and changed by their roots, and collected where a nursery is full.
+ghost use Rattle.std.specs.Prelude.{◌≡◌, ◌↔◌, Some, Err, IsSome, IsOk, IfOk, OnOk, OnErr};
+ghost use Rattle.model.specs.Graph.{root_at, without_root};
+ghost use Rattle.heap.specs.HeapValue.{empty_heap};
+ghost use Rattle.heap.specs.Commands.{Loads, Stores};
+ghost use Rattle.combinators.specs.Nodes.{node_sizes, letter_of, WasCollected, AddsNode, AddsSymbol, AddsApplication};
+
 use collector::{CollectError, collect_one};
 use heap::{AllocateError, Config, Heap, LoadError, MakeError, RootId, Sizes, StoreError};
 use std::alloc::Global;
+use std::marker::Model;
 use thiserror::Error;
 
 /// Why a term was not rewritten.
@@ -19,6 +26,14 @@ pub(crate) enum Trouble {
     BadNode,
 }
 
+/// No memory, or no room in the heap.
+fn trouble_of(error: AllocateError) -> Trouble {
+    match error {
+        AllocateError::NoMemory => Trouble::NoMemory,
+        _ => Trouble::HeapFull,
+    }
+}
+
 /// The nodes of terms. An application has two pointers, to a function and to its argument; a symbol has one word.
 /// A root that a call gives is the caller's, who gives it back by `release`.
 #[derive(Drop)]
@@ -27,11 +42,24 @@ pub(crate) struct Nodes {
     collections: u64,
 }
 
+impl Model for Nodes {
+    ghost use Rattle.heap.specs.HeapValue.{HeapValue, heap_code};
+
+    ghost Value = { HeapValue };
+
+    ghost coded = { heap_code };
+
+    ghost view = { λ nodes. nodes.heap };
+}
+
 /// After so many collections of the young generation the old one is collected too.
 const YOUNG_COLLECTIONS: u64 = 8;
 
 impl Nodes {
-    pub(crate) fn new(alloc: Global) -> Result<Self, Trouble> {
+    /// No node yet.
+    pub(crate) fn new(alloc: Global) -> Result<Self, Trouble>
+        ensures { IfOk result (λ nodes. nodes ≡ empty_heap node_sizes) }
+    {
         let sizes = Sizes {
             block_words: 64,
             blocks: 1000,
@@ -40,7 +68,9 @@ impl Nodes {
             generations: 2,
             steps: 1,
         };
-        let config = Config::new(sizes).map_err(|_| Trouble::HeapFull)?;
+        let Ok(config) = Config::new(sizes) else {
+            return Err(Trouble::HeapFull);
+        };
         match Heap::new(alloc, config) {
             Ok(heap) => Ok(Nodes {
                 heap,
@@ -52,7 +82,10 @@ impl Nodes {
     }
 
     /// Whatever no root leads to gives its room back.
-    fn collect(&mut self, alloc: Global) -> Result<(), Trouble> {
+    fn collect(&mut self, alloc: Global) -> Result<(), Trouble>
+        ensures ok { OnOk result (WasCollected self.old self.new) }
+        ensures err { OnErr result (self.new ≡ self.old) }
+    {
         self.collections = self.collections.saturating_add(1);
         let oldest = if self.collections % YOUNG_COLLECTIONS == 0 {
             1
@@ -67,23 +100,28 @@ impl Nodes {
     }
 
     /// A new object. Where the nursery has no room for it the heap is collected first.
-    fn allocate(&mut self, alloc: Global, pointers: u64, words: u64) -> Result<RootId, Trouble> {
-        let mut answer = self.heap.allocate(0, pointers, words);
-        if answer == Err(AllocateError::NurseryFull) {
-            self.collect(alloc)?;
-            answer = self.heap.allocate(0, pointers, words);
+    fn allocate(&mut self, alloc: Global, pointers: u64, words: u64) -> Result<RootId, Trouble>
+        ensures { IfOk result (λ node. AddsNode self.old pointers words node.number self.new) }
+    {
+        match self.heap.allocate(0, pointers, words) {
+            Ok(node) => return Ok(node),
+            Err(AllocateError::NurseryFull) => self.collect(alloc)?,
+            Err(error) => return Err(trouble_of(error)),
         }
-        answer.map_err(|error| match error {
-            AllocateError::NoMemory => Trouble::NoMemory,
-            _ => Trouble::HeapFull,
-        })
+        match self.heap.allocate(0, pointers, words) {
+            Ok(node) => Ok(node),
+            Err(error) => Err(trouble_of(error)),
+        }
     }
 
-    pub(crate) fn symbol(&mut self, alloc: Global, letter: u8) -> Result<RootId, Trouble> {
+    /// A node for a letter.
+    pub(crate) fn symbol(&mut self, alloc: Global, letter: u8) -> Result<RootId, Trouble>
+        ensures { IfOk result (λ node. AddsSymbol self.old letter node.number self.new) }
+    {
         let node = self.allocate(alloc, 0, 1)?;
-        self.heap
-            .put(node, 0, letter as u64)
-            .map_err(|_| Trouble::BadNode)?;
+        let Ok(()) = self.heap.put(node, 0, letter as u64) else {
+            return Err(Trouble::BadNode);
+        };
         Ok(node)
     }
 
@@ -93,7 +131,9 @@ impl Nodes {
         alloc: Global,
         function: RootId,
         argument: RootId,
-    ) -> Result<RootId, Trouble> {
+    ) -> Result<RootId, Trouble>
+        ensures { IfOk result (λ node. AddsApplication self.old function.number argument.number node.number self.new) }
+    {
         let node = self.allocate(alloc, 2, 0)?;
         self.set_function(node, function)?;
         self.set_argument(node, argument)?;
@@ -103,14 +143,20 @@ impl Nodes {
     }
 
     /// The letter of a symbol.
-    pub(crate) fn letter(&self, node: RootId) -> Option<u8> {
+    pub(crate) fn letter(&self, node: RootId) -> Option<u8>
+        ensures { result ≡ letter_of self.now.graph node.number }
+    {
         match self.heap.get(node, 0) {
             Ok(word) => u8::try_from(word).ok(),
             Err(_) => None,
         }
     }
 
-    fn load(&mut self, node: RootId, field: u64) -> Result<RootId, Trouble> {
+    /// A new root to what a pointer leads to.
+    fn load(&mut self, node: RootId, field: u64) -> Result<RootId, Trouble>
+        ensures ok { IfOk result (λ target. Loads self.old node.number field (Some target.number) self.new) }
+        ensures err { OnErr result (self.new ≡ self.old) }
+    {
         match self.heap.load(node, field) {
             Ok(Some(target)) => Ok(target),
             Err(LoadError::NoMemory) => Err(Trouble::NoMemory),
@@ -118,15 +164,27 @@ impl Nodes {
         }
     }
 
-    pub(crate) fn function(&mut self, node: RootId) -> Result<RootId, Trouble> {
+    /// A new root to the function of an application.
+    pub(crate) fn function(&mut self, node: RootId) -> Result<RootId, Trouble>
+        ensures ok { IfOk result (λ function. Loads self.old node.number 0 (Some function.number) self.new) }
+        ensures err { OnErr result (self.new ≡ self.old) }
+    {
         self.load(node, 0)
     }
 
-    pub(crate) fn argument(&mut self, node: RootId) -> Result<RootId, Trouble> {
+    /// A new root to the argument of an application.
+    pub(crate) fn argument(&mut self, node: RootId) -> Result<RootId, Trouble>
+        ensures ok { IfOk result (λ argument. Loads self.old node.number 1 (Some argument.number) self.new) }
+        ensures err { OnErr result (self.new ≡ self.old) }
+    {
         self.load(node, 1)
     }
 
-    fn store(&mut self, node: RootId, field: u64, value: RootId) -> Result<(), Trouble> {
+    /// A pointer leads where the value's root does.
+    fn store(&mut self, node: RootId, field: u64, value: RootId) -> Result<(), Trouble>
+        ensures ok { OnOk result (Stores self.old node.number field (Some value.number) self.new) }
+        ensures err { OnErr result (self.new ≡ self.old) }
+    {
         match self.heap.store(node, field, Some(value)) {
             Ok(()) => Ok(()),
             Err(StoreError::NoMemory) => Err(Trouble::NoMemory),
@@ -134,15 +192,28 @@ impl Nodes {
         }
     }
 
-    pub(crate) fn set_function(&mut self, node: RootId, value: RootId) -> Result<(), Trouble> {
+    /// An application has another function from now on.
+    pub(crate) fn set_function(&mut self, node: RootId, value: RootId) -> Result<(), Trouble>
+        ensures ok { OnOk result (Stores self.old node.number 0 (Some value.number) self.new) }
+        ensures err { OnErr result (self.new ≡ self.old) }
+    {
         self.store(node, 0, value)
     }
 
-    pub(crate) fn set_argument(&mut self, node: RootId, value: RootId) -> Result<(), Trouble> {
+    /// An application has another argument from now on.
+    pub(crate) fn set_argument(&mut self, node: RootId, value: RootId) -> Result<(), Trouble>
+        ensures ok { OnOk result (Stores self.old node.number 1 (Some value.number) self.new) }
+        ensures err { OnErr result (self.new ≡ self.old) }
+    {
         self.store(node, 1, value)
     }
 
-    pub(crate) fn release(&mut self, node: RootId) -> Result<(), Trouble> {
+    /// The root is given up. Its node stays as long as others lead to it.
+    pub(crate) fn release(&mut self, node: RootId) -> Result<(), Trouble>
+        ensures known { IsOk result ↔ IsSome (root_at self.old.graph node.number) }
+        ensures ok { OnOk result (self.new ≡ record self.old { graph = without_root self.old.graph node.number }) }
+        ensures err { OnErr result (self.new ≡ self.old) }
+    {
         self.heap.release(node).map_err(|_| Trouble::BadNode)
     }
 }

@@ -1,0 +1,2 @@
+-- What the calls on nodes do.
+pub mod Nodes
