@@ -1,4 +1,5 @@
 -- What a session stands for, and where it may be refused.
+pub use Rattle.collector.specs.Collects
 pub use Rattle.trace_session.specs.Session
 pub use Rattle.trace_session.specs.Refusals
 pub use Rattle.trace_session.specs.Made

@@ -2,6 +2,7 @@
 ghost use Rattle.std.specs.Prelude.{◌≡◌, ◌+◌, ◌-◌, ◌^◌, ◌<◌, ◌≤◌, Some, Err, OnOk, IfErr, is_some};
 ghost use Rattle.std.specs.Io.KnownBytes.{Appends};
 ghost use Rattle.std.specs.List.{list_all};
+ghost use Rattle.collector.specs.Collects.{IsShortOfBlocks};
 ghost use Rattle.model.specs.Graph.{root_at};
 ghost use Rattle.model.specs.Store.{collected};
 ghost use Rattle.model.specs.Commands as meant;
@@ -11,7 +12,7 @@ ghost use Rattle.trace_lines.specs.Faults.{MatchFault};
 ghost use Rattle.trace_lines.specs.Outcome.{command_step};
 ghost use Rattle.trace_lines.specs.Sound.{IsSoundCommand};
 ghost use Rattle.trace_lines.specs.Stepped.{AtEach, StepsTo};
-ghost use Rattle.trace_session.specs.Refusals.{CommandMayBeFull, IsShortFor};
+ghost use Rattle.trace_session.specs.Refusals.{CommandMayBeFull};
 ghost use Rattle.trace_session.specs.Session.{Stands};
 
 use byte_streams::{Sink, WriteFailed};
@@ -59,7 +60,8 @@ pub fn census<A: Allocator + Clone, W: Sink>(
     }
 }
 
-/// Collects the generations 0 to this one, and writes how many objects were kept and freed.
+/// Collects the generations 0 to this one, and writes how many objects were kept and freed. `HeapFull` says that fewer
+/// blocks of this heap were free than the space bound.
 pub fn collect<A: Allocator + Clone, W: Sink>(
     session: &mut Session<A>,
     number: u128,
@@ -73,7 +75,7 @@ pub fn collect<A: Allocator + Clone, W: Sink>(
     ensures rises { W.failed_writes writer.new ≤ W.failed_writes writer.old + 1 }
     ensures err { IfErr result (λ e. MatchFault e
         (λ at kind. (at ≡ number) × AtEach (Stands session.old) (λ config store. command_step config store (Collect generation) ≡ Err kind) × (writer.new ≡ writer.old))
-        (λ at. (at ≡ Some number) × AtEach (Stands session.old) (λ config store. CommandMayBeFull config store (Collect generation)) × (writer.new ≡ writer.old))
+        (λ at. (at ≡ Some number) × IsShortOfBlocks session.old.heap generation × AtEach (Stands session.old) (λ config store. CommandMayBeFull config store (Collect generation)) × (writer.new ≡ writer.old))
         (λ at. (at ≡ Some number) × AtEach (Stands session.old) (λ config store. IsSoundCommand config store (Collect generation)) × (writer.new ≡ writer.old))
         ⊥
         (W.failed_writes writer.new ≡ W.failed_writes writer.old + 1)) }
@@ -110,7 +112,7 @@ pub fn make_room<A: Allocator + Clone, W: Sink>(
     ensures counts { OnOk result (W.failed_writes writer.new ≡ W.failed_writes writer.old) }
     ensures rises { W.failed_writes writer.new ≤ W.failed_writes writer.old + 1 }
     ensures err { IfErr result (λ e. MatchFault e (λ _ _. ⊥)
-        (λ at. (at ≡ Some number) × AtEach (Stands session.old) (λ config store. IsShortFor config store 0) × (session.new ≡ session.old) × (writer.new ≡ writer.old))
+        (λ at. (at ≡ Some number) × IsShortOfBlocks session.old.heap 0 × (session.new ≡ session.old) × (writer.new ≡ writer.old))
         (λ at. (at ≡ Some number) × (session.new ≡ session.old) × (writer.new ≡ writer.old))
         ⊥
         (W.failed_writes writer.new ≡ W.failed_writes writer.old + 1)) }

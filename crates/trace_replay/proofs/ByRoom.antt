@@ -1,5 +1,5 @@
 -- What a collection for a new object does to a session that stands for a store.
-use Rattle.std.proofs.Common.{◌≡◌, ℕ, ◌+◌, List, ◌++◌, length, Option, subst, codes, refl, ap, ◌∙◌}
+use Rattle.std.proofs.Common.{◌≡◌, ℕ, ◌+◌, List, ◌++◌, length, Option, codes, ap, ◌∙◌}
 use Rattle.std.specs.Prelude.{sum_by}
 use Rattle.std.specs.Io.KnownBytes.{Appends}
 use Rattle.layout.specs.declared.place.Place.{Place}
@@ -7,7 +7,7 @@ use Rattle.block_pool.specs.BlockValue.{BlockValue}
 use Rattle.model.specs.Config.{Config}
 use Rattle.model.specs.LiveCount.{LiveCount}
 use Rattle.model.specs.Text.{collection_line}
-use Rattle.model.specs.Store.{Store, collected, kept_count, freed_count}
+use Rattle.model.specs.Store.{Store, collected, kept_count}
 use Rattle.heap_data.specs.HeapValue.{HeapValue}
 use Rattle.heap_data.specs.CollectionValue.{CollectionValue, young_names}
 use Rattle.heap_data.specs.CollectedHeap.{CollectedHeap}

@@ -1,55 +1,14 @@
 -- A line of a replay that is carried out once room was made for it.
-use Rattle.std.proofs.Common.{◌≡◌, ℕ, List, Option, Some, None, Result, Ok, Err, subst, inl, inr}
-use Rattle.std.specs.Io.KnownBytes.{Appends}
-use Rattle.model.specs.declared.kind.Kind.{Kind}
+use Rattle.std.proofs.Common.{◌≡◌, ℕ, List, Option, Ok, subst, inl, inr}
 use Rattle.model.specs.Config.{Config}
 use Rattle.model.specs.Store.{Store, collected}
-use Rattle.model.specs.Commands.{Command, New, Set, Put, Get, Drop, Collect, Census, Heap}
 use Rattle.trace_text.specs.Grammar.{entry_of}
-use Rattle.trace_lines.specs.declared.fault.Fault.{Fault}
-use Rattle.trace_lines.specs.declared.fault.Fault.TheVariants.{BadTrace, BadSchedule, HeapFull, NoMemory, ReadFailed, WriteFailed}
 use Rattle.trace_lines.specs.CollectsFirst.{LineCollectsFirst, auto_line}
-use Rattle.trace_lines.specs.Faults.{MatchFault}
 use Rattle.trace_lines.specs.Outcome.{line_step}
 use Rattle.trace_lines.specs.Stepped.{AtEach, StepsTo, Writes}
-use Rattle.trace_step.specs.Refusals.{MayBeFull, ReadWantsBlocks, ReadAsksTooLarge, NewLacksBlocks}
 use Rattle.trace_step.specs.SessionType.{Session}
 use Rattle.trace_step.specs.Session.{Stands}
-use Rattle.trace_replay.specs.ReplayStops.{WantsRoom, for_large}
-use Rattle.trace_replay.specs.Replays.{State, state_of, IsNoCollection, MakesRoom, HasMadeRoom, LineReplayed}
-
-read_large : (config : Config) (s : State) (read : Result (Option Command) Kind) → IsNoCollection read → ReadWantsBlocks config s.store read → NewLacksBlocks s.heap read → ReadAsksTooLarge s.heap read
-read_large config s (Err kind) plain wants lacks = wants
-read_large config s (Ok None) plain wants lacks = wants
-read_large config s (Ok (Some (New text m p q))) plain wants lacks = lacks
-read_large config s (Ok (Some (Set text i target))) plain wants lacks = wants
-read_large config s (Ok (Some (Put text i value))) plain wants lacks = wants
-read_large config s (Ok (Some (Get new_text text i))) plain wants lacks = wants
-read_large config s (Ok (Some (Drop text))) plain wants lacks = wants
-read_large config s (Ok (Some (Collect g))) plain wants lacks = absurd plain
-read_large config s (Ok (Some Census)) plain wants lacks = wants
-read_large config s (Ok (Some Heap)) plain wants lacks = wants
-
--- a line that collects nothing wants blocks for a large object alone
-pub wants_large : (config : Config) (n : ℕ) (s : State) (line : List ℕ) → IsNoCollection (entry_of line) → MayBeFull config s.store line → NewLacksBlocks s.heap (entry_of line) → WantsRoom config n s line
-wants_large config n s line plain may lacks = for_large may.sound (read_large config s (entry_of line) plain may.wants lacks)
-
--- where blocks are wanting at any store
-pub each_short : (stands : Config → Store → Type 0) (number : ℕ) {S W : Type 0} (session session' : S) (writer writer' : W) (failed Short : Type 0) (e : Fault)
-    → MatchFault e (λ _ _. ⊥)
-    (λ at. (at ≡ Some number) × Short × (session' ≡ session) × (writer' ≡ writer))
-    (λ at. (at ≡ Some number) × (session' ≡ session) × (writer' ≡ writer))
-    ⊥ failed
-    → MatchFault e (λ _ _. ⊥)
-    (λ at. (at ≡ Some number) × AtEach stands (λ _ _. Short) × (session' ≡ session) × (writer' ≡ writer))
-    (λ at. (at ≡ Some number) × (session' ≡ session) × (writer' ≡ writer))
-    ⊥ failed
-each_short stands number session session' writer writer' failed Short (BadTrace at kind) f = f
-each_short stands number session session' writer writer' failed Short (BadSchedule at kind) f = f
-each_short stands number session session' writer writer' failed Short (HeapFull at) f = (f.0, λ config store there. f.1, f.2, f.3)
-each_short stands number session session' writer writer' failed Short (NoMemory at) f = f
-each_short stands number session session' writer writer' failed Short ReadFailed f = f
-each_short stands number session session' writer writer' failed Short WriteFailed f = f
+use Rattle.trace_replay.specs.Replays.{state_of, IsNoCollection, MakesRoom, HasMadeRoom, LineReplayed}
 
 -- a line that needed no room
 pub plain_steps : {A : Type 0} (old new : Session A) (config : Config) (n : ℕ) (store : Store) (line : List ℕ) (printed printed' : Option (List ℕ)) → IsNoCollection (entry_of line) → ¬ LineCollectsFirst config store line

@@ -13,9 +13,9 @@ use Rattle.trace_lines.specs.Pieces.{Piece, finished, pieces}
 use Rattle.trace_lines.specs.Outcome.{piece_step}
 use Rattle.trace_lines.specs.Sound.{IsSound, IsSoundCommand}
 use Rattle.trace_lines.specs.CollectsFirst.{LineCollectsFirst}
-use Rattle.trace_step.specs.Refusals.{ReadAsksTooLarge}
+use Rattle.trace_step.specs.Refusals.{IsFullFor}
 use Rattle.schedules.specs.Stops.{IsUnreadable, IsRefusedBlocks, IsSoundLine, OfLine, StopsAt, StopsWith}
-use Rattle.trace_replay.specs.Replays.{State, Holds, HasMadeRoom, Replays}
+use Rattle.trace_replay.specs.Replays.{State, Holds, IsNoCollection, HasMadeRoom, Replays}
 
 -- a `collect` line without a fault, and the text after it
 pub record OpensSchedule (config : Config) (s : State) (left : List Piece) : Type 0 where
@@ -40,11 +40,11 @@ pub record HasScheduleFault (config : Config) (n : ℕ) (kind : ScheduleKind) (s
   pub opens : OpensSchedule config s left
   pub stops : StopsWith (setting_at s.heap opens.g n) (opening_at s.heap opens.g n) number opens.text at kind
 
--- a new object without a fault: a small one for which there is no room, and too few blocks for n workers to collect
--- generation 0, or a large one that takes more blocks than are free in this heap
+-- a new object without a fault: a small one for which there is no room, and this heap has too few free blocks for n workers
+-- to collect generation 0, or a large one for which this heap is full
 pub data WantsRoom (config : Config) (n : ℕ) (s : State) (line : List ℕ) : Type 0 where
   for_collection : IsSound config s.store line → LineCollectsFirst config s.store line → IsShortOfBlocks s.heap 0 n → WantsRoom config n s line
-  for_large : IsSound config s.store line → ReadAsksTooLarge s.heap (entry_of line) → WantsRoom config n s line
+  for_large : IsSound config s.store line → IsNoCollection (entry_of line) → IsFullFor s.heap (entry_of line) → WantsRoom config n s line
 
 -- the line has no fault, and blocks are wanting in it
 pub data WantsBlocks (config : Config) (n : ℕ) (s : State) (number : ℕ) (left : List Piece) (at : ℕ) : Type 0 where

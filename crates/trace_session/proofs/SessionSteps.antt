@@ -1,6 +1,6 @@
 -- What a new object and a dropped name do to a session that stands for a store.
-use Rattle.std.proofs.Common.{◌≡◌, ℕ, ◌+◌, ◌<◌, Bool, true, false, ◌||◌, List, [], length, Option, Some, None, Ok, Err, refl, sym, ap, subst, inl, inr}
-use Rattle.std.specs.Prelude.{nat_lt, not, is_some, is_ok, slice_set, IsTrue}
+use Rattle.std.proofs.Common.{◌≡◌, ℕ, ◌+◌, ◌<◌, true, false, List, [], length, Option, Some, None, Ok, Err, refl, sym, ap, subst, inl, inr}
+use Rattle.std.specs.Prelude.{nat_lt, not, is_some, is_ok, slice_set}
 use Rattle.std.specs.Option.{option_map}
 use Rattle.std.specs.Ordering.{nat_cmp}
 use Rattle.std.specs.FinMap.{get-empty, len-empty}
@@ -165,7 +165,7 @@ module _ (heap : HeapValue) (names : List (List ℕ × ℕ)) (config : Config) (
   had_room text m p q root heap' (inr allocates) first = not_first text m p q (rw (← stands.config_is) allocates.large) first
 
   -- a large object without blocks has no fault of its own
-  pub large_full : (text : List ℕ) (m p q : ℕ) → named names text ≡ None → m < heap.config.mutators → is_too_big p q ≡ false → LacksBlocks heap p q → CommandMayBeFull config store (New text m p q) × ¬ CollectsFirst config store (New text m p q) × LacksBlocks heap p q
+  pub large_full : (text : List ℕ) (m p q : ℕ) → named names text ≡ None → m < heap.config.mutators → is_too_big p q ≡ false → LacksBlocks heap p q → CommandMayBeFull config store (New text m p q) × ¬ CollectsFirst config store (New text m p q)
   large_full text m p q free in_range fits lacks =
       let large : is_large_size config (1 + p + q) ≡ true = rw (← stands.config_is) lacks.large in (
         record {
@@ -173,7 +173,6 @@ module _ (heap : HeapValue) (names : List (List ℕ × ℕ)) (config : Config) (
           wants = inr (record { heap = heap; names = names; stands = stands; lacks = lacks });
         },
         not_first text m p q large,
-        lacks,
       )
 
   pub steps_drop : (text : List ℕ) (root : ℕ) (heap' : HeapValue) (names' : List (List ℕ × ℕ)) → named names text ≡ Some root → heap' ≡ record heap { graph = without_root heap.graph root } → names' ≡ dropped names text → StepsQuietly (StandsFor heap' names') config (command_step config store (Drop text))

@@ -9,7 +9,7 @@ use Rattle.heap.specs.Commands.{wanted_blocks}
 use Rattle.store_places.specs.Collects.{IsShortOfBlocks}
 use Rattle.trace_text.specs.Grammar.{entry_of}
 use Rattle.trace_lines.specs.Sound.{IsSound, IsSoundCommand}
-use Rattle.trace_lines.specs.CollectsFirst.{CollectsFirst}
+use Rattle.trace_lines.specs.CollectsFirst.{CollectsFirst, LineCollectsFirst}
 use Rattle.store_places.specs.Stands.{StandsFor}
 
 -- in a heap that stands for the store fewer blocks are free than the space bound of what is live in it, for one worker
@@ -42,15 +42,15 @@ abbrev pub ReadWantsBlocks : Config → Store → Result (Option Command) Kind �
 ReadWantsBlocks config store (Ok (Some command)) = WantsBlocks config store command
 ReadWantsBlocks config store _ = ⊥
 
--- what was read is a new object, and it lacks blocks in this heap
-abbrev pub ReadAsksTooLarge : HeapValue → Result (Option Command) Kind → Type 0
-ReadAsksTooLarge heap (Ok (Some (New text mutator p q))) = LacksBlocks heap p q
-ReadAsksTooLarge heap _ = ⊥
+-- this heap is full for what was read: a large object lacks blocks in it, or it is short for the collection
+abbrev pub IsFullFor : HeapValue → Result (Option Command) Kind → Type 0
+IsFullFor heap (Ok (Some (New text mutator p q))) = LacksBlocks heap p q
+IsFullFor heap (Ok (Some (Collect g))) = IsShortOfBlocks heap g
+IsFullFor heap _ = ⊥
 
--- where what was read is a new object, it lacks blocks in this heap
-abbrev pub NewLacksBlocks : HeapValue → Result (Option Command) Kind → Type 0
-NewLacksBlocks heap (Ok (Some (New text mutator p q))) = LacksBlocks heap p q
-NewLacksBlocks heap _ = Unit {0}
+-- this heap is full for the line, or short for the collection of generation 0 that comes before a new object
+abbrev pub IsFullForLine : HeapValue → Config → Store → List ℕ → Type 0
+IsFullForLine heap config store line = IsFullFor heap (entry_of line) ⊎ (LineCollectsFirst config store line × IsShortOfBlocks heap 0)
 
 -- the command has no fault at this store, and blocks are wanting in it
 pub record CommandMayBeFull (config : Config) (store : Store) (command : Command) : Type 0 where

@@ -53,7 +53,7 @@ impl<A: Allocator + Clone> Session<A> {
     }
 
     /// A new object, to which a free name leads. Where its nursery has no room, nothing has changed. `HeapFull` says that a
-    /// large one takes more blocks than are free.
+    /// large one takes more blocks than are free in this heap.
     pub fn add(
         &mut self,
         number: u128,
@@ -68,7 +68,7 @@ impl<A: Allocator + Clone> Session<A> {
         ensures full { result ≡ Ok Attempt.NurseryFull → self.new ≡ self.old }
         ensures err { IfErr result (λ e. MatchFault e
             (λ at kind. (at ≡ number) × AtEach (Stands self.old) (λ config store. command_step config store (New name.now mutator pointers plain) ≡ Err kind))
-            (λ at. (at ≡ Some number) × AtEach (Stands self.old) (λ config store. CommandMayBeFull config store (New name.now mutator pointers plain) × ¬ CollectsFirst config store (New name.now mutator pointers plain) × LacksBlocks self.old.heap pointers plain))
+            (λ at. (at ≡ Some number) × LacksBlocks self.old.heap pointers plain × AtEach (Stands self.old) (λ config store. CommandMayBeFull config store (New name.now mutator pointers plain) × ¬ CollectsFirst config store (New name.now mutator pointers plain)))
             (λ at. (at ≡ Some number) × AtEach (Stands self.old) (λ config store. IsSoundCommand config store (New name.now mutator pointers plain)))
             ⊥ ⊥) }
     {

@@ -17,7 +17,7 @@ use Rattle.trace_lines.specs.Faults.{MatchFault}
 use Rattle.trace_lines.specs.Outcome.{line_step, entry_step, command_step}
 use Rattle.trace_lines.specs.Sound.{IsSound, IsSoundCommand}
 use Rattle.trace_lines.specs.Stepped.{AtEach, StepsTo, StepsQuietly}
-use Rattle.trace_prints.specs.Refusals.{MayBeFull, CommandMayBeFull, ReadWantsBlocks, LacksBlocks, NewLacksBlocks}
+use Rattle.trace_prints.specs.Refusals.{MayBeFull, CommandMayBeFull, ReadWantsBlocks, LacksBlocks, IsFullFor}
 use Rattle.trace_prints.specs.SessionType.{Session}
 use Rattle.trace_step.specs.Commands.{MakesNone}
 
@@ -45,17 +45,6 @@ makes_none config store (Collect g) none = λ first. first
 makes_none config store Census none = λ first. first
 makes_none config store Heap none = λ first. first
 
--- of a command that makes no object nothing is said
-no_new : {A : Type 0} (session : Session A) (command : Command) → MakesNone command → NewLacksBlocks session.heap (Ok (Some command))
-no_new session (New text m p q) none = absurd none
-no_new session (Set text i target) none = tt
-no_new session (Put text i value) none = tt
-no_new session (Get new_text text i) none = tt
-no_new session (Drop text) none = tt
-no_new session (Collect g) none = tt
-no_new session Census none = tt
-no_new session Heap none = tt
-
 -- a line that is a new object
 pub new_line : (stands stands' : Config → Store → Type 0) (line : List ℕ) (command : Command) → entry_of line ≡ Ok (Some command) → (held : Option (List ℕ)) (r : Result Attempt Fault)
     → IfOk r (λ a. AtEach stands (λ config store. MatchAttempt a (StepsQuietly stands' config (command_step config store command) × ¬ CollectsFirst config store command) (IsSoundCommand config store command × CollectsFirst config store command)))
@@ -72,12 +61,12 @@ new_line stands stands' line command says held (Err e) f = tt
 pub new_fault : {A : Type 0} (session : Session A) (stands : Config → Store → Type 0) (number : ℕ) (line text : List ℕ) (m p q : ℕ) → entry_of line ≡ Ok (Some (New text m p q)) → {W : Type 0} (held : W) (written : Type 0) (r : Result Attempt Fault)
     → IfErr r (λ e. MatchFault e
     (λ at kind. (at ≡ number) × AtEach stands (λ config store. command_step config store (New text m p q) ≡ Err kind))
-    (λ at. (at ≡ Some number) × AtEach stands (λ config store. CommandMayBeFull config store (New text m p q) × ¬ CollectsFirst config store (New text m p q) × LacksBlocks session.heap p q))
+    (λ at. (at ≡ Some number) × LacksBlocks session.heap p q × AtEach stands (λ config store. CommandMayBeFull config store (New text m p q) × ¬ CollectsFirst config store (New text m p q)))
     (λ at. (at ≡ Some number) × AtEach stands (λ config store. IsSoundCommand config store (New text m p q)))
     ⊥ ⊥)
     → IfErr r (λ e. MatchFault e
     (λ at kind. (at ≡ number) × AtEach stands (λ config store. line_step config store line ≡ Err kind) × (held ≡ held))
-    (λ at. (at ≡ Some number) × AtEach stands (λ config store. MayBeFull config store line × ¬ LineCollectsFirst config store line × NewLacksBlocks session.heap (entry_of line)) × (held ≡ held))
+    (λ at. (at ≡ Some number) × IsFullFor session.heap (entry_of line) × AtEach stands (λ config store. MayBeFull config store line × ¬ LineCollectsFirst config store line) × (held ≡ held))
     (λ at. (at ≡ Some number) × AtEach stands (λ config store. IsSound config store line) × (held ≡ held))
     ⊥ written)
 new_fault session stands number line text m p q says held written (Ok a) facts = tt
@@ -85,7 +74,8 @@ new_fault session stands number line text m p q says held written (Err (BadTrace
 new_fault session stands number line text m p q says held written (Err (BadSchedule at kind)) facts = absurd facts
 new_fault session stands number line text m p q says held written (Err (HeapFull at)) facts = (
   facts.0,
-  λ config store there. let may = facts.1 config store there in (line_full config store line (New text m p q) says may.0, λ first. may.1 (subst (ReadCollectsFirst config store) says first), subst (NewLacksBlocks session.heap) (sym says) may.2),
+  subst (IsFullFor session.heap) (sym says) facts.1,
+  λ config store there. let may = facts.2 config store there in (line_full config store line (New text m p q) says may.0, λ first. may.1 (subst (ReadCollectsFirst config store) says first)),
   refl,
 )
 new_fault session stands number line text m p q says held written (Err (NoMemory at)) facts = (facts.0, λ config store there. line_sound config store line (New text m p q) says (facts.1 config store there), refl)
@@ -96,17 +86,22 @@ module _ {A : Type 0} (session : Session A) (stands : Config → Store → Type 
   pub line_fault : (e : Fault)
       → MatchFault e
       (λ at kind. (at ≡ number) × AtEach stands (λ config store. command_step config store command ≡ Err kind) × (new ≡ old))
-      (λ at. (at ≡ Some number) × MakesNone command × AtEach stands (λ config store. CommandMayBeFull config store command) × (new ≡ old))
+      (λ at. (at ≡ Some number) × MakesNone command × IsFullFor session.heap (Ok (Some command)) × AtEach stands (λ config store. CommandMayBeFull config store command) × (new ≡ old))
       (λ at. (at ≡ Some number) × AtEach stands (λ config store. IsSoundCommand config store command) × (new ≡ old))
       ⊥ written
       → MatchFault e
       (λ at kind. (at ≡ number) × AtEach stands (λ config store. line_step config store line ≡ Err kind) × (new ≡ old))
-      (λ at. (at ≡ Some number) × AtEach stands (λ config store. MayBeFull config store line × ¬ LineCollectsFirst config store line × NewLacksBlocks session.heap (entry_of line)) × (new ≡ old))
+      (λ at. (at ≡ Some number) × IsFullFor session.heap (entry_of line) × AtEach stands (λ config store. MayBeFull config store line × ¬ LineCollectsFirst config store line) × (new ≡ old))
       (λ at. (at ≡ Some number) × AtEach stands (λ config store. IsSound config store line) × (new ≡ old))
       ⊥ written
   line_fault (BadTrace at kind) facts = (facts.0, λ config store there. line_is config store line command says ∙ facts.1 config store there, facts.2)
   line_fault (BadSchedule at kind) facts = absurd facts
-  line_fault (HeapFull at) facts = (facts.0, λ config store there. (line_full config store line command says (facts.2 config store there), λ first. makes_none config store command facts.1 (subst (ReadCollectsFirst config store) says first), subst (NewLacksBlocks session.heap) (sym says) (no_new session command facts.1)), facts.3)
+  line_fault (HeapFull at) facts = (
+    facts.0,
+    subst (IsFullFor session.heap) (sym says) facts.2,
+    λ config store there. (line_full config store line command says (facts.3 config store there), λ first. makes_none config store command facts.1 (subst (ReadCollectsFirst config store) says first)),
+    facts.4,
+  )
   line_fault (NoMemory at) facts = (facts.0, λ config store there. line_sound config store line command says (facts.1 config store there), facts.2)
   line_fault ReadFailed facts = facts
   line_fault WriteFailed facts = facts

@@ -67,6 +67,19 @@ module _ (stands : Config → Store → Type 0) (number : ℕ) (line : List ℕ)
   abbrev SoFar : Config → Store → List ℕ → Type 0
   SoFar config store written = IsSound config store line × ((written ≡ []) ⊎ (LineCollectsFirst config store line × Made config store written))
 
+  -- what a fault of the line tells
+  abbrev Tells : (new : W) (failed : Type 0) → Fault → Type 0
+  Tells new failed e =
+      MatchFault e
+      (λ at kind. (at ≡ number) × AtEach stands (λ config store. (line_step config store line ≡ Err kind) × (new ≡ old)))
+      (λ at. (at ≡ Some number) × AtEach stands (λ config store. Full config store × (new ≡ old)))
+      (λ at. (at ≡ Some number) × AtEach stands (λ config store. Writes (SoFar config store) (contents old) (contents new)))
+      ⊥ failed
+
+  -- where it says that the heap is full
+  pub tells_full : (new : W) (failed : Type 0) (e : Fault) (at : Option ℕ) → e ≡ HeapFull at → Tells new failed e → AtEach stands Full
+  tells_full new failed e at is told = λ config store there. ((subst (Tells new failed) is told).1 config store there).0
+
   silent : (config : Config) (store : Store) (new : W) → new ≡ old → IsSound config store line → Writes (SoFar config store) (contents old) (contents new)
   silent config store new same sound = record {
     written = [];
@@ -78,17 +91,13 @@ module _ (stands : Config → Store → Type 0) (number : ℕ) (line : List ℕ)
   pub first_fault : {Lacks : Type 0} → ((config : Config) (store : Store) → MayBeFull config store line → ¬ LineCollectsFirst config store line → Lacks → Full config store) → (new : W) (failed : Type 0) (e : Fault)
       → MatchFault e
       (λ at kind. (at ≡ number) × AtEach stands (λ config store. line_step config store line ≡ Err kind) × (new ≡ old))
-      (λ at. (at ≡ Some number) × AtEach stands (λ config store. MayBeFull config store line × ¬ LineCollectsFirst config store line × Lacks) × (new ≡ old))
+      (λ at. (at ≡ Some number) × Lacks × AtEach stands (λ config store. MayBeFull config store line × ¬ LineCollectsFirst config store line) × (new ≡ old))
       (λ at. (at ≡ Some number) × AtEach stands (λ config store. IsSound config store line) × (new ≡ old))
       ⊥ failed
-      → MatchFault e
-      (λ at kind. (at ≡ number) × AtEach stands (λ config store. (line_step config store line ≡ Err kind) × (new ≡ old)))
-      (λ at. (at ≡ Some number) × AtEach stands (λ config store. Full config store × (new ≡ old)))
-      (λ at. (at ≡ Some number) × AtEach stands (λ config store. Writes (SoFar config store) (contents old) (contents new)))
-      ⊥ failed
+      → Tells new failed e
   first_fault full new failed (BadTrace at kind) f = (f.0, λ config store there. (f.1 config store there, f.2))
   first_fault full new failed (BadSchedule at kind) f = f
-  first_fault full new failed (HeapFull at) f = (f.0, λ config store there. let may = f.1 config store there in (full config store may.0 may.1 may.2, f.2))
+  first_fault full new failed (HeapFull at) f = (f.0, λ config store there. let may = f.2 config store there in (full config store may.0 may.1 f.1, f.3))
   first_fault full new failed (NoMemory at) f = (f.0, λ config store there. silent config store new f.2 (f.1 config store there))
   first_fault full new failed ReadFailed f = f
   first_fault full new failed WriteFailed f = f
@@ -96,29 +105,24 @@ module _ (stands : Config → Store → Type 0) (number : ℕ) (line : List ℕ)
   -- a line that wants room first
   module _ (wants : AtEach stands (λ config store. IsSound config store line × LineCollectsFirst config store line)) where
     -- where no room was made, though nothing had changed
-    pub room_fault : (stands' : Config → Store → Type 0) → ((config : Config) (store : Store) → stands config store → stands' config store) → (before : W) → before ≡ old
-        → (Short : Config → Store → Type 0) → ((config : Config) (store : Store) → IsSound config store line → LineCollectsFirst config store line → Short config store → Full config store)
+    pub room_fault : (before : W) → before ≡ old → (Short : Type 0) → ((config : Config) (store : Store) → stands config store → IsSound config store line → LineCollectsFirst config store line → Short → Full config store)
         → {S : Type 0} (session session' : S) (new : W) (failed failed' : Type 0) → (failed → failed') → (e : Fault)
         → MatchFault e (λ _ _. ⊥)
-        (λ at. (at ≡ Some number) × AtEach stands' (λ config store. Short config store) × (session' ≡ session) × (new ≡ before))
+        (λ at. (at ≡ Some number) × Short × (session' ≡ session) × (new ≡ before))
         (λ at. (at ≡ Some number) × (session' ≡ session) × (new ≡ before))
         ⊥ failed
-        → MatchFault e
-        (λ at kind. (at ≡ number) × AtEach stands (λ config store. (line_step config store line ≡ Err kind) × (new ≡ old)))
-        (λ at. (at ≡ Some number) × AtEach stands (λ config store. Full config store × (new ≡ old)))
-        (λ at. (at ≡ Some number) × AtEach stands (λ config store. Writes (SoFar config store) (contents old) (contents new)))
-        ⊥ failed'
-    room_fault stands' still before same Short full session session' new failed failed' told (BadTrace at kind) f = absurd f
-    room_fault stands' still before same Short full session session' new failed failed' told (BadSchedule at kind) f = f
-    room_fault stands' still before same Short full session session' new failed failed' told (HeapFull at) f = (
+        → Tells new failed' e
+    room_fault before same Short full session session' new failed failed' told (BadTrace at kind) f = absurd f
+    room_fault before same Short full session session' new failed failed' told (BadSchedule at kind) f = f
+    room_fault before same Short full session session' new failed failed' told (HeapFull at) f = (
       f.0,
       λ config store there.
           let w = wants config store there in
-          (full config store w.0 w.1 (f.1 config store (still config store there)), f.3 ∙ same),
+          (full config store there w.0 w.1 f.1, f.3 ∙ same),
     )
-    room_fault stands' still before same Short full session session' new failed failed' told (NoMemory at) f = (f.0, λ config store there. silent config store new (f.2 ∙ same) (wants config store there).0)
-    room_fault stands' still before same Short full session session' new failed failed' told ReadFailed f = f
-    room_fault stands' still before same Short full session session' new failed failed' told WriteFailed f = told f
+    room_fault before same Short full session session' new failed failed' told (NoMemory at) f = (f.0, λ config store there. silent config store new (f.2 ∙ same) (wants config store there).0)
+    room_fault before same Short full session session' new failed failed' told ReadFailed f = f
+    room_fault before same Short full session session' new failed failed' told WriteFailed f = told f
 
     -- where room was made, in a session that stands for what the collection leaves
     module _ (mid : Config → Store → Type 0) (between : Option (List ℕ)) (room : AtEach stands (λ config store. mid config (collected config 0 store) × Writes (Made config store) (contents old) between)) where
@@ -147,14 +151,10 @@ module _ (stands : Config → Store → Type 0) (number : ℕ) (line : List ℕ)
       pub second_fault : (Lacks : Type 0) (before new : W) (failed failed' : Type 0) → contents before ≡ between → (failed → failed') → (e : Fault)
           → MatchFault e
           (λ at kind. (at ≡ number) × AtEach mid (λ config store. line_step config store line ≡ Err kind) × (new ≡ before))
-          (λ at. (at ≡ Some number) × AtEach mid (λ config store. MayBeFull config store line × ¬ LineCollectsFirst config store line × Lacks) × (new ≡ before))
+          (λ at. (at ≡ Some number) × Lacks × AtEach mid (λ config store. MayBeFull config store line × ¬ LineCollectsFirst config store line) × (new ≡ before))
           (λ at. (at ≡ Some number) × AtEach mid (λ config store. IsSound config store line) × (new ≡ before))
           ⊥ failed
-          → MatchFault e
-          (λ at kind. (at ≡ number) × AtEach stands (λ config store. (line_step config store line ≡ Err kind) × (new ≡ old)))
-          (λ at. (at ≡ Some number) × AtEach stands (λ config store. Full config store × (new ≡ old)))
-          (λ at. (at ≡ Some number) × AtEach stands (λ config store. Writes (SoFar config store) (contents old) (contents new)))
-          ⊥ failed'
+          → Tells new failed' e
       second_fault Lacks before new failed failed' same told (BadTrace at kind) f = (
         f.0,
         λ config store there.
@@ -168,7 +168,7 @@ module _ (stands : Config → Store → Type 0) (number : ℕ) (line : List ℕ)
         f.0,
         λ config store there.
             let w = wants config store there in
-            let may = f.1 config (collected config 0 store) (room config store there).0 in
+            let may = f.2 config (collected config 0 store) (room config store there).0 in
             absurd (may.1 (full_again config store (collected config 0 store) (entry_of line) w.1 may.0.wants)),
       )
       second_fault Lacks before new failed failed' same told (NoMemory at) f = (

@@ -5,6 +5,7 @@ pub use Rattle.trace_lines.specs.Sound
 pub use Rattle.trace_lines.specs.CollectsFirst
 pub use Rattle.trace_lines.specs.Attempts
 pub use Rattle.trace_lines.specs.Stepped
+pub use Rattle.trace_prints.specs.Collects
 pub use Rattle.trace_prints.specs.Session
 pub use Rattle.trace_prints.specs.Refusals
 pub use Rattle.trace_prints.specs.Made

@@ -8,7 +8,7 @@ ghost use Rattle.trace_lines.specs.Faults.{MatchFault};
 ghost use Rattle.trace_lines.specs.Outcome.{line_step, command_step};
 ghost use Rattle.trace_lines.specs.Sound.{IsSound, IsSoundCommand};
 ghost use Rattle.trace_lines.specs.Stepped.{AtEach, StepsTo};
-ghost use Rattle.trace_prints.specs.Refusals.{MayBeFull, CommandMayBeFull, NewLacksBlocks};
+ghost use Rattle.trace_prints.specs.Refusals.{MayBeFull, CommandMayBeFull, IsFullFor};
 ghost use Rattle.trace_prints.specs.Session.{Stands};
 ghost use Rattle.trace_step.specs.Commands.{MakesNone};
 
@@ -33,7 +33,7 @@ fn carry_out_command<A: Allocator + Clone, W: Sink>(
     ensures rises { W.failed_writes writer.new ≤ W.failed_writes writer.old + 1 }
     ensures err { IfErr result (λ e. MatchFault e
         (λ at kind. (at ≡ number) × AtEach (Stands session.old) (λ config store. command_step config store (command_of command.entry) ≡ Err kind) × (writer.new ≡ writer.old))
-        (λ at. (at ≡ Some number) × MakesNone (command_of command.entry) × AtEach (Stands session.old) (λ config store. CommandMayBeFull config store (command_of command.entry)) × (writer.new ≡ writer.old))
+        (λ at. (at ≡ Some number) × MakesNone (command_of command.entry) × IsFullFor session.old.heap (Ok (Some (command_of command.entry))) × AtEach (Stands session.old) (λ config store. CommandMayBeFull config store (command_of command.entry)) × (writer.new ≡ writer.old))
         (λ at. (at ≡ Some number) × AtEach (Stands session.old) (λ config store. IsSoundCommand config store (command_of command.entry)) × (writer.new ≡ writer.old))
         ⊥
         (W.failed_writes writer.new ≡ W.failed_writes writer.old + 1)) }
@@ -75,7 +75,7 @@ pub fn attempt<A: Allocator + Clone, W: Sink>(
     ensures rises { W.failed_writes writer.new ≤ W.failed_writes writer.old + 1 }
     ensures err { IfErr result (λ e. MatchFault e
         (λ at kind. (at ≡ number) × AtEach (Stands session.old) (λ config store. line_step config store line.now ≡ Err kind) × (writer.new ≡ writer.old))
-        (λ at. (at ≡ Some number) × AtEach (Stands session.old) (λ config store. MayBeFull config store line.now × ¬ LineCollectsFirst config store line.now × NewLacksBlocks session.old.heap (entry_of line.now)) × (writer.new ≡ writer.old))
+        (λ at. (at ≡ Some number) × IsFullFor session.old.heap (entry_of line.now) × AtEach (Stands session.old) (λ config store. MayBeFull config store line.now × ¬ LineCollectsFirst config store line.now) × (writer.new ≡ writer.old))
         (λ at. (at ≡ Some number) × AtEach (Stands session.old) (λ config store. IsSound config store line.now) × (writer.new ≡ writer.old))
         ⊥
         (W.failed_writes writer.new ≡ W.failed_writes writer.old + 1)) }

@@ -1,10 +1,10 @@
 //! What one line does.
-ghost use Rattle.std.specs.Prelude.{◌≡◌, ◌+◌, ◌-◌, ◌^◌, ◌<◌, ◌≤◌, Some, Err, OnOk, IfErr};
+ghost use Rattle.std.specs.Prelude.{◌≡◌, ℕ, ◌+◌, ◌-◌, ◌^◌, ◌<◌, ◌≤◌, Option, Some, Err, OnOk, IfErr};
 ghost use Rattle.trace_lines.specs.CollectsFirst.{IsSoundSoFar};
 ghost use Rattle.trace_lines.specs.Faults.{MatchFault};
 ghost use Rattle.trace_lines.specs.Outcome.{line_step};
 ghost use Rattle.trace_lines.specs.Stepped.{AtEach, StepsTo, Writes};
-ghost use Rattle.trace_prints.specs.Refusals.{MayBeFull};
+ghost use Rattle.trace_prints.specs.Refusals.{IsFullForLine, MayBeFull};
 ghost use Rattle.trace_prints.specs.Session.{Stands};
 
 use crate::attempting::attempt;
@@ -14,6 +14,7 @@ use trace_lines::{Attempt, Fault};
 use trace_prints::{Session, make_room};
 
 /// Carries out one line by one worker. Where a new object has no room in its nursery, generation 0 is collected first.
+/// `HeapFull` says that this heap, as it was before the line, has too few free blocks for it (`full`).
 pub fn carry_out<A: Allocator + Clone, W: Sink>(
     session: &mut Session<A>,
     number: u128,
@@ -31,6 +32,7 @@ pub fn carry_out<A: Allocator + Clone, W: Sink>(
         (λ at. (at ≡ Some number) × AtEach (Stands session.old) (λ config store. Writes (IsSoundSoFar config store line.now) (W.contents writer.old) (W.contents writer.new)))
         ⊥
         (W.failed_writes writer.new ≡ W.failed_writes writer.old + 1)) }
+    ensures full { (at : Option ℕ) → result ≡ Err (Fault.HeapFull at) → AtEach (Stands session.old) (λ config store. IsFullForLine session.old.heap config store line.now) }
 {
     match attempt(session, number, line, writer) {
         Ok(Attempt::Done) => return Ok(()),

@@ -18,14 +18,16 @@ returns-then-generation-generations-clause-err g c = (
 )
 
 pub returns-in-Err-HeapFull-clause-err : goal.returns-in-Err-HeapFull-clause-err
-returns-in-Err-HeapFull-clause-err g c = (
-  refl,
-  λ config store stands.
-      collect_full _ _ config store stands c.args.generation
-      (omega (arith, c.if-generation-generations.false, c.generations.ensures.value, ap (λ x. x.shape.generations) c.config.ensures))
-      (c.in-Err-HeapFull.ensures.full (ap (λ e. Err e) c.in-Err-HeapFull.field-0-is)),
-  refl,
-)
+returns-in-Err-HeapFull-clause-err g c =
+    let short = c.in-Err-HeapFull.ensures.full (ap (λ e. Err e) c.in-Err-HeapFull.field-0-is) in (
+      refl,
+      short,
+      λ config store stands.
+          collect_full _ _ config store stands c.args.generation
+          (omega (arith, c.if-generation-generations.false, c.generations.ensures.value, ap (λ x. x.shape.generations) c.config.ensures))
+          short,
+      refl,
+    )
 
 pub returns-in_default-clause-err : goal.returns-in_default-clause-err
 returns-in_default-clause-err g c = (

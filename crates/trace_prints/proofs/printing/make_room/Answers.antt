@@ -9,8 +9,7 @@ returns-in-Ok-write_collection-clause-ok g c = λ config store stands.
 pub returns-in-Err-HeapFull-clause-err : goal.returns-in-Err-HeapFull-clause-err
 returns-in-Err-HeapFull-clause-err g c = (
   refl,
-  λ config store stands.
-      record { heap = c.args.session.now.heap; names = c.args.session.now.names; stands = stands; short = c.in-Err-HeapFull.ensures.full (ap (λ e. Err e) c.in-Err-HeapFull.field-0-is) },
+  c.in-Err-HeapFull.ensures.full (ap (λ e. Err e) c.in-Err-HeapFull.field-0-is),
   ap (λ h. record c.args.session.now { heap = h }) c.in-Err-HeapFull.ensures.err,
   refl,
 )

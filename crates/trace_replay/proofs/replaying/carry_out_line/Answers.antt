@@ -1,11 +1,11 @@
-use Rattle.std.proofs.Common.{◌≡◌, ◌+◌, Ok, refl, sym, ap, subst, ◌∙◌}
+use Rattle.std.proofs.Common.{◌≡◌, ◌+◌, Ok, refl, ap, subst, ◌∙◌}
 use Rattle.trace_lines.specs.declared.attempt.Attempt.TheVariants.{Done, NurseryFull}
 use Rattle.schedules.specs.Events.{IsShortOfBlocks}
 use Rattle.trace_step.specs.Session.{Stands}
 use Rattle.trace_step.proofs.Twice.{told, first_fault, room_fault, done_twice, no_full_twice, second_fault}
 use Rattle.trace_replay.specs.Replays.{state_of, HasMadeRoom}
-use Rattle.trace_replay.specs.ReplayStops.{WantsRoom, for_collection}
-use Rattle.trace_replay.proofs.RoomSteps.{wants_large, each_short, plain_steps, with_room_steps, made_at_first}
+use Rattle.trace_replay.specs.ReplayStops.{WantsRoom, for_collection, for_large}
+use Rattle.trace_replay.proofs.RoomSteps.{plain_steps, with_room_steps, made_at_first}
 use Rattle.trace_replay.proofs.replaying.carry_out_line.Goals as goal
 
 pub returns-in-Ok-Done-clause-ok : goal.returns-in-Ok-Done-clause-ok
@@ -16,17 +16,15 @@ returns-in-Ok-Done-clause-ok g c = λ config store stands.
 pub returns-in-Err-clause-err : goal.returns-in-Err-clause-err
 returns-in-Err-clause-err g c =
     first_fault (Stands c.args.session.now) c.args.number c.args.line.now (λ config store. WantsRoom config c.args.workers (state_of c.args.session.now store) c.args.line.now) (λ config store. HasMadeRoom c.args.workers (state_of c.args.session.now store)) g.W.Sink.contents c.args.writer.now
-    (λ config store may not lacks. wants_large config c.args.workers (state_of c.args.session.now store) c.args.line.now c.requires.plain may lacks) c.attempt.new.writer _ c.in-Err.fault c.in-Err.ensures.err
+    (λ config store may not lacks. for_large may.sound c.requires.plain lacks) c.attempt.new.writer _ c.in-Err.fault c.in-Err.ensures.err
 
 pub returns-in-Err-make_room-clause-err : goal.returns-in-Err-make_room-clause-err
 returns-in-Err-make_room-clause-err g c =
     let same = c.in-Ok-NurseryFull.ensures.full (ap (λ a. Ok a) c.in-Ok-NurseryFull.field-0-is) in
-    let short = IsShortOfBlocks c.attempt.new.session.heap 0 c.args.workers in
     room_fault (Stands c.args.session.now) c.args.number c.args.line.now (λ config store. WantsRoom config c.args.workers (state_of c.args.session.now store) c.args.line.now) (λ config store. HasMadeRoom c.args.workers (state_of c.args.session.now store)) g.W.Sink.contents c.args.writer.now
-    (λ config store there. told _ _ c.in-Ok-NurseryFull.field-0 NurseryFull c.in-Ok-NurseryFull.field-0-is (c.in-Ok-NurseryFull.ensures.ok config store there)) (Stands c.attempt.new.session) (λ config store there. subst (λ s. Stands s config store) (sym same.0) there) c.attempt.new.writer same.1
-    (λ config store. short) (λ config store sound first blocks. for_collection sound first (subst (λ s. IsShortOfBlocks s.heap 0 c.args.workers) same.0 blocks))
-    c.attempt.new.session c.make_room.new.session c.make_room.new.writer _ _ (λ is. is ∙ ap (λ w. g.W.Sink.failed_writes w + 1) same.1) c.in-Err-make_room.fault
-    (each_short (Stands c.attempt.new.session) c.args.number c.attempt.new.session c.make_room.new.session c.attempt.new.writer c.make_room.new.writer _ short c.in-Err-make_room.fault c.in-Err-make_room.ensures.err)
+    (λ config store there. told _ _ c.in-Ok-NurseryFull.field-0 NurseryFull c.in-Ok-NurseryFull.field-0-is (c.in-Ok-NurseryFull.ensures.ok config store there)) c.attempt.new.writer same.1
+    (IsShortOfBlocks c.attempt.new.session.heap 0 c.args.workers) (λ config store there sound first blocks. for_collection sound first (subst (λ s. IsShortOfBlocks s.heap 0 c.args.workers) same.0 blocks))
+    c.attempt.new.session c.make_room.new.session c.make_room.new.writer _ _ (λ is. is ∙ ap (λ w. g.W.Sink.failed_writes w + 1) same.1) c.in-Err-make_room.fault c.in-Err-make_room.ensures.err
 
 pub returns-in-Ok-Done-attempt-clause-ok : goal.returns-in-Ok-Done-attempt-clause-ok
 returns-in-Ok-Done-attempt-clause-ok g c = λ config store stands.
