@@ -1,4 +1,4 @@
-use Rattle.std.proofs.Common.{◌++◌, ap, subst, ◌∙◌}
+use Rattle.std.proofs.Common.{◌++◌, ap, subst, ◌∙◌, arith}
 use Rattle.std.specs.Io.KnownBytes.{Appends}
 use Rattle.model.specs.Text.{collection_line}
 use Rattle.report_lines.specs.ReportText.{workers_text}
@@ -6,6 +6,9 @@ use Rattle.heap_text.specs.CollectionLine.{cause_word}
 use Rattle.heap_text.specs.declared.cause.Cause.TheVariants.{FullNursery}
 use Rattle.trace_replay.proofs.ByRoom.{room_made}
 use Rattle.trace_replay.proofs.collecting.make_room.Goals as goal
+
+pub settled_by_itself-requires-clause-generation : goal.settled_by_itself-requires-clause-generation
+settled_by_itself-requires-clause-generation g c = omega (arith, c.generations-generations.ensures.in_range.some_generation, ap (λ x. x.shape.generations) c.config.ensures)
 
 pub returns-in-Ok-write_report-clause-ok : goal.returns-in-Ok-write_report-clause-ok
 returns-in-Ok-write_report-clause-ok g c = λ config store stands.
