@@ -11,7 +11,7 @@
 #   run.sh young [OBJECTS]  the collections of little alone
 #   run.sh large            the collections of large objects alone
 #   run.sh events [NODES]   the collections as events of four workers alone
-#   run.sh names            the lines with many names alone
+#   run.sh names [NAMES]    the lines with many names alone
 set -eu
 here=$(cd "$(dirname "$0")" && pwd)
 work=$(mktemp -d)
@@ -192,8 +192,8 @@ puts() {
   "$here/traces.sh" names "$1" 0 > "$work/made"
   "$here/traces.sh" names "$1" 1000000 > "$work/all"
   local own other=''
-  own=$(each gctrace 1000000)
-  [ -n "$plain" ] && other=$(each beside 1000000)
+  own=$(generations=2 each gctrace 1000000)
+  [ -n "$plain" ] && other=$(generations=2 each beside 1000000)
   awk -v names="$1" -v own="$own" -v other="$other" 'BEGIN {
     printf "a put with %d names in use: %.0f nanoseconds", names, own * 1000
     if (other != "") printf "; plain %.0f, so %.2f times that", other * 1000, own / other
@@ -221,7 +221,7 @@ case "${1:-}" in
   young) collections_of_little "${2:-100000}"; exit ;;
   large) collections_of_large; exit ;;
   events) collections_by_events "${2:-100000}" 20; exit ;;
-  names) lines_by_names; exit ;;
+  names) if [ $# -gt 1 ]; then puts "$2"; else lines_by_names; fi; exit ;;
 esac
 
 copies graph 8000 1000
