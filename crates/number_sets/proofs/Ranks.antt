@@ -7,7 +7,7 @@ use Rattle.std.proofs.lemmas.Bool.{cases_lt}
 use Rattle.std.proofs.lemmas.List.{take_more, take_all, take-append-drop, drop_more, length-take, length-drop, length-take-le, length-append, get_or-append_right, get_or_append_left, get_or-drop}
 use Rattle.std.proofs.lemmas.Option.{slice_get-get_or, slice_get_within, get_or_from_slice_get}
 use Rattle.number_sets.specs.Members.{set_from}
-use Rattle.number_sets.specs.Words.{bits_of, flags_of, members_of, rank, NoneSetBelow, AreRanks}
+use Rattle.number_sets.specs.Words.{bits_of, flags_of, members_of, rank, NoneSetBelow}
 use Rattle.number_sets.proofs.FlagLemmas.{set_from-append, set_from-first, set_from-none, length-set_from-le}
 use Rattle.number_sets.proofs.Bits.{length-bits, bits-zero, bits-cleared, count_bits, IsLowest, is_lowest}
 use Rattle.number_sets.proofs.WordLemmas.{length-flags, flags-append, flags-one, flags-cons}
@@ -33,10 +33,6 @@ rank-more ws place word h e below =
     ∙ ap length (set_from-append 0 front (bits_of 64 word))
     ∙ length-append (set_from 0 front) (set_from (0 + length front) (bits_of 64 word))
     ∙ ap (λ n. length (set_from 0 front) + n) (count_bits (0 + length front) 64 word below)
-
--- the ranks of one word more
-abbrev pub AreRanksBelow : List ℕ → List ℕ → ℕ → Type 0
-AreRanksBelow ws before n = (place : ℕ) → place < n → get_or before place 0 ≡ rank ws place
 
 -- a member's place by the rank of its word
 pub member_in : (ws : List ℕ) (at word k n : ℕ) → at < length ws → word ≡ get_or ws at 0 → word < 2 ^ 64 → rank ws at ≤ k → k < rank ws at + count_ones word → get_or (set_from (64 * at) (bits_of 64 word)) (k - rank ws at) 0 ≡ n → slice_get (members_of ws) k ≡ Some n
@@ -117,30 +113,23 @@ left_after word left i e some below first =
     drop-next (x ∷ xs) (suc i) y ys e =
         let same : suc i + 1 ≡ suc (i + 1) = omega arith in rw same (drop-next xs i y ys e)
 
--- what a search among the ranks has found
-pub record IsFound (ws : List ℕ) (word at k : ℕ) : Type 0 where
-  pub within : at < length ws
-  pub word_is : word ≡ get_or ws at 0
-  pub low : rank ws at ≤ k
-  pub high : k < rank ws at + count_ones word
-
 pub some_words : (ws : List ℕ) (k : ℕ) → k < length (members_of ws) → 0 < length ws
 some_words ws k h = omega (arith, length-set_from-le 0 (flags_of ws), length-flags ws)
 
-pub is_found : (ws before : List ℕ) (word at k : ℕ) → AreRanks ws before → at < length before → get_or before at 0 ≤ k → (at + 1 < length before → k < get_or before (at + 1) 0) → k < length (members_of ws) → word ≡ get_or ws at 0 → word < 2 ^ 64 → IsFound ws word at k
-is_found ws before word at k ranks within at_most next more e below =
-    let inside : at < length ws = omega (arith, ranks.as_many) in
-    let step : rank ws (at + 1) ≡ rank ws at + count_ones word = rank-more ws at word inside e below in
-    record {
-      within = inside;
-      word_is = e;
-      low = omega (arith, ranks.each at inside);
-      high =
-          elim (cases_lt (at + 1) (length ws)) [
-            | inl h ↦ omega (arith, next (omega (arith, ranks.as_many)), ranks.each (at + 1) h)
-            | inr h ↦ omega (arith, rank-all ws (at + 1) h)
-          ];
-    }
+-- a word that has no more members before it than a member's place is there
+pub word_within : (ws : List ℕ) (at k : ℕ) → rank ws at ≤ k → k < length (members_of ws) → at < length ws
+word_within ws at k low h =
+    elim (cases_lt at (length ws)) [ inl within ↦ within | inr past ↦ absurd (omega (arith, rank-all ws at past)) ]
+
+-- how many members are still to be passed, at the word that a walk has come to
+pub record IsLeft (ws : List ℕ) (at left k : ℕ) : Type 0 where
+  pub within : at < length ws
+  pub left_is : rank ws at + left ≡ k
+
+pub word_passed : (ws : List ℕ) (at flags left k : ℕ) → IsLeft ws at left k → flags ≡ count_ones (get_or ws at 0) → get_or ws at 0 < 2 ^ 64 → flags ≤ left → k < length (members_of ws) → IsLeft ws (at + 1) (left - flags) k
+word_passed ws at flags left k now e below passed h =
+    let more = rank-more ws at (get_or ws at 0) now.within refl below in
+    record { within = word_within ws (at + 1) k (omega (arith, more, now.left_is)) h; left_is = omega (arith, more, now.left_is) }
 
 -- an element by its place: there is one, or the list ends before
 pub cases_of : (xs : List ℕ) (k : ℕ) (found : Option ℕ) → found ≡ slice_get xs k → MatchOption found (length xs ≤ k) (λ n. (k < length xs) × HoldsAt (λ m. n ≡ m) xs k)

@@ -1,6 +1,8 @@
 -- Flags as the bits of words, and what holds of the fields of a set.
 use Rattle.std.specs.Prelude.{◌≡◌, ℕ, zero, suc, ◌*◌, ◌/◌, ◌%◌, ◌<◌, ◌≤◌, Bool, false, nat_eq, List, [], ◌∷◌, ◌++◌, length, take, get_or}
+use Rattle.std.specs.Int.{div_ceil}
 use Rattle.number_sets.specs.Members.{set_from}
+use Rattle.number_sets.specs.declared.ranking.TheConstants.{WORDS_IN_GROUP}
 
 -- the lowest so many bits of a number as flags, the lowest first
 unfoldable pub bits_of : ℕ → ℕ → List Bool
@@ -42,10 +44,10 @@ pub record IsNumberSet (words : List ℕ) (limit count lowest : ℕ) : Type 0 wh
   pub limit_in_range : limit ≤ 65535
   pub words_in_range : length words ≤ 1024
 
--- the counts of the members before each word
+-- the counts of the members before each group of words, the last of which may have fewer words
 pub record AreRanks (words before : List ℕ) : Type 0 where
-  pub as_many : length before ≡ length words
-  pub each : (place : ℕ) → place < length words → get_or before place 0 ≡ rank words place
+  pub as_many : length before ≡ div_ceil (length words) WORDS_IN_GROUP
+  pub each : (group : ℕ) → group < length before → get_or before group 0 ≡ rank words (WORDS_IN_GROUP * group)
 
 -- what holds of the fields of a ranked set
 pub record IsRankedSet (words before : List ℕ) (count : ℕ) : Type 0 where

@@ -5,11 +5,11 @@ ghost use Rattle.std.specs.Option.{MatchOption};
 ghost use Rattle.std.specs.List.Sorted.{IsStrictlyIncreasing};
 ghost use Rattle.number_sets.specs.Words.{members_of};
 
-use crate::ranking::{counts_before, last_at_most, select};
+use crate::ranking::{WORDS_IN_GROUP, counts_before, last_at_most, nth_from};
 use std::alloc::{AllocError, Allocator, Global};
 use std::marker::Model;
 
-/// Numbers in rising order, as they stood in a set, by flags and the count of the members before each word.
+/// Numbers in rising order, as they stood in a set, by flags and the count of the members before each group of words.
 #[derive(Debug, Drop)]
 pub struct RankedSet<A: Allocator = Global> {
     words: Vec<u64, A>,
@@ -69,9 +69,9 @@ impl<A: Allocator> RankedSet<A> {
             return None;
         }
         let k = k as u32;
-        let at = last_at_most(&self.before, k);
-        let bit = select(self.words[at], k - self.before[at]);
-        Some(at as u32 * 64 + bit)
+        let group = last_at_most(&self.before, k);
+        let left = k - self.before[group];
+        Some(nth_from(&self.words, group * WORDS_IN_GROUP, left))
     }
 
     /// The same members in another allocator's memory. An error says that memory ran out.

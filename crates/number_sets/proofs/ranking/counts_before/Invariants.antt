@@ -1,12 +1,14 @@
-use Rattle.std.proofs.Common.{◌≡◌, length}
+use Rattle.std.proofs.Common.{◌≡◌, ◌≤◌, ◌*◌, length}
+use Rattle.std.specs.Vec.{vec_capacity}
 use Rattle.number_sets.specs.Words.{rank}
-use Rattle.number_sets.proofs.Ranks.{AreRanksBelow}
+use Rattle.number_sets.proofs.Groups.{AreRanksBelow}
 use Rattle.number_sets.proofs.ranking.counts_before.Given as goal
 
-abbrev pub invariant-loop-word : goal.invariant-loop-word
-invariant-loop-word g l =
+abbrev pub invariant-loop-group : goal.invariant-loop-group
+invariant-loop-group g l =
     record {
-      as_many : length l.before.items ≡ l.word-index;
-      each : AreRanksBelow l.words l.before.items l.word-index;
-      count_is : l.count ≡ rank l.words l.word-index;
+      room : l.groups ≤ vec_capacity l.before;
+      as_many : length l.before.items ≡ l.group;
+      each : AreRanksBelow l.words l.before.items l.group;
+      count_is : l.count ≡ rank l.words (16 * l.group);
     }
