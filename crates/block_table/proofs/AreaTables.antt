@@ -9,11 +9,11 @@ use Rattle.std.specs.Prelude.{nat_eq, nat_lt, nat_le, is_some}
 use Rattle.model.specs.Reached.{has}
 use Rattle.block_pool.specs.BlockValue.{BlockValue}
 use Rattle.block_table.specs.Areas.{is_flagged, AreAreas}
+use Rattle.block_table.specs.Counts.{HasCounted, IsYoungRun}
 use Rattle.block_table.specs.Installed.{is_installed_at, installed}
-use Rattle.block_table.specs.Table.{slot_at, slot_len, cleared, young_slot}
+use Rattle.block_table.specs.Table.{slot_at, slot_len, objects_before, cleared, young_slot}
 use Rattle.block_table.proofs.Areas.{once_at}
 use Rattle.block_table.proofs.Installed.{numbers_of, none_installed}
-use Rattle.block_table.proofs.TableReads.{HasCounted}
 use Rattle.block_table.proofs.TableSteps.{get_or_end, in_list}
 
 no_flags : (m k : ℕ) → let none : List Bool = [] in get_or (replicate m none) k none ≡ none
@@ -124,30 +124,29 @@ sum_still table from (suc d) le none =
     let empty : slot_len (get_or table (from + d) None) ≡ 0 = none (from + d) (omega arith) (omega arith) in
     rw next (omega (arith, sum_by_more slot_len table (from + d) None (omega arith), rest, empty))
 
-module _ (table : List (Option BlockValue)) (bases : List ℕ) (objects : ℕ) (so_far : HasCounted table bases (length bases) objects) where
+module _ (table : List (Option BlockValue)) (bases : List ℕ) (objects : ℕ) (so_far : HasCounted table bases objects) where
   sum_until : (b : ℕ) → length bases ≤ b → b ≤ length table → ((k : ℕ) → length bases ≤ k → k < b → slot_len (get_or table k None) ≡ 0) → objects ≡ sum_by slot_len (take b table)
   sum_until b low le none =
       let split : length bases + (b - length bases) ≡ b = omega arith in
       let still : sum_by slot_len (take (length bases + (b - length bases)) table) ≡ sum_by slot_len (take (length bases) table) = sum_still table (length bases) (b - length bases) (omega arith) (λ k from lt. none k from (omega (arith, lt))) in
       so_far.objects_are ∙ sym still ∙ ap (λ n. sum_by slot_len (take n table)) split
 
-  pub counted_to : (new : List ℕ) (number size : ℕ) → number < length table → length bases ≤ number → ((k : ℕ) → length bases ≤ k → k < number → slot_len (get_or table k None) ≡ 0) → new ≡ take (number + 1) bases ++ replicate (number + 1 - length bases) objects → slot_len (get_or table number None) ≡ size → size ≤ 512 → HasCounted table new (length new) (objects + size)
-  counted_to new number size lt low none items here most =
-      let whole : new ≡ bases ++ replicate (number + 1 - length bases) objects = items ∙ ap (λ xs. xs ++ replicate (number + 1 - length bases) objects) (take_all (number + 1) bases (omega arith)) in
-      let len : length new ≡ number + 1 = ap length whole ∙ length-append bases (replicate (number + 1 - length bases) objects) ∙ ap (λ m. length bases + m) (length-replicate (number + 1 - length bases) objects) ∙ (omega arith) in
-      rw len (record {
-        len = len;
+  -- blocks that hold no object have all the same count
+  pub counted_to : (new : List ℕ) (number : ℕ) → number ≤ length table → length bases ≤ number → ((k : ℕ) → length bases ≤ k → k < number → slot_len (get_or table k None) ≡ 0) → new ≡ take number bases ++ replicate (number - length bases) objects → HasCounted table new objects
+  counted_to new number le low none items =
+      let whole : new ≡ bases ++ replicate (number - length bases) objects = items ∙ ap (λ xs. xs ++ replicate (number - length bases) objects) (take_all number bases low) in
+      let len : length new ≡ number = ap length whole ∙ length-append bases (replicate (number - length bases) objects) ∙ ap (λ m. length bases + m) (length-replicate (number - length bases) objects) ∙ (omega arith) in
+      record {
         each = λ b below. ap (λ xs. get_or xs b 0) whole ∙ ⊎_elim
-            (λ old. get_or_append_left bases (replicate (number + 1 - length bases) objects) 0 b old ∙ so_far.each b old)
+            (λ old. get_or_append_left bases (replicate (number - length bases) objects) 0 b old ∙ so_far.each b old)
             (λ filled.
             let past : length bases ≤ b = filled in
             let split : length bases + (b - length bases) ≡ b = omega arith in
-            let at : get_or (bases ++ replicate (number + 1 - length bases) objects) (length bases + (b - length bases)) 0 ≡ objects = get_or-append-add bases (replicate (number + 1 - length bases) objects) (b - length bases) 0 ∙ get_or-replicate (number + 1 - length bases) (b - length bases) objects 0 (omega (arith, below)) in
-            sym (ap (λ m. get_or (bases ++ replicate (number + 1 - length bases) objects) m 0) split) ∙ at ∙ sum_until b past (omega (arith, below)) (λ k from under. none k from (omega (arith, under, below))))
+            let at : get_or (bases ++ replicate (number - length bases) objects) (length bases + (b - length bases)) 0 ≡ objects = get_or-append-add bases (replicate (number - length bases) objects) (b - length bases) 0 ∙ get_or-replicate (number - length bases) (b - length bases) objects 0 (omega (arith, below, len)) in
+            sym (ap (λ m. get_or (bases ++ replicate (number - length bases) objects) m 0) split) ∙ at ∙ sum_until b past (omega (arith, below, len)) (λ k from under. none k from (omega (arith, under, below, len))))
             (cases_lt b (length bases));
-        objects_are = let before : objects ≡ sum_by slot_len (take number table) = sum_until number low (omega arith) none in omega (arith, sum_by_more slot_len table number None lt, here, before);
-        few = omega (arith, so_far.few, most);
-      })
+        objects_are = sum_until number low le none ∙ ap (objects_before table) (sym len);
+      }
 
   pub counted_all : length bases ≤ length table → ((k : ℕ) → length bases ≤ k → slot_len (get_or table k None) ≡ 0) → objects ≡ sum_by slot_len table
   counted_all le none = sum_until (length table) le (omega arith) (λ k from lt. none k from) ∙ ap (sum_by slot_len) (take_all (length table) table (omega arith))
@@ -155,6 +154,15 @@ module _ (table : List (Option BlockValue)) (bases : List ℕ) (objects : ℕ) (
 -- a slot that isn't flagged counts nothing
 pub old_len : (g : ℕ) (slot : Option BlockValue) → is_some (young_slot g slot) ≡ false → slot_len (young_slot g slot) ≡ 0
 old_len g slot none = ap slot_len (none_of (young_slot g slot) none)
+
+-- a run goes past a block that is flagged where it begins
+pub run_passes : (g : ℕ) (table : List (Option BlockValue)) (from to : ℕ) → IsYoungRun g table from to → is_some (young_slot g (slot_at table from)) ≡ true → from < to
+run_passes g table from to run first = ⊎_elim
+    (λ lt. lt)
+    (λ le.
+    let same : to ≡ from = omega (arith, le, run.no_shorter) in
+    absurd (true≢false (sym first ∙ ap (λ n. is_some (young_slot g (slot_at table n))) (sym same) ∙ run.end)))
+    (cases_lt from to)
 
 -- the flags after a collection's blocks took the place of those that went
 pub exchanged_areas : (old new : List (Option BlockValue)) (areas left now : List (List Bool)) (gone : List ℕ) (blocks : List BlockValue) (count : ℕ) → AreAreas old areas → ((g n : ℕ) → is_flagged left g n ≡ cond (has gone n) false (is_flagged areas g n)) → ((g n : ℕ) → is_flagged now g n ≡ (is_some (young_slot g (installed blocks n)) || is_flagged left g n)) → ((n : ℕ) (block : BlockValue) → installed blocks n ≡ Some block → slot_at old n ≡ None) → ((n : ℕ) → slot_at new n ≡ cond (is_some (installed blocks n)) (installed blocks n) (cond (has gone n) None (cond (nat_lt n count) (cleared (slot_at old n)) (slot_at old n)))) → AreAreas new now

@@ -1,7 +1,8 @@
 -- What a function that reads or changes the table block by block knows of the block that it found.
-use Rattle.std.proofs.Common.{◌≡◌, ◌≢◌, ℕ, ◌+◌, ◌*◌, ◌<◌, ◌≤◌, Bool, true, false, cond, List, [], ◌∷◌, ◌++◌, length, take, get_or, Option, Some, None, sum_by, max, take_all, refl, sym, ap, ◌∙◌, arith, ⊎_elim, length-append}
+use Rattle.std.proofs.Common.{◌≡◌, ◌≢◌, ℕ, ◌+◌, ◌<◌, ◌≤◌, Bool, true, false, cond, List, [], ◌∷◌, ◌++◌, length, take, get_or, Option, Some, None, sum_by, max, take_all, refl, sym, ap, ◌∙◌, arith, ⊎_elim}
 use Rattle.std.proofs.lemmas.Bool.{cases_lt}
 use Rattle.std.proofs.lemmas.Bool.Decides.{nat_tests}
+use Rattle.std.proofs.lemmas.List.{length_push}
 use Rattle.std.proofs.lemmas.List.Sums.{sum_by_more}
 use Rattle.std.specs.Prelude.{nat_lt, slice_get, IfSome, IfNone, IsSomeAnd}
 use Rattle.std.specs.List.{AllWithin}
@@ -11,6 +12,7 @@ use Rattle.model.proofs.Options.{some_is}
 use Rattle.layout.specs.declared.object.ObjectRef.{ObjectRef}
 use Rattle.layout.specs.ObjectRef.{raw_of}
 use Rattle.block_pool.specs.BlockValue.{BlockValue, offset_of}
+use Rattle.block_table.specs.Counts.{HasCounted}
 use Rattle.block_table.specs.Table.{cleared, slot_len, objects_before}
 use Rattle.block_table.proofs.TableSteps.{get_or_any, push_each}
 
@@ -56,21 +58,13 @@ cleared_before old new count first others n = go (nat_lt n count) refl
     go true is = first n (grind (arith, nat_tests, is))
     go false is = others n (grind (arith, nat_tests, is))
 
--- the counts of the blocks so far
-pub record HasCounted (table : List (Option BlockValue)) (bases : List ℕ) (i objects : ℕ) : Type 0 where
-  pub len : length bases ≡ i
-  pub each : (b : ℕ) → b < i → get_or bases b 0 ≡ objects_before table b
-  pub objects_are : objects ≡ sum_by slot_len (take i table)
-  pub few : objects ≤ i * 512
-
-pub counted_more : (table : List (Option BlockValue)) (bases : List ℕ) (i objects size more : ℕ) → i < length table → slot_len (get_or table i None) ≡ size → size ≤ 512 → more ≡ objects + size → HasCounted table bases i objects → HasCounted table (bases ++ objects ∷ []) (i + 1) more
-counted_more table bases i objects size more lt here most sum so_far =
-    let each = push_each (λ b x. x ≡ objects_before table b) bases objects 0 (λ b h. so_far.each b (omega (arith, so_far.len))) (so_far.objects_are ∙ ap (objects_before table) (sym so_far.len)) in
+-- one block's count more
+pub counted_more : (table : List (Option BlockValue)) (bases : List ℕ) (objects size : ℕ) → length bases < length table → slot_len (get_or table (length bases) None) ≡ size → HasCounted table bases objects → HasCounted table (bases ++ objects ∷ []) (objects + size)
+counted_more table bases objects size lt here so_far =
+    let len : length (bases ++ objects ∷ []) ≡ length bases + 1 = length_push bases objects in
     record {
-      len = omega (arith, length-append bases (objects ∷ []), so_far.len);
-      each = λ b h. each b (omega (arith, so_far.len));
-      objects_are = omega (arith, sum_by_more slot_len table i None lt, here, sum, so_far.objects_are);
-      few = omega (arith, sum, so_far.few, most);
+      each = λ b h. push_each (λ b x. x ≡ objects_before table b) bases objects 0 so_far.each so_far.objects_are b (omega (arith, h, len));
+      objects_are = rw len (omega (arith, sum_by_more slot_len table (length bases) None lt, here, so_far.objects_are));
     }
 
 pub sum-all : (f : Option BlockValue → ℕ) (table : List (Option BlockValue)) (i : ℕ) → length table ≤ i → sum_by f (take i table) ≡ sum_by f table

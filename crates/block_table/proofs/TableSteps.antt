@@ -1,6 +1,6 @@
 -- Steps of loops over the table of blocks.
-use Rattle.std.proofs.Common.{◌≡◌, ◌≢◌, ℕ, zero, suc, ◌+◌, ◌<◌, ◌≤◌, List, [], ◌∷◌, ◌++◌, length, take, drop, take_all, set, get_or, Option, Some, None, refl, sym, ap, subst, ◌∙◌, arith, get_or-set_other, get_or-set_same, below_more}
-use Rattle.std.proofs.lemmas.List.{get_or_append_left, drop_all, append-nil}
+use Rattle.std.proofs.Common.{◌≡◌, ◌≢◌, ℕ, zero, suc, ◌+◌, ◌-◌, ◌<◌, ◌≤◌, List, [], ◌∷◌, ◌++◌, length, take, drop, take_all, set, get_or, Option, Some, None, refl, sym, ap, subst, ◌∙◌, arith, get_or-set_other, get_or-set_same, below_more}
+use Rattle.std.proofs.lemmas.List.{get_or_append_left, get_or-drop, length-drop, length-take, drop_all, append-nil}
 
 pub get_or_any : {X : Type 0} (xs : List X) (i : ℕ) (d e : X) → i < length xs → get_or xs i d ≡ get_or xs i e
 get_or_any [] i d e lt = absurd (omega arith)
@@ -43,3 +43,13 @@ pub with_whole : {X : Type 0} (n : ℕ) (new old : List X) → length new ≡ n 
 with_whole n new old a b =
     let none : drop (length new) old ≡ [] = drop_all (length new) old (omega arith) in
     ap (λ xs. take n (new ++ xs)) none ∙ ap (take n) (append-nil new) ∙ take_all n new (omega arith)
+
+-- an element of a list's part from a number on
+module _ {X : Type 0} (xs : List X) (from i : ℕ) (lt : i < length (take (length xs - from) (drop from xs))) where
+  pub part_inside : from + i < length xs
+  part_inside = omega (arith, lt, length-take (length xs - from) (drop from xs))
+
+  pub part_at : (x d : X) → x ≡ get_or (take (length xs - from) (drop from xs)) i x → get_or xs (from + i) d ≡ x
+  part_at x d is =
+      let whole : take (length xs - from) (drop from xs) ≡ drop from xs = take_all (length xs - from) (drop from xs) (omega (arith, length-drop from xs)) in
+      get_or_any xs (from + i) d x part_inside ∙ sym (get_or-drop from xs i x) ∙ ap (λ ys. get_or ys i x) (sym whole) ∙ sym is

@@ -3,3 +3,4 @@ pub mod Table
 pub mod Areas
 pub mod Installed
 pub mod Begins
+pub mod Counts

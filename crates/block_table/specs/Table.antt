@@ -1,7 +1,7 @@
 -- The objects of the blocks of a heap, by place.
-use Rattle.std.specs.Prelude.{◌≡◌, ℕ, ◌+◌, ◌/◌, ◌≤◌, List, [], ◌∷◌, ◌++◌, length, map, Option, Some, None, IsSome, take, sum_by, slice_get, slice_index_or, nat_eq, nat_le, ◌&&◌, if◌then◌else◌}
+use Rattle.std.specs.Prelude.{◌≡◌, ℕ, ◌+◌, ◌/◌, ◌≤◌, List, [], ◌∷◌, ◌++◌, length, map, Option, Some, None, take, sum_by, slice_index_or, nat_eq, nat_le, ◌&&◌, if◌then◌else◌}
 use Rattle.std.specs.Ordering.{nat_cmp}
-use Rattle.std.specs.FinMap.{FinMap, from_entries, get}
+use Rattle.std.specs.FinMap.{FinMap, from_entries}
 use Rattle.model.specs.Graph.{Object}
 use Rattle.model.specs.Config.{Config}
 use Rattle.model.specs.Destination.{IsStep}

@@ -1,5 +1,5 @@
 //! The objects of some of a heap's blocks, counted.
-ghost use Rattle.std.specs.Prelude.{◌≡◌, true, ℕ, ◌<◌, ◌≤◌, ◌&&◌, length, IfOk, None, sum_by, slice_index, slice_index_or, nat_eq, nat_le, is_some};
+ghost use Rattle.std.specs.Prelude.{◌≡◌, ℕ, ◌<◌, ◌≤◌, ◌&&◌, ◌*◌, length, IfOk, OnOk, IfSome, None, sum_by, slice_index, slice_index_or, nat_eq, nat_le, is_some, true};
 ghost use Rattle.std.specs.List.{IsDistinct};
 ghost use Rattle.std.specs.FinMap.{values};
 ghost use Rattle.model.specs.Census.{step_count};
@@ -9,6 +9,7 @@ ghost use Rattle.steps.specs.ConfigRange.{IsInRange};
 ghost use Rattle.steps.specs.StepPairs.{step_pair};
 ghost use Rattle.heap_data.specs.CensusView.{step_value};
 ghost use Rattle.block_table.specs.Areas.{is_flagged, AreAreas};
+ghost use Rattle.block_table.specs.Counts.{HasCounted, IsYoungRun};
 ghost use Rattle.block_table.specs.Table.{AreHeapBlocks, objects_map, slot_at, slot_len, slot_words, objects_before, young_slot, young_table, step_slot};
 
 use crate::area_flags::AreaFlags;
@@ -16,6 +17,9 @@ use block_pool::Block;
 use heap_data::StepCount;
 use std::alloc::{AllocError, Allocator};
 use steps::StepId;
+
+/// How many blocks' counts there is room for at first.
+const FIRST_COUNTS: usize = 64;
 
 /// How many objects of a generation and step the block holds, and how many words they take.
 fn count_slot<A: Allocator>(slot: &Option<Block<A>>, at: StepId) -> (u64, u64)
@@ -57,21 +61,50 @@ pub fn count_step<A: Allocator>(table: &[Option<Block<A>>], at: StepId) -> StepC
     }
 }
 
-/// How many objects the block holds, where its generation is at most `g`.
-fn young_len<A: Allocator>(slot: &Option<Block<A>>, g: u8) -> u32
-    ensures value { result ≡ slot_len (young_slot g slot.now) }
-    ensures few { result ≤ 512 }
+/// How many objects the block holds, where there is one of generation at most `g`.
+fn young_len<A: Allocator>(slot: &Option<Block<A>>, g: u8) -> Option<u32>
+    ensures young { is_some result ≡ is_some (young_slot g slot.now) }
+    ensures value { IfSome result (λ len. len ≡ slot_len (young_slot g slot.now)) }
+    ensures few { IfSome result (λ len. len ≤ 512) }
 {
     match slot {
         Some(block) => {
             if block.generation() > g {
-                return 0;
+                return None;
             }
             let _words = block.words();
-            block.len() as u32
+            Some(block.len() as u32)
         }
-        None => 0,
+        None => None,
     }
+}
+
+/// Counts the blocks of generation at most `g` that follow those counted, up to the first other one. `objects` is how
+/// many objects were counted before, and the result how many are counted then. An error says that memory ran out.
+fn count_run<A: Allocator, B: Allocator>(
+    bases: &mut Vec<u32, B>,
+    objects: u32,
+    table: &[Option<Block<A>>],
+    g: u8,
+) -> Result<u32, AllocError>
+    requires short { length table.now ≤ 65535 }
+    requires in_table { length bases.old.items ≤ length table.now }
+    requires counted { HasCounted (young_table g table.now) bases.old.items objects }
+    requires few { objects ≤ length bases.old.items * 512 }
+    ensures in_table { OnOk result (length bases.new.items ≤ length table.now) }
+    ensures run { OnOk result (IsYoungRun g table.now (length bases.old.items) (length bases.new.items)) }
+    ensures counted { IfOk result (λ all. HasCounted (young_table g table.now) bases.new.items all) }
+    ensures few { IfOk result (λ all. all ≤ length bases.new.items * 512) }
+{
+    let mut objects = objects;
+    for slot in &table[bases.len()..] {
+        let Some(len) = young_len(slot, g) else {
+            break;
+        };
+        bases.push(objects)?;
+        objects += len;
+    }
+    Ok(objects)
 }
 
 /// How many objects of generation at most `g` the blocks before each one hold, up to the last block of such a
@@ -89,11 +122,11 @@ pub fn bases<A: Allocator, B: Allocator>(
     ensures bases { IfOk result (λ r. (b : ℕ) → b < length r.0.items → slice_index r.0.items b ≡ objects_before (young_table g table.now) b) }
     ensures all { IfOk result (λ r. r.1 ≡ sum_by slot_len (young_table g table.now)) }
 {
-    let mut bases = Vec::new(alloc);
+    let mut bases = Vec::with_capacity(alloc, FIRST_COUNTS)?;
     let mut objects = 0;
     while let Some(number) = areas.next_young(g, bases.len()) {
-        bases.resize(number + 1, objects)?;
-        objects += young_len(&table[number], g);
+        bases.resize(number, objects)?;
+        objects = count_run(&mut bases, objects, table, g)?;
     }
     Ok((bases, objects))
 }

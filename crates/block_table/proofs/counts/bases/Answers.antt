@@ -1,41 +1,39 @@
-use Rattle.std.proofs.Common.{◌≡◌, ◌<◌, ◌+◌, ◌-◌, ◌++◌, None, length, take, replicate, vec_len, get_or, arith, ◌∙◌, sym, ap}
+use Rattle.std.proofs.Common.{◌≡◌, ◌<◌, ◌-◌, ◌++◌, true, None, length, take, replicate, get_or, arith, ◌∙◌, sym, ap, ⊎_elim}
 use Rattle.std.proofs.lemmas.Bool.{true≢false, cases_lt}
 use Rattle.std.proofs.lemmas.List.{length-map}
-use Rattle.std.proofs.Common.{⊎_elim}
-use Rattle.block_table.specs.Table.{slot_len, young_slot, young_table}
-use Rattle.block_table.proofs.AreaTables.{young_inside, old_len, counted_to, counted_all}
-use Rattle.block_table.proofs.TableSteps.{get_or_any}
+use Rattle.std.specs.Prelude.{is_some}
+use Rattle.block_table.specs.Table.{slot_at, slot_len, young_slot, young_table}
+use Rattle.block_table.proofs.AreaTables.{young_inside, old_len, counted_to, counted_all, run_passes}
 use Rattle.block_table.proofs.YoungBlocks.{young_at}
 use Rattle.block_table.proofs.counts.bases.Goals as goal
 
-pub bounds-table-number : goal.bounds-table-number
-bounds-table-number g c = young_inside c.args.table.now c.args.g c.in-Some.number (sym (c.requires.areas.each c.args.g c.in-Some.number) ∙ c.in-Some.ensures.flag)
-
-pub offset_bounds-table-number : goal.offset_bounds-table-number
-offset_bounds-table-number g c =
-    let inside = young_inside c.args.table.now c.args.g c.in-Some.number (sym (c.requires.areas.each c.args.g c.in-Some.number) ∙ c.in-Some.ensures.flag) in
-    omega (arith, inside)
-
-pub loop-number-preserved : goal.loop-number-preserved
-loop-number-preserved g c =
+pub count_run-requires : goal.count_run-requires
+count_run-requires g c =
     let table = c.args.table.now in
     let number = c.in-Some.number in
     let inside : number < length table = young_inside table c.args.g number (sym (c.requires.areas.each c.args.g number) ∙ c.in-Some.ensures.flag) in
-    let slot : get_or table number None ≡ c.index-table-number.result = get_or_any table number None c.index-table-number.result inside ∙ sym c.index-table-number.is in
-    let here : slot_len (get_or (young_table c.args.g table) number None) ≡ c.young_len-objects.result = ap slot_len (young_at table c.args.g number ∙ ap (young_slot c.args.g) slot) ∙ sym c.young_len-objects.ensures.value in
-    let len : vec_len c.loop-number.bases ≡ length c.loop-number.bases.items = omega (arith, c.loop-number.bases.ok.0) in
+    let len : c.len.result ≡ length c.loop-number.bases.items = omega (arith, c.len.ensures, c.loop-number.bases.ok.0) in
+    let new : length c.resize.new.self.items ≡ number = omega (arith, c.in_ok-resize.ensures.len, c.resize.new.self.ok.0) in
+    let items : c.resize.new.self.items ≡ take number c.loop-number.bases.items ++ replicate (number - length c.loop-number.bases.items) c.loop-number.objects = rw c.loop-number.bases.ok.0 at c.in_ok-resize.ensures.items in
     record {
-      so_far = counted_to (young_table c.args.g table) c.loop-number.bases.items c.loop-number.objects c.loop-number.invariant.so_far c.resize.new.self.items number c.young_len-objects.result
-          (omega (arith, inside, length-map table (young_slot c.args.g))) (omega (arith, c.in-Some.ensures.from, c.len.ensures))
-          (λ k from lt. ap slot_len (young_at table c.args.g k) ∙ old_len c.args.g (get_or table k None) (sym (c.requires.areas.each c.args.g k) ∙ c.in-Some.ensures.first k (omega (arith, from, c.len.ensures)) lt))
-          (c.in_ok-resize.ensures.items ∙ ap (λ len. take (number + 1) c.loop-number.bases.items ++ replicate (number + 1 - len) c.loop-number.objects) len) here c.young_len-objects.ensures.few;
-      within = omega (arith, c.in_ok-resize.ensures.len, inside);
+      short = c.requires.short;
+      in_table = omega (arith, new, inside);
+      counted = counted_to (young_table c.args.g table) c.loop-number.bases.items c.loop-number.objects c.loop-number.invariant.so_far c.resize.new.self.items number
+          (omega (arith, inside, length-map table (young_slot c.args.g))) (omega (arith, c.in-Some.ensures.from, len))
+          (λ k from lt. ap slot_len (young_at table c.args.g k) ∙ old_len c.args.g (get_or table k None) (sym (c.requires.areas.each c.args.g k) ∙ c.in-Some.ensures.first k (omega (arith, from, len)) lt))
+          items;
+      few = omega (arith, new, c.in-Some.ensures.from, len, c.loop-number.invariant.few);
     }
 
 pub loop-number-smaller : goal.loop-number-smaller
 loop-number-smaller g c =
-    let inside = young_inside c.args.table.now c.args.g c.in-Some.number (sym (c.requires.areas.each c.args.g c.in-Some.number) ∙ c.in-Some.ensures.flag) in
-    omega (arith, c.in_ok-resize.ensures.len, inside, c.in-Some.ensures.from, c.len.ensures)
+    let table = c.args.table.now in
+    let number = c.in-Some.number in
+    let new : length c.resize.new.self.items ≡ number = omega (arith, c.in_ok-resize.ensures.len, c.resize.new.self.ok.0) in
+    let young : is_some (young_slot c.args.g (slot_at table number)) ≡ true = sym (c.requires.areas.each c.args.g number) ∙ c.in-Some.ensures.flag in
+    let passes : length c.resize.new.self.items < length c.count_run.new.bases.items = run_passes c.args.g table (length c.resize.new.self.items) (length c.count_run.new.bases.items) c.in_ok-objects.ensures.run
+    (ap (λ n. is_some (young_slot c.args.g (slot_at table n))) new ∙ young) in
+    omega (arith, passes, new, c.in_ok-objects.ensures.in_table, c.in-Some.ensures.from, c.len.ensures, c.loop-number.bases.ok.0)
 
 pub returns-clause-covers : goal.returns-clause-covers
 returns-clause-covers g c = λ b young. ⊎_elim
