@@ -2,10 +2,10 @@
 use Rattle.std.proofs.Common.{◌≡◌, ◌≢◌, ℕ, zero, suc, ◌+◌, ◌<◌, ◌≤◌, List, [], ◌∷◌, length, get_or, set, take, drop, map, refl, sym, ap, ◌∙◌, arith, Some}
 use Rattle.std.proofs.Math.Seq.{take-set-lt}
 use Rattle.std.specs.List.{slice_get}
-use Rattle.std.proofs.lemmas.List.{take-set, drop-set-lt, drop-set-add, get_or-set_other, length-set, length-take, length-take-le, get_or-take, get_or_read}
+use Rattle.std.proofs.lemmas.List.{take-set, drop-set-lt, drop-set-add, get_or-set_other, length-set, length-take, length-take-le, get_or-take, get_or_default, get_or_read}
 use Rattle.std.proofs.lemmas.Option.{get_or_from_slice_get}
 use Rattle.layout.specs.Object.{Raw}
-use Rattle.block_pool.specs.BlockValue.{with_pointer_word, with_plain_word}
+use Rattle.block_pool.specs.BlockValue.{offset_of, with_pointer_word, with_plain_word}
 use Rattle.block_pool.specs.Words.{pointers_of, plain_of, span, raw_at, Tiles, IsSound}
 use Rattle.block_pool.proofs.WordLemmas.{window-agree, raw_at-agree, Tiles-le, Tiles-take}
 use Rattle.block_pool.proofs.BlockLemmas.{HasObject, has_object}
@@ -153,3 +153,19 @@ plain_rewritten ws os len used front number now k at header i w s e l read word 
     let few : i < length (take (plain_of (get_or ws (get_or os k 0) 0)) (drop first ws)) = field (raw_at ws (get_or os k 0)) o.object_is in
     let in_plain : i < plain_of (get_or ws (get_or os k 0) 0) = omega (arith, few, length-take (plain_of (get_or ws (get_or os k 0) 0)) (drop first ws)) in
     rw (head, is) (is_rewritten ws os len used front number now k (first + i) w (λ raw. with_plain_word raw i w) s e l (omega arith, omega arith) (raw_at-plain ws w (get_or os k 0) i in_plain))
+
+-- the same where the object is named by the offset that it begins at
+module _ (ws os : List ℕ) (len used front number : ℕ) (now : List Raw) (k at : ℕ) (s : IsSound ws os len used front number) (e : map (raw_at ws) (take len os) ≡ now) (l : k < length now) (begins : offset_of now k ≡ at) where
+  read : at ≡ get_or os k at
+  read =
+      let o : HasObject ws os len now k = has_object ws os len used front number now k s e l in
+      sym begins ∙ o.offset_is ∙ get_or_default os k 0 at o.in_offsets
+
+  pub header_from : at < length ws
+  header_from = header_in_words ws os len used front number now k at s e l read
+
+  pub pointer_from : (i w : ℕ) → ((raw : Raw) → slice_get now k ≡ Some raw → i < length raw.pointers) → IsRewritten ws os len used front number now k (at + 1 + i) w (λ raw. with_pointer_word raw i w)
+  pointer_from i w field = pointer_rewritten ws os len used front number now k at i w s e l read field
+
+  pub plain_from : (header i w : ℕ) → header ≡ get_or ws at header → ((raw : Raw) → slice_get now k ≡ Some raw → i < length raw.plain) → IsRewritten ws os len used front number now k (at + 1 + pointers_of header + i) w (λ raw. with_plain_word raw i w)
+  plain_from header i w word field = plain_rewritten ws os len used front number now k at header i w s e l read word field

@@ -249,6 +249,34 @@ impl<A: Allocator> Block<A> {
         self.words[offset + 1 + pointers + i] = word;
     }
 
+    /// Changes pointer `i` of the object that begins at an offset in words where one does. It looks for no other word.
+    #[inline]
+    pub fn set_pointer_from(&mut self, offset: usize, i: usize, word: u64)
+        requires object { (k : ℕ) × (k < length self.old.objects) × (offset_of self.old.objects k ≡ offset) }
+        requires field { (k : ℕ) (raw : Raw) → k < length self.old.objects → offset_of self.old.objects k ≡ offset
+            → slice_get self.old.objects k ≡ Some raw → i < length raw.pointers }
+        ensures { (k : ℕ) (raw : Raw) → k < length self.old.objects → offset_of self.old.objects k ≡ offset → slice_get self.old.objects k ≡ Some raw
+            → self.new ≡ record self.old { objects = slice_set self.old.objects k (with_pointer_word raw i word) } }
+    {
+        let words = &mut self.words;
+        words[offset + 1 + i] = word;
+    }
+
+    /// Changes plain word `i` of the object that begins at an offset in words where one does. It reads the header, and
+    /// looks for no other word.
+    #[inline]
+    pub fn set_plain_from(&mut self, offset: usize, i: usize, word: u64)
+        requires object { (k : ℕ) × (k < length self.old.objects) × (offset_of self.old.objects k ≡ offset) }
+        requires field { (k : ℕ) (raw : Raw) → k < length self.old.objects → offset_of self.old.objects k ≡ offset
+            → slice_get self.old.objects k ≡ Some raw → i < length raw.plain }
+        ensures { (k : ℕ) (raw : Raw) → k < length self.old.objects → offset_of self.old.objects k ≡ offset → slice_get self.old.objects k ≡ Some raw
+            → self.new ≡ record self.old { objects = slice_set self.old.objects k (with_plain_word raw i word) } }
+    {
+        let words = &mut self.words;
+        let pointers = (words[offset] % POINTER_UNIT) as usize;
+        words[offset + 1 + pointers + i] = word;
+    }
+
     /// The offset in words of the object with the ordinal `k`.
     pub fn offset(&self, k: usize) -> usize
         requires { k < length self.now.objects }
