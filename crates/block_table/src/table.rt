@@ -54,21 +54,8 @@ pub fn object_from<A: Allocator>(
     }
 }
 
-fn set_block_pointer<A: Allocator>(block: &mut Block<A>, offset: usize, i: usize, word: u64)
-    ensures { (k : ℕ) (raw : Raw) → k < length block.old.objects → offset_of block.old.objects k ≡ offset
-        → slice_get block.old.objects k ≡ Some raw → i < length raw.pointers
-        → block.new ≡ record block.old { objects = slice_set block.old.objects k (with_pointer_word raw i word) } }
-{
-    let Some(object) = block.object_at(offset) else {
-        return;
-    };
-    let k = object.header.ordinal as usize;
-    if i < object.pointers.len() {
-        block.set_pointer(k, i, word);
-    }
-}
-
-/// Changes pointer `i` of the object that begins at an offset of a block.
+/// Changes pointer `i` of the object that begins at an offset of a block where one does.
+#[inline]
 pub fn set_pointer<A: Allocator>(
     table: &mut [Option<Block<A>>],
     number: usize,
@@ -76,33 +63,22 @@ pub fn set_pointer<A: Allocator>(
     i: usize,
     word: u64,
 )
-    requires in_range { number < length table.old }
+    requires there { HasObjectAt table.old number offset }
+    requires field { (block : BlockValue) (k : ℕ) (raw : Raw) → slice_index_or table.old number None ≡ Some block
+        → k < length block.objects → offset_of block.objects k ≡ offset → slice_get block.objects k ≡ Some raw → i < length raw.pointers }
     ensures { (block : BlockValue) (k : ℕ) (raw : Raw) → slice_index_or table.old number None ≡ Some block
-        → k < length block.objects → offset_of block.objects k ≡ offset → slice_get block.objects k ≡ Some raw → i < length raw.pointers
+        → k < length block.objects → offset_of block.objects k ≡ offset → slice_get block.objects k ≡ Some raw
         → table.new ≡ slice_set table.old number (Some (record block { objects = slice_set block.objects k (with_pointer_word raw i word) })) }
 {
     let slot = &mut table[number];
     match slot {
-        Some(block) => set_block_pointer(block, offset, i, word),
-        None => {}
+        Some(block) => block.set_pointer_from(offset, i, word),
+        None => unreachable!(),
     }
 }
 
-fn set_block_plain<A: Allocator>(block: &mut Block<A>, offset: usize, i: usize, word: u64)
-    ensures { (k : ℕ) (raw : Raw) → k < length block.old.objects → offset_of block.old.objects k ≡ offset
-        → slice_get block.old.objects k ≡ Some raw → i < length raw.plain
-        → block.new ≡ record block.old { objects = slice_set block.old.objects k (with_plain_word raw i word) } }
-{
-    let Some(object) = block.object_at(offset) else {
-        return;
-    };
-    let k = object.header.ordinal as usize;
-    if i < object.words.len() {
-        block.set_plain(k, i, word);
-    }
-}
-
-/// Changes plain word `i` of the object that begins at an offset of a block.
+/// Changes plain word `i` of the object that begins at an offset of a block where one does.
+#[inline]
 pub fn set_plain<A: Allocator>(
     table: &mut [Option<Block<A>>],
     number: usize,
@@ -110,15 +86,17 @@ pub fn set_plain<A: Allocator>(
     i: usize,
     word: u64,
 )
-    requires in_range { number < length table.old }
+    requires there { HasObjectAt table.old number offset }
+    requires field { (block : BlockValue) (k : ℕ) (raw : Raw) → slice_index_or table.old number None ≡ Some block
+        → k < length block.objects → offset_of block.objects k ≡ offset → slice_get block.objects k ≡ Some raw → i < length raw.plain }
     ensures { (block : BlockValue) (k : ℕ) (raw : Raw) → slice_index_or table.old number None ≡ Some block
-        → k < length block.objects → offset_of block.objects k ≡ offset → slice_get block.objects k ≡ Some raw → i < length raw.plain
+        → k < length block.objects → offset_of block.objects k ≡ offset → slice_get block.objects k ≡ Some raw
         → table.new ≡ slice_set table.old number (Some (record block { objects = slice_set block.objects k (with_plain_word raw i word) })) }
 {
     let slot = &mut table[number];
     match slot {
-        Some(block) => set_block_plain(block, offset, i, word),
-        None => {}
+        Some(block) => block.set_plain_from(offset, i, word),
+        None => unreachable!(),
     }
 }
 
