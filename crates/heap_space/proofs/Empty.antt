@@ -6,7 +6,7 @@ use Rattle.std.specs.Ordering.{nat_cmp}
 use Rattle.std.specs.FinMap.{from_entries, empty}
 use Rattle.model.specs.Config.{Config}
 use Rattle.model.specs.Destination.{numbers_from}
-use Rattle.model.proofs.Has.{has_numbers, has_numbers_from}
+use Rattle.model.proofs.Has.{has_numbers_from}
 use Rattle.block_pool.specs.BlockValue.{BlockValue, used_of}
 use Rattle.block_pool.specs.PoolValue.{PoolValue, numbers_below}
 use Rattle.steps.specs.ConfigRange.{IsInRange}

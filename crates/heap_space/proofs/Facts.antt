@@ -1,5 +1,5 @@
 -- What holds of the blocks of every heap.
-use Rattle.std.proofs.Common.{◌≡◌, ℕ, suc, ◌+◌, ◌<◌, ◌≤◌, true, List, [], ◌∷◌, length, Option, Some, None, sum_by, refl, sym, ap, ◌∙◌, arith}
+use Rattle.std.proofs.Common.{◌≡◌, ℕ, suc, ◌+◌, ◌<◌, ◌≤◌, List, [], ◌∷◌, length, Option, Some, None, sum_by, refl, sym, ap, ◌∙◌, arith}
 use Rattle.std.proofs.lemmas.List.{length-map}
 use Rattle.std.proofs.lemmas.List.Elements.{All-cons}
 use Rattle.std.specs.Prelude.{slice_get, All}
@@ -8,7 +8,6 @@ use Rattle.std.specs.Ordering.{nat_cmp}
 use Rattle.std.specs.FinMap.{find, get}
 use Rattle.model.specs.Config.{Config}
 use Rattle.model.specs.Graph.{Object}
-use Rattle.model.specs.Reached.{has}
 use Rattle.model.proofs.NatMap.{find_same}
 use Rattle.model.proofs.Options.{some_not_none}
 use Rattle.layout.specs.Object.{Raw, raw_size}

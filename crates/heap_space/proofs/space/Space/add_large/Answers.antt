@@ -1,4 +1,3 @@
-use Rattle.std.proofs.Common.{sym}
 use Rattle.heap_space.proofs.Lending.{lent_first}
 use Rattle.heap_space.proofs.space.Space.add_large.Goals as goal
 

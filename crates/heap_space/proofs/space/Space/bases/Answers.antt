@@ -1,4 +1,4 @@
-use Rattle.std.proofs.Common.{◌≤◌, ◌*◌, arith, sym, ◌∙◌}
+use Rattle.std.proofs.Common.{arith, sym, ◌∙◌}
 use Rattle.heap_space.proofs.Sound.{few_blocks}
 use Rattle.heap_space.proofs.YoungNumbers.{are_bases, young_count, few_young}
 use Rattle.heap_space.proofs.space.Space.bases.Goals as goal

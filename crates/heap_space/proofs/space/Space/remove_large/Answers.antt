@@ -1,4 +1,3 @@
-use Rattle.std.proofs.Common.{◌<◌, arith, sym}
 use Rattle.large_objects.specs.PoolBlocks.{blocks_at}
 use Rattle.heap_space.proofs.Facts.{no_slot}
 use Rattle.heap_space.proofs.Lending.{given_back}

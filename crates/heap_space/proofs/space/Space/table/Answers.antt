@@ -1,4 +1,3 @@
-use Rattle.std.proofs.Common.{sym}
 use Rattle.heap_space.proofs.Sound.{sound_blocks}
 use Rattle.heap_space.proofs.space.Space.table.Goals as goal
 
