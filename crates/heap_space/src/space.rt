@@ -125,6 +125,19 @@ impl<A: Allocator + Clone> Space<A> {
         }
     }
 
+    /// The object at a place where there is one. It reads the header, and looks for no other word.
+    #[inline]
+    fn object_there(&self, place: Place) -> ObjectRef<'_>
+        requires { IsSome (get self.now.objects (place_word place)) }
+        ensures { IsSomeAnd (get self.now.objects (place_word place)) (λ o. IsShownAs o (raw_of result)) }
+    {
+        let table = &self.table;
+        let Place::Small(at) = place else {
+            unreachable!();
+        };
+        object_from(table, at.block as usize, at.offset as usize)
+    }
+
     /// The generation and step of the object at a place, where there is one.
     pub fn step_of(&self, place: Place) -> Option<StepId>
         ensures { option_map step_pair result ≡ option_map stands_at (get self.now.objects (place_word place)) }
@@ -145,10 +158,7 @@ impl<A: Allocator + Clone> Space<A> {
         requires { IsSome (get self.now.objects (place_word place)) }
         ensures { (o : Object) → get self.now.objects (place_word place) ≡ Some o → result ≡ length o.pointers }
     {
-        match self.object(place) {
-            Some(object) => object.header.pointers,
-            None => 0,
-        }
+        self.object_there(place).header.pointers
     }
 
     /// How many plain words the object at a place has.
@@ -156,10 +166,7 @@ impl<A: Allocator + Clone> Space<A> {
         requires { IsSome (get self.now.objects (place_word place)) }
         ensures { (o : Object) → get self.now.objects (place_word place) ≡ Some o → result ≡ length o.plain }
     {
-        match self.object(place) {
-            Some(object) => object.header.plain,
-            None => 0,
-        }
+        self.object_there(place).header.plain
     }
 
     /// Changes pointer `i` of the object at a place.

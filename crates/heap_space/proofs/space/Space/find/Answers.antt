@@ -1,28 +1,18 @@
-use Rattle.std.proofs.Common.{◌≡◌, ◌≤◌, arith}
-use Rattle.std.specs.Prelude.{IsSome}
-use Rattle.model.specs.Graph.{Object}
-use Rattle.std.proofs.Common.{Option, Some, None}
-use Rattle.block_table.specs.Begins.{HasObjectAt}
+use Rattle.std.proofs.Common.{◌≤◌, arith}
 use Rattle.heap_space.proofs.Sound.{sound_fits, few_blocks}
-use Rattle.block_table.proofs.Located.{large_none, covered}
-use Rattle.heap_space.proofs.Finding.{beginning, shown, at_step, not_young, young_here, numbered_here, sum_is, sum_few}
+use Rattle.block_table.proofs.Located.{covered}
+use Rattle.heap_space.proofs.Finding.{begins_there, none_there, shown, at_step, not_young, young_here, numbered_here, sum_is, sum_few}
 use Rattle.heap_space.proofs.space.Space.find.Goals as goal
-
-no_some : (o : Option Object) → o ≡ None → IsSome o → ⊥
-no_some None e h = cc
-no_some (Some x) e h = cc
 
 pub unreachable-requires : goal.unreachable-requires
 unreachable-requires g c =
     let there = rw (← c.self.view_is, c.in_default.is) at c.requires.there in
-    no_some _ (large_none c.self.inside.table.items (sound_fits _ _ _ _ c.self.invariant.space) (few_blocks _ _ _ _ c.self.invariant.space) c.in_default.field-0.number) there
+    none_there _ _ _ _ c.self.invariant.space c.in_default.field-0.number there
 
 pub object_from-object-requires : goal.object_from-object-requires
 object_from-object-requires g c =
     let there = rw (← c.self.view_is, c.in-Small.is) at c.requires.there in
-    let found = beginning _ _ _ _ c.self.invariant.space c.in-Small.at.block c.in-Small.at.offset c.in-Small.at.offset_in_range there in
-    let has : HasObjectAt c.self.inside.table.items c.in-Small.at.block c.in-Small.at.offset = record { block = found.begins.block; ordinal = found.ordinal; there = found.begins.there; in_block = found.begins.in_block; at = found.begins.at } in
-    rw c.deref.ensures.value has
+    rw c.deref.ensures.value (begins_there _ _ _ _ c.self.invariant.space c.in-Small.at.block c.in-Small.at.offset c.in-Small.at.offset_in_range there)
 
 pub step_at-step-requires : goal.step_at-step-requires
 step_at-step-requires g c =
@@ -33,36 +23,34 @@ pub returns-then-step-g-clause-object : goal.returns-then-step-g-clause-object
 returns-then-step-g-clause-object g c =
     let there = rw (← c.self.view_is, c.in-Small.is) at c.requires.there in
     let read = rw c.deref.ensures.value at c.object_from-object.ensures in
-    let stands = rw c.deref-2.ensures.value at c.step_at-step.ensures in
-    rw (← c.self.view_is, c.in-Small.is) (shown _ _ _ _ c.self.invariant.space c.in-Small.at.block c.in-Small.at.offset c.in-Small.at.offset_in_range there c.object_from-object.result c.step_at-step.result read stands)
+    rw (← c.self.view_is, c.in-Small.is) (shown _ _ _ _ c.self.invariant.space c.in-Small.at.block c.in-Small.at.offset c.in-Small.at.offset_in_range there c.object_from-object.result read)
 
 pub returns-then-step-g-clause-step : goal.returns-then-step-g-clause-step
 returns-then-step-g-clause-step g c =
     let there = rw (← c.self.view_is, c.in-Small.is) at c.requires.there in
     let read = rw c.deref.ensures.value at c.object_from-object.ensures in
     let stands = rw c.deref-2.ensures.value at c.step_at-step.ensures in
-    rw (← c.self.view_is, c.in-Small.is) (at_step _ _ _ _ c.self.invariant.space c.in-Small.at.block c.in-Small.at.offset c.in-Small.at.offset_in_range there c.object_from-object.result c.step_at-step.result read stands)
+    rw (← c.self.view_is, c.in-Small.is) (at_step _ _ _ _ c.self.invariant.space c.in-Small.at.block c.in-Small.at.offset c.in-Small.at.offset_in_range there c.object_from-object.result read c.step_at-step.result stands)
 
 pub returns-clause-object : goal.returns-clause-object
 returns-clause-object g c =
     let there = rw (← c.self.view_is, c.in-Small.is) at c.requires.there in
     let read = rw c.deref.ensures.value at c.object_from-object.ensures in
-    let stands = rw c.deref-2.ensures.value at c.step_at-step.ensures in
-    rw (← c.self.view_is, c.in-Small.is) (shown _ _ _ _ c.self.invariant.space c.in-Small.at.block c.in-Small.at.offset c.in-Small.at.offset_in_range there c.object_from-object.result c.step_at-step.result read stands)
+    rw (← c.self.view_is, c.in-Small.is) (shown _ _ _ _ c.self.invariant.space c.in-Small.at.block c.in-Small.at.offset c.in-Small.at.offset_in_range there c.object_from-object.result read)
 
 pub returns-clause-step : goal.returns-clause-step
 returns-clause-step g c =
     let there = rw (← c.self.view_is, c.in-Small.is) at c.requires.there in
     let read = rw c.deref.ensures.value at c.object_from-object.ensures in
     let stands = rw c.deref-2.ensures.value at c.step_at-step.ensures in
-    rw (← c.self.view_is, c.in-Small.is) (at_step _ _ _ _ c.self.invariant.space c.in-Small.at.block c.in-Small.at.offset c.in-Small.at.offset_in_range there c.object_from-object.result c.step_at-step.result read stands)
+    rw (← c.self.view_is, c.in-Small.is) (at_step _ _ _ _ c.self.invariant.space c.in-Small.at.block c.in-Small.at.offset c.in-Small.at.offset_in_range there c.object_from-object.result read c.step_at-step.result stands)
 
 pub returns-then-step-g-clause-number : goal.returns-then-step-g-clause-number
 returns-then-step-g-clause-number g c =
     let there = rw (← c.self.view_is, c.in-Small.is) at c.requires.there in
     let read = rw c.deref.ensures.value at c.object_from-object.ensures in
     let stands = rw c.deref-2.ensures.value at c.step_at-step.ensures in
-    rw (← c.self.view_is, c.in-Small.is) (not_young _ _ _ _ c.self.invariant.space c.in-Small.at.block c.in-Small.at.offset c.in-Small.at.offset_in_range there c.object_from-object.result c.step_at-step.result read stands c.args.g c.if-step-g.true)
+    rw (← c.self.view_is, c.in-Small.is) (not_young _ _ _ _ c.self.invariant.space c.in-Small.at.block c.in-Small.at.offset c.in-Small.at.offset_in_range there c.object_from-object.result read c.step_at-step.result stands c.args.g c.if-step-g.true)
 
 pub bounds-bases-number : goal.bounds-bases-number
 bounds-bases-number g c =
@@ -71,7 +59,7 @@ bounds-bases-number g c =
     let stands = rw c.deref-2.ensures.value at c.step_at-step.ensures in
     let bases = rw (← c.self.view_is) at c.requires.bases in
     let le : c.step_at-step.result.generation ≤ c.args.g = omega (arith, c.if-step-g.false) in
-    (sum_is _ _ _ _ c.self.invariant.space c.in-Small.at.block c.in-Small.at.offset c.in-Small.at.offset_in_range there c.object_from-object.result c.step_at-step.result read stands c.args.g c.args.bases.now le bases).0
+    (sum_is _ _ _ _ c.self.invariant.space c.in-Small.at.block c.in-Small.at.offset c.in-Small.at.offset_in_range there c.object_from-object.result read c.step_at-step.result stands c.args.g c.args.bases.now le bases).0
 
 pub overflow_add-named : goal.overflow_add-named
 overflow_add-named g c =
@@ -80,7 +68,7 @@ overflow_add-named g c =
     let stands = rw c.deref-2.ensures.value at c.step_at-step.ensures in
     let bases = rw (← c.self.view_is) at c.requires.bases in
     let le : c.step_at-step.result.generation ≤ c.args.g = omega (arith, c.if-step-g.false) in
-    omega (arith, (sum_is _ _ _ _ c.self.invariant.space c.in-Small.at.block c.in-Small.at.offset c.in-Small.at.offset_in_range there c.object_from-object.result c.step_at-step.result read stands c.args.g c.args.bases.now le bases).1, sum_few _ _ _ _ c.self.invariant.space c.in-Small.at.block c.in-Small.at.offset c.in-Small.at.offset_in_range there c.object_from-object.result c.step_at-step.result read stands c.args.g le)
+    omega (arith, (sum_is _ _ _ _ c.self.invariant.space c.in-Small.at.block c.in-Small.at.offset c.in-Small.at.offset_in_range there c.object_from-object.result read c.step_at-step.result stands c.args.g c.args.bases.now le bases).1, sum_few _ _ _ _ c.self.invariant.space c.in-Small.at.block c.in-Small.at.offset c.in-Small.at.offset_in_range there c.object_from-object.result read c.step_at-step.result stands c.args.g le)
 
 pub returns-clause-number : goal.returns-clause-number
 returns-clause-number g c =
@@ -89,4 +77,4 @@ returns-clause-number g c =
     let stands = rw c.deref-2.ensures.value at c.step_at-step.ensures in
     let bases = rw (← c.self.view_is) at c.requires.bases in
     let le : c.step_at-step.result.generation ≤ c.args.g = omega (arith, c.if-step-g.false) in
-    rw (← c.self.view_is, c.in-Small.is) (young_here _ _ _ _ c.self.invariant.space c.in-Small.at.block c.in-Small.at.offset c.in-Small.at.offset_in_range there c.object_from-object.result c.step_at-step.result read stands c.args.g le, rw (sum_is _ _ _ _ c.self.invariant.space c.in-Small.at.block c.in-Small.at.offset c.in-Small.at.offset_in_range there c.object_from-object.result c.step_at-step.result read stands c.args.g c.args.bases.now le bases).1 (numbered_here _ _ _ _ c.self.invariant.space c.in-Small.at.block c.in-Small.at.offset c.in-Small.at.offset_in_range there c.object_from-object.result c.step_at-step.result read stands c.args.g le))
+    rw (← c.self.view_is, c.in-Small.is) (young_here _ _ _ _ c.self.invariant.space c.in-Small.at.block c.in-Small.at.offset c.in-Small.at.offset_in_range there c.object_from-object.result read c.step_at-step.result stands c.args.g le, rw (sum_is _ _ _ _ c.self.invariant.space c.in-Small.at.block c.in-Small.at.offset c.in-Small.at.offset_in_range there c.object_from-object.result read c.step_at-step.result stands c.args.g c.args.bases.now le bases).1 (numbered_here _ _ _ _ c.self.invariant.space c.in-Small.at.block c.in-Small.at.offset c.in-Small.at.offset_in_range there c.object_from-object.result read c.step_at-step.result stands c.args.g le))
