@@ -1,9 +1,9 @@
 -- What is read of one object, small or large.
-use Rattle.std.proofs.Common.{◌≡◌, ℕ, ◌<◌, ◌≤◌, Option, Some, None, refl, sym, ap, ◌∙◌, arith}
+use Rattle.std.proofs.Common.{◌≡◌, ℕ, ◌<◌, ◌≤◌, Option, Some, None, refl, sym, ap, subst, ◌∙◌, arith}
 use Rattle.std.proofs.lemmas.Bool.{true≢false}
 use Rattle.std.specs.Prelude.{IsSome, IsSomeAnd, MatchOption, is_some, slice_index}
 use Rattle.std.specs.Option.{option_map}
-use Rattle.model.specs.Graph.{object_at}
+use Rattle.model.specs.Graph.{Object, object_at}
 use Rattle.model.specs.Live.{IsYoung}
 use Rattle.model.proofs.Options.{some_is, some_not_none}
 use Rattle.layout.specs.Place.{large_word}
@@ -41,6 +41,9 @@ module _ (space : SpaceValue) (large : LargeValue) (are : AreApart space large) 
 
   pub shown_some : (n : ℕ) (object : ObjectRef) (shown : Option ObjectRef) → shown ≡ Some object → option_map raw_of shown ≡ option_map (λ o. o.raw) (large_at large n) → IsSomeAnd (object_at (graph_in (objects_of space large)) (large_word n)) (λ o. IsShownAs o (raw_of object))
   shown_some n object shown some is = shown_there n (Some object) (sym (ap (option_map raw_of) some) ∙ is)
+
+  pub shown_is : (n : ℕ) (object : ObjectRef) (shown : Option ObjectRef) → shown ≡ Some object → option_map raw_of shown ≡ option_map (λ o. o.raw) (large_at large n) → (o : Object) → object_at (graph_in (objects_of space large)) (large_word n) ≡ Some o → IsShownAs o (raw_of object)
+  shown_is n object shown some is o there = subst (λ x. IsSomeAnd x (λ y. IsShownAs y (raw_of object))) there (shown_some n object shown some is)
 
   pub step_large : (n : ℕ) (found : Option (ℕ × ℕ)) → found ≡ option_map label (large_at large n) → found ≡ option_map stands_at (object_at (graph_in (objects_of space large)) (large_word n))
   step_large n found is = is ∙ stands_large (large_at large n) ∙ ap (option_map stands_at) (sym (at_large space are.small large n))

@@ -152,9 +152,12 @@ impl<A: Allocator + Clone> HeapObjects<A> {
         requires { IsSome (get self.now.objects (place_word place)) }
         ensures { (o : Object) → get self.now.objects (place_word place) ≡ Some o → result ≡ length o.pointers }
     {
-        match self.object(place) {
-            Some(object) => object.header.pointers,
-            None => 0,
+        match place {
+            Place::Small(_) => self.space.pointer_count(place),
+            Place::Large(number) => match self.large.get(number) {
+                Some(object) => object.header.pointers,
+                None => 0,
+            },
         }
     }
 
@@ -163,9 +166,12 @@ impl<A: Allocator + Clone> HeapObjects<A> {
         requires { IsSome (get self.now.objects (place_word place)) }
         ensures { (o : Object) → get self.now.objects (place_word place) ≡ Some o → result ≡ length o.plain }
     {
-        match self.object(place) {
-            Some(object) => object.header.plain,
-            None => 0,
+        match place {
+            Place::Small(_) => self.space.plain_count(place),
+            Place::Large(number) => match self.large.get(number) {
+                Some(object) => object.header.plain,
+                None => 0,
+            },
         }
     }
 
