@@ -1,4 +1,5 @@
 use layout::{Header, Place, TooBig, is_large, size, word_of};
+use std::cmp::Ordering;
 
 /// Whether the place is that word, and is read back from it.
 fn is_word_of(place: Place, word: u64) -> bool {
@@ -41,4 +42,22 @@ fn sizes(rt: HostRuntime) {
     assert_eq!(rt; size(0, 3), 4);
     assert!(rt; !is_large(4, 16));
     assert!(rt; is_large(5, 16));
+}
+
+/// Whether the first place is below the second, and its word too.
+fn rises(low: Place, high: Place) -> bool {
+    low < high && low.to_word() < high.to_word() && high.cmp(&low) == Ordering::Greater
+}
+
+#[test]
+fn places_are_ordered_as_their_words(rt: HostRuntime) {
+    let pairs = [
+        (Place::small(0, 0), Place::small(0, 511)),
+        (Place::small(0, 511), Place::small(1, 0)),
+        (Place::small(65534, 511), Place::large(0)),
+        (Place::large(0), Place::large(65534)),
+    ];
+    for (low, high) in pairs {
+        assert!(rt; rises(low, high));
+    }
 }

@@ -133,18 +133,24 @@ impl<A: Allocator> Block<A> {
         offset
     }
 
-    /// Puts an object with `p` nil pointers and `q` zero words at the end, and returns its offset in words.
-    pub fn push_new(&mut self, p: u32, q: u32) -> usize
-        requires { used_of self.old + size_of p q ≤ self.old.words }
+    /// Puts an object with so many nil pointers and zero words at the end, and returns its offset in words.
+    pub fn push_new(&mut self, pointers: u32, plain_words: u32) -> usize
+        requires { used_of self.old + size_of pointers plain_words ≤ self.old.words }
         ensures offset { result ≡ used_of self.old }
         ensures in_block { result < 512 }
-        ensures pushed { self.new ≡ record self.old { objects = self.old.objects ++ new_object p q ∷ [] } }
+        ensures pushed { self.new ≡ record self.old { objects = self.old.objects ++ new_object pointers plain_words ∷ [] } }
     {
         let offset = self.used;
-        write_new(&mut self.words, offset, self.len as u16, p, q);
+        write_new(
+            &mut self.words,
+            offset,
+            self.len as u16,
+            pointers,
+            plain_words,
+        );
         self.offsets[self.len] = offset as u16;
         self.len += 1;
-        self.used += 1 + p as usize + q as usize;
+        self.used += 1 + pointers as usize + plain_words as usize;
         offset
     }
 

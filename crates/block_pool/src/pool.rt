@@ -6,13 +6,16 @@ ghost use Rattle.block_pool.specs.PoolValue.{PoolValue, numbers_below, without, 
 use claims::{NumberSet, RankedSet};
 use std::alloc::{AllocError, Allocator, Global};
 use std::marker::Model;
+use thiserror::Error;
 
 /// Why no blocks were granted.
-#[derive(Clone, Copy, Debug, PartialEq, Eq)]
+#[derive(Clone, Copy, Debug, PartialEq, Eq, Error)]
 pub enum GrantError {
     /// Fewer blocks are free.
+    #[error("too few blocks are free")]
     HeapFull,
     /// Memory ran out.
+    #[error("no memory")]
     NoMemory,
 }
 

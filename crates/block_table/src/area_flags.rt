@@ -78,14 +78,14 @@ impl<A: Allocator> AreaFlags<A> {
         }
     }
 
-    /// The first number, from that one on, of a block of generation at most `g`.
-    pub fn next_young(&self, g: u8, from: usize) -> Option<usize>
-        ensures none { IfNone result ((n : ℕ) → from ≤ n → is_flagged self.now g n ≡ false) }
+    /// The first number, from that one on, of a block of generation at most `generation`.
+    pub fn next_young(&self, generation: u8, from: usize) -> Option<usize>
+        ensures none { IfNone result ((n : ℕ) → from ≤ n → is_flagged self.now generation n ≡ false) }
         ensures from { IfSome result (λ number. from ≤ number) }
-        ensures flag { IfSome result (λ number. is_flagged self.now g number ≡ true) }
-        ensures first { IfSome result (λ number. (n : ℕ) → from ≤ n → n < number → is_flagged self.now g n ≡ false) }
+        ensures flag { IfSome result (λ number. is_flagged self.now generation number ≡ true) }
+        ensures first { IfSome result (λ number. (n : ℕ) → from ≤ n → n < number → is_flagged self.now generation n ≡ false) }
     {
         let last = self.young.len() - 1;
-        self.young[last.min(g as usize)].next(from)
+        self.young[last.min(generation as usize)].next(from)
     }
 }

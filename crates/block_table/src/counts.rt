@@ -61,15 +61,15 @@ pub fn count_step<A: Allocator>(table: &[Option<Block<A>>], at: StepId) -> StepC
     }
 }
 
-/// How many objects the block holds, where there is one of generation at most `g`.
-fn young_len<A: Allocator>(slot: &Option<Block<A>>, g: u8) -> Option<u32>
-    ensures young { is_some result ≡ is_some (young_slot g slot.now) }
-    ensures value { IfSome result (λ len. len ≡ slot_len (young_slot g slot.now)) }
+/// How many objects the block holds, where there is one of generation at most `generation`.
+fn young_len<A: Allocator>(slot: &Option<Block<A>>, generation: u8) -> Option<u32>
+    ensures young { is_some result ≡ is_some (young_slot generation slot.now) }
+    ensures value { IfSome result (λ len. len ≡ slot_len (young_slot generation slot.now)) }
     ensures few { IfSome result (λ len. len ≤ 512) }
 {
     match slot {
         Some(block) => {
-            if block.generation() > g {
+            if block.generation() > generation {
                 return None;
             }
             let _words = block.words();
@@ -79,26 +79,26 @@ fn young_len<A: Allocator>(slot: &Option<Block<A>>, g: u8) -> Option<u32>
     }
 }
 
-/// Counts the blocks of generation at most `g` that follow those counted, up to the first other one. `objects` is how
+/// Counts the blocks of generation at most `generation` that follow those counted, up to the first other one. `objects` is how
 /// many objects were counted before, and the result how many are counted then. An error says that memory ran out.
 fn count_run<A: Allocator, B: Allocator>(
     bases: &mut Vec<u32, B>,
     objects: u32,
     table: &[Option<Block<A>>],
-    g: u8,
+    generation: u8,
 ) -> Result<u32, AllocError>
     requires short { length table.now ≤ 65535 }
     requires in_table { length bases.old.items ≤ length table.now }
-    requires counted { HasCounted (young_table g table.now) bases.old.items objects }
+    requires counted { HasCounted (young_table generation table.now) bases.old.items objects }
     requires few { objects ≤ length bases.old.items * 512 }
     ensures in_table { OnOk result (length bases.new.items ≤ length table.now) }
-    ensures run { OnOk result (IsYoungRun g table.now (length bases.old.items) (length bases.new.items)) }
-    ensures counted { IfOk result (λ all. HasCounted (young_table g table.now) bases.new.items all) }
+    ensures run { OnOk result (IsYoungRun generation table.now (length bases.old.items) (length bases.new.items)) }
+    ensures counted { IfOk result (λ all. HasCounted (young_table generation table.now) bases.new.items all) }
     ensures few { IfOk result (λ all. all ≤ length bases.new.items * 512) }
 {
     let mut objects = objects;
     for slot in &table[bases.len()..] {
-        let Some(len) = young_len(slot, g) else {
+        let Some(len) = young_len(slot, generation) else {
             break;
         };
         bases.push(objects)?;
@@ -107,44 +107,44 @@ fn count_run<A: Allocator, B: Allocator>(
     Ok(objects)
 }
 
-/// How many objects of generation at most `g` the blocks before each one hold, up to the last block of such a
+/// How many objects of generation at most `generation` the blocks before each one hold, up to the last block of such a
 /// generation, and how many all hold.
 pub fn bases<A: Allocator, B: Allocator>(
     alloc: B,
     table: &[Option<Block<A>>],
     areas: &AreaFlags<A>,
-    g: u8,
+    generation: u8,
 ) -> Result<(Vec<u32, B>, u32), AllocError>
     requires short { length table.now ≤ 65535 }
     requires areas { AreAreas table.now areas.now }
     ensures len { IfOk result (λ r. length r.0.items ≤ length table.now) }
-    ensures covers { IfOk result (λ r. (b : ℕ) → is_some (young_slot g (slot_at table.now b)) ≡ true → b < length r.0.items) }
-    ensures bases { IfOk result (λ r. (b : ℕ) → b < length r.0.items → slice_index r.0.items b ≡ objects_before (young_table g table.now) b) }
-    ensures all { IfOk result (λ r. r.1 ≡ sum_by slot_len (young_table g table.now)) }
+    ensures covers { IfOk result (λ r. (b : ℕ) → is_some (young_slot generation (slot_at table.now b)) ≡ true → b < length r.0.items) }
+    ensures bases { IfOk result (λ r. (b : ℕ) → b < length r.0.items → slice_index r.0.items b ≡ objects_before (young_table generation table.now) b) }
+    ensures all { IfOk result (λ r. r.1 ≡ sum_by slot_len (young_table generation table.now)) }
 {
     let mut bases = Vec::with_capacity(alloc, FIRST_COUNTS)?;
     let mut objects = 0;
-    while let Some(number) = areas.next_young(g, bases.len()) {
+    while let Some(number) = areas.next_young(generation, bases.len()) {
         bases.resize(number, objects)?;
-        objects = count_run(&mut bases, objects, table, g)?;
+        objects = count_run(&mut bases, objects, table, generation)?;
     }
     Ok((bases, objects))
 }
 
-/// The numbers, from `from` on, of the blocks of generation at most `g`.
+/// The numbers, from `from` on, of the blocks of generation at most `generation`.
 pub fn young_blocks<A: Allocator, B: Allocator>(
     alloc: B,
     areas: &AreaFlags<A>,
     from: usize,
-    g: u8,
+    generation: u8,
 ) -> Result<Vec<u32, B>, AllocError>
-    requires short { (n : ℕ) → is_flagged areas.now g n ≡ true → n < 65535 }
-    ensures numbers { IfOk result (λ numbers. (n : ℕ) → has numbers.items n ≡ (nat_le from n && is_flagged areas.now g n)) }
+    requires short { (n : ℕ) → is_flagged areas.now generation n ≡ true → n < 65535 }
+    ensures numbers { IfOk result (λ numbers. (n : ℕ) → has numbers.items n ≡ (nat_le from n && is_flagged areas.now generation n)) }
     ensures once { IfOk result (λ numbers. IsDistinct nat_eq numbers.items) }
 {
     let mut numbers = Vec::new(alloc);
     let mut next = from;
-    while let Some(number) = areas.next_young(g, next) {
+    while let Some(number) = areas.next_young(generation, next) {
         numbers.push(number as u32)?;
         next = number + 1;
     }

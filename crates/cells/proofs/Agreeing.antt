@@ -1,5 +1,5 @@
 -- Passes that know only places of one answer.
-use Rattle.std.proofs.Common.{◌≡◌, ℕ, List, All, Some}
+use Rattle.std.proofs.Common.{ℕ, List, All}
 use Rattle.std.specs.Prelude.{Option}
 use Rattle.std.proofs.lemmas.List.Elements.{All-weaker}
 use Rattle.layout.specs.declared.place.Place.{Place}

@@ -1,12 +1,11 @@
 -- Pairs of names and places: who is known, and how often a name was won.
-use Rattle.std.proofs.Common.{◌≡◌, ◌≢◌, ℕ, ◌+◌, cond, List, [], ◌∷◌, ◌++◌, All, Some, None, sym, refl, subst, arith, eq-eqb, ne_eqb}
+use Rattle.std.proofs.Common.{◌≡◌, ◌≢◌, ℕ, ◌+◌, cond, [], ◌∷◌, ◌++◌, All, Some, None, sym, refl, subst, eq-eqb, ne_eqb}
 use Rattle.std.specs.Prelude.{Option}
 use Rattle.std.proofs.lemmas.List.Elements.{All-head, All-tail}
 use mathlib.Core.Logic.{dite}
 use native.Mathlib.Decide.{ℕ_discrete}
 use Rattle.layout.specs.declared.place.Place.{Place}
 use Rattle.cells.specs.Learned.{Learns}
-use Rattle.views.specs.Total.{times}
 use Rattle.views.proofs.Times.{times-append}
 use Rattle.cells.specs.Settled.{Pairs, wins_of}
 use Rattle.cells.specs.Known.{known_in, Lasts}

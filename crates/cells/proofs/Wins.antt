@@ -1,12 +1,10 @@
 -- How many pairs of a list have a name, summed over names.
-use Rattle.std.proofs.Common.{◌≡◌, ◌≢◌, ℕ, zero, suc, ◌+◌, ◌<◌, ◌≤◌, List, [], ◌∷◌, ◌++◌, All, length, refl, arith, eq-eqb, ne_eqb}
+use Rattle.std.proofs.Common.{◌≡◌, ◌≢◌, ℕ, zero, suc, ◌+◌, ◌<◌, ◌≤◌, [], ◌∷◌, All, length, refl, arith, eq-eqb, ne_eqb}
 use Rattle.std.proofs.lemmas.List.Elements.{All-head, All-tail}
 use mathlib.Core.Logic.{dite}
 use native.Mathlib.Decide.{ℕ_discrete, dec_le}
 use Rattle.layout.specs.declared.place.Place.{Place}
 use Rattle.cells.specs.Settled.{Pairs, wins_of}
-use Rattle.views.specs.Total.{times}
-use Rattle.views.proofs.Times.{times-append}
 
 pub wins-one : (name : ℕ) (place : Place) → wins_of name ((name, place) ∷ []) ≡ 1
 wins-one name place = rw (eq-eqb name name refl) refl

@@ -1,5 +1,5 @@
 -- What settling answers: the place of each name that was won.
-use Rattle.std.specs.Prelude.{◌≡◌, ◌≤◌, ℕ, ◌+◌, ◌==◌, if◌then◌else◌, List, [], ◌∷◌, All, flat_map, Option, Some, None}
+use Rattle.std.specs.Prelude.{◌≡◌, ◌≤◌, ℕ, List, All, flat_map, Option, Some, None}
 use Rattle.layout.specs.declared.place.Place.{Place}
 use Rattle.views.specs.Total.{times}
 

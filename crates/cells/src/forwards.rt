@@ -4,13 +4,16 @@ ghost use Rattle.std.specs.Prelude.{◌≡◌, None, slice_index_or};
 use layout::Place;
 use std::alloc::{Allocator, Global};
 use std::marker::Model;
+use thiserror::Error;
 
 /// Why cells were not settled.
-#[derive(Clone, Copy, Debug, PartialEq, Eq)]
+#[derive(Clone, Copy, Debug, PartialEq, Eq, Error)]
 pub enum SettleError {
     /// A pass knows a place that no pass won.
+    #[error("a place is known that no pass won")]
     Unsettled,
     /// Memory ran out.
+    #[error("no memory")]
     NoMemory,
 }
 

@@ -13,13 +13,17 @@ use serial::SerialCollection;
 use serial_settling::settle;
 use serial_steps::run_to_end;
 use std::alloc::{AllocError, Allocator};
+use thiserror::Error;
 
 /// Why a collection was not carried out. The heap is as before.
-#[derive(Clone, Copy, Debug, PartialEq, Eq)]
+#[derive(Clone, Copy, Debug, PartialEq, Eq, Error)]
 pub enum CollectError {
+    #[error("no such generation")]
     NoGeneration,
     /// A live object needs a new block, and none is free.
+    #[error("heap full")]
     HeapFull,
+    #[error("no memory")]
     NoMemory,
 }
 
@@ -73,21 +77,21 @@ fn scavenged<A: Allocator + Clone>(
     }
 }
 
-/// Collects the generations 0 to `g` with one worker, and starts no thread.
+/// Collects the generations 0 to `generation` with one worker, and starts no thread.
 pub fn collect_one<A: Allocator + Clone>(
     alloc: A,
     heap: &mut Heap<A>,
-    g: u64,
+    generation: u64,
 ) -> Result<Report<A>, CollectError>
-    ensures ok { IfOk result (λ report. CollectsAlone heap.old g report.kept report.freed report.workers.items report.deliveries.items heap.new) }
-    ensures no_generation { (result ≡ Err CollectError.NoGeneration) ↔ (heap.old.config.shape.generations ≤ g) }
-    ensures full { result ≡ Err CollectError.HeapFull → IsShortOfBlocks heap.old g }
+    ensures ok { IfOk result (λ report. CollectsAlone heap.old generation report.kept report.freed report.workers.items report.deliveries.items heap.new) }
+    ensures no_generation { (result ≡ Err CollectError.NoGeneration) ↔ (heap.old.config.shape.generations ≤ generation) }
+    ensures full { result ≡ Err CollectError.HeapFull → IsShortOfBlocks heap.old generation }
     ensures err { OnErr result (heap.new ≡ heap.old) }
 {
-    if g >= heap.config().generations() as u64 {
+    if generation >= heap.config().generations() as u64 {
         return Err(CollectError::NoGeneration);
     }
-    let collection = heap.open_collection(alloc.clone()?, g)?;
+    let collection = heap.open_collection(alloc.clone()?, generation)?;
     let settled = scavenged(alloc.clone()?, heap, collection)?;
     Ok(heap.commit(alloc, settled)?)
 }

@@ -8,6 +8,8 @@ use clap::error::ErrorKind;
 use clap::{Arg, ArgMatches, Command, Error, value_parser};
 use std::alloc::{AllocError, Global};
 use std::convert::AsStr;
+use steps::Sizes;
+use thiserror::Error as ThisError;
 
 /// What a command line asks for.
 #[derive(Clone, Copy, Debug)]
@@ -23,21 +25,19 @@ pub enum Task {
 pub struct Options {
     pub task: Task,
     pub threads: u64,
-    pub mutators: u64,
-    pub generations: u64,
-    pub steps: u64,
-    pub block_words: u64,
-    pub nursery: u64,
-    pub blocks: u64,
+    pub sizes: Sizes,
 }
 
 /// Why the words ask for no run, with what is to be told of it.
-#[derive(Debug, Drop)]
+#[derive(Debug, Drop, ThisError)]
 pub enum Refused {
     /// They ask for this help.
+    #[error("{0}")]
     Help(String),
     /// There is a mistake in them.
+    #[error("{0}")]
     Usage(String),
+    #[error("no memory")]
     NoMemory,
 }
 
@@ -67,6 +67,30 @@ Status:
 
 The lines of traces and schedules are described in docs/FORMATS.md.";
 
+/// The default of each size, as it is written.
+#[derive(Drop)]
+struct Defaults {
+    mutators: String,
+    generations: String,
+    steps: String,
+    block_words: String,
+    nursery_blocks: String,
+    blocks: String,
+}
+
+impl Defaults {
+    fn of(alloc: Global, sizes: Sizes) -> Result<Defaults, AllocError> {
+        Ok(Defaults {
+            mutators: format!(in alloc; "{}", sizes.mutators)?,
+            generations: format!(in alloc; "{}", sizes.generations)?,
+            steps: format!(in alloc; "{}", sizes.steps)?,
+            block_words: format!(in alloc; "{}", sizes.block_words)?,
+            nursery_blocks: format!(in alloc; "{}", sizes.nursery_blocks)?,
+            blocks: format!(in alloc; "{}", sizes.blocks)?,
+        })
+    }
+}
+
 /// An option with one whole number.
 fn number_option<'a>(alloc: Global, name: &'a str, default: &'a str, help: &'a str) -> Arg<'a> {
     Arg::new(alloc, name)
@@ -93,6 +117,7 @@ fn task_command<'a>(
     name: &'a str,
     about: &'a str,
     threads: &'a str,
+    defaults: &'a Defaults,
 ) -> Result<Command<'a>, AllocError> {
     let of_nurseries = "Blocks of each mutator's nursery: 1 to 64";
     let of_steps = "Steps of each generation but the oldest: 1 to 4";
@@ -101,18 +126,29 @@ fn task_command<'a>(
         .about(about)
         .after_help(AFTER_HELP)
         .arg(number_option(alloc, "threads", "1", threads))?
-        .arg(number_option(alloc, "mutators", "1", "Mutators: 1 to 16"))?
-        .arg(number_option(alloc, "generations", "2", "Generations: 1 to 4"))?
-        .arg(number_option(alloc, "steps", "2", of_steps))?
-        .arg(number_option(alloc, "block-words", "512", of_words))?
-        .arg(number_option(alloc, "nursery", "4", of_nurseries))?
-        .arg(number_option(alloc, "blocks", "4096", "Blocks in all: 1 to 65535"))
+        .arg(number_option(alloc, "mutators", &defaults.mutators, "Mutators: 1 to 16"))?
+        .arg(number_option(
+            alloc,
+            "generations",
+            &defaults.generations,
+            "Generations: 1 to 4",
+        ))?
+        .arg(number_option(alloc, "steps", &defaults.steps, of_steps))?
+        .arg(number_option(alloc, "block-words", &defaults.block_words, of_words))?
+        .arg(number_option(alloc, "nursery", &defaults.nursery_blocks, of_nurseries))?
+        .arg(number_option(
+            alloc,
+            "blocks",
+            &defaults.blocks,
+            "Blocks in all: 1 to 65535",
+        ))
 }
 
-fn gctrace_command<'a>(alloc: Global) -> Result<Command<'a>, AllocError> {
-    let run = task_command(alloc, "run", ABOUT_RUN, "Workers of a collection: 1")?;
+fn gctrace_command<'a>(alloc: Global, defaults: &'a Defaults) -> Result<Command<'a>, AllocError> {
+    let of_run = "Workers of a collection: 1";
+    let run = task_command(alloc, "run", ABOUT_RUN, of_run, defaults)?;
     let of_workers = "Workers of a collection: 1 to 16";
-    let replay = task_command(alloc, "replay", ABOUT_REPLAY, of_workers)?;
+    let replay = task_command(alloc, "replay", ABOUT_REPLAY, of_workers, defaults)?;
     Command::new(alloc, "gctrace")
         .version(VERSION)
         .about(ABOUT)
@@ -134,6 +170,18 @@ fn task_of(name: &str) -> Option<Task>
     }
 }
 
+/// The sizes of the heap, in no particular range.
+fn sizes_of(matches: &ArgMatches<'_>) -> Option<Sizes> {
+    Some(Sizes {
+        block_words: matches.get_one::<u64>("block-words")?,
+        blocks: matches.get_one::<u64>("blocks")?,
+        mutators: matches.get_one::<u64>("mutators")?,
+        nursery_blocks: matches.get_one::<u64>("nursery")?,
+        generations: matches.get_one::<u64>("generations")?,
+        steps: matches.get_one::<u64>("steps")?,
+    })
+}
+
 fn options_of(name: &str, matches: &ArgMatches<'_>) -> Option<Options>
     ensures run { IfSome result (λ options. (options.task ≡ Run) ↔ (name.now ≡ codes "run")) }
     ensures replay { IfSome result (λ options. (options.task ≡ Replay) ↔ (name.now ≡ codes "replay")) }
@@ -141,18 +189,14 @@ fn options_of(name: &str, matches: &ArgMatches<'_>) -> Option<Options>
     Some(Options {
         task: task_of(name)?,
         threads: matches.get_one::<u64>("threads")?,
-        mutators: matches.get_one::<u64>("mutators")?,
-        generations: matches.get_one::<u64>("generations")?,
-        steps: matches.get_one::<u64>("steps")?,
-        block_words: matches.get_one::<u64>("block-words")?,
-        nursery: matches.get_one::<u64>("nursery")?,
-        blocks: matches.get_one::<u64>("blocks")?,
+        sizes: sizes_of(matches)?,
     })
 }
 
 /// What the words ask for, or the mistake in them as `clap` tells of it.
 fn parsed_words<'a, T: AsStr>(alloc: Global, words: &'a [T]) -> Result<Options, Error> {
-    let mut command = gctrace_command(alloc)?;
+    let defaults = Defaults::of(alloc, Sizes::default())?;
+    let mut command = gctrace_command(alloc, &defaults)?;
     let matches = command.try_get_matches_from_mut(words)?;
     match matches
         .subcommand()

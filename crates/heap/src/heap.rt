@@ -34,66 +34,85 @@ use roots::Roots;
 use std::alloc::{AllocError, Allocator, Global};
 use std::marker::Model;
 use steps::{Config, StepId};
+use thiserror::Error;
 
 /// The most pointers, and the most plain words, that an object may have.
 const MOST_FIELDS: u64 = 100_000;
 
 /// Why a heap was not made.
-#[derive(Clone, Copy, Debug, PartialEq, Eq)]
+#[derive(Clone, Copy, Debug, PartialEq, Eq, Error)]
 pub enum MakeError {
     /// The nurseries want more blocks than there are.
+    #[error("the nurseries want more blocks than there are")]
     HeapFull,
+    #[error("no memory")]
     NoMemory,
 }
 
 /// Why an object was not allocated. The heap is as before.
-#[derive(Clone, Copy, Debug, PartialEq, Eq)]
+#[derive(Clone, Copy, Debug, PartialEq, Eq, Error)]
 pub enum AllocateError {
+    #[error("no such mutator")]
     NoMutator,
     /// More than 100,000 pointers or plain words.
+    #[error("too big")]
     TooBig,
     /// The object is small, and the mutator's nursery has no room. A collection makes room.
+    #[error("the nursery is full")]
     NurseryFull,
     /// The object is large, and fewer blocks are free than it takes. No collection is made for it.
+    #[error("heap full")]
     HeapFull,
+    #[error("no memory")]
     NoMemory,
 }
 
 /// Why a collection was not opened.
-#[derive(Clone, Copy, Debug, PartialEq, Eq)]
+#[derive(Clone, Copy, Debug, PartialEq, Eq, Error)]
 pub enum OpenError {
+    #[error("no such generation")]
     NoGeneration,
+    #[error("no memory")]
     NoMemory,
 }
 
 /// There is no such root.
-#[derive(Clone, Copy, Debug, PartialEq, Eq)]
+#[derive(Clone, Copy, Debug, PartialEq, Eq, Error)]
+#[error("no such root")]
 pub struct NoRoot;
 
 /// Why a plain word was not read or written. The heap is as before.
-#[derive(Clone, Copy, Debug, PartialEq, Eq)]
+#[derive(Clone, Copy, Debug, PartialEq, Eq, Error)]
 pub enum FieldError {
+    #[error("no such root")]
     NoRoot,
     /// The object has no such field.
+    #[error("no such field")]
     BadField,
 }
 
 /// Why a pointer was not stored. The heap is as before.
-#[derive(Clone, Copy, Debug, PartialEq, Eq)]
+#[derive(Clone, Copy, Debug, PartialEq, Eq, Error)]
 pub enum StoreError {
     /// No root of the object, or none of the value.
+    #[error("no such root")]
     NoRoot,
     /// The object has no such pointer.
+    #[error("no such field")]
     BadField,
+    #[error("no memory")]
     NoMemory,
 }
 
 /// Why no pointer was loaded. The heap is as before.
-#[derive(Clone, Copy, Debug, PartialEq, Eq)]
+#[derive(Clone, Copy, Debug, PartialEq, Eq, Error)]
 pub enum LoadError {
+    #[error("no such root")]
     NoRoot,
     /// The object has no such pointer.
+    #[error("no such field")]
     BadField,
+    #[error("no memory")]
     NoMemory,
 }
 
@@ -157,32 +176,37 @@ impl<A: Allocator + Clone> Heap<A> {
         })
     }
 
-    /// A new object of a mutator, with `p` nil pointers and `q` zero words, and a new root to it. Where it takes more than a
+    /// A new object of a mutator, with so many nil pointers and zero words, and a new root to it. Where it takes more than a
     /// quarter of a block it is large, and stands in blocks of its own. It does not collect.
-    pub fn allocate(&mut self, mutator: u64, p: u64, q: u64) -> Result<RootId, AllocateError>
-        ensures ok { IfOk result (λ root. Allocates self.old mutator p q root.number self.new) }
+    pub fn allocate(
+        &mut self,
+        mutator: u64,
+        pointers: u64,
+        plain_words: u64,
+    ) -> Result<RootId, AllocateError>
+        ensures ok { IfOk result (λ root. Allocates self.old mutator pointers plain_words root.number self.new) }
         ensures no_mutator { (result ≡ Err AllocateError.NoMutator) ↔ (self.old.config.mutators ≤ mutator) }
         ensures too_big { (result ≡ Err AllocateError.TooBig)
-            ↔ ((mutator < self.old.config.mutators) × IsTrue (is_too_big p q)) }
+            ↔ ((mutator < self.old.config.mutators) × IsTrue (is_too_big pointers plain_words)) }
         ensures full { (result ≡ Err AllocateError.NurseryFull)
-            ↔ ((mutator < self.old.config.mutators) × (is_too_big p q ≡ false) × (is_large_size self.old.config (1 + p + q) ≡ false)
-            × (room_for self.old mutator (1 + p + q) ≡ None)) }
+            ↔ ((mutator < self.old.config.mutators) × (is_too_big pointers plain_words ≡ false) × (is_large_size self.old.config (1 + pointers + plain_words) ≡ false)
+            × (room_for self.old mutator (1 + pointers + plain_words) ≡ None)) }
         ensures heap_full { (result ≡ Err AllocateError.HeapFull)
-            ↔ ((mutator < self.old.config.mutators) × (is_too_big p q ≡ false) × IsTrue (is_large_size self.old.config (1 + p + q))
-            × (length self.old.free < wanted_blocks self.old p q)) }
+            ↔ ((mutator < self.old.config.mutators) × (is_too_big pointers plain_words ≡ false) × IsTrue (is_large_size self.old.config (1 + pointers + plain_words))
+            × (length self.old.free < wanted_blocks self.old pointers plain_words)) }
         ensures err { OnErr result (self.new ≡ self.old) }
     {
         let config = self.objects.config();
         if mutator >= config.mutators() as u64 {
             return Err(AllocateError::NoMutator);
         }
-        if p > MOST_FIELDS || q > MOST_FIELDS {
+        if pointers > MOST_FIELDS || plain_words > MOST_FIELDS {
             return Err(AllocateError::TooBig);
         }
-        if 1 + p + q > config.block_words() as u64 / 4 {
-            return self.allocate_large(p as u32, q as u32);
+        if 1 + pointers + plain_words > config.block_words() as u64 / 4 {
+            return self.allocate_large(pointers as u32, plain_words as u32);
         }
-        self.allocate_small(mutator as usize, p as u32, q as u32)
+        self.allocate_small(mutator as usize, pointers as u32, plain_words as u32)
     }
 
     /// The same for a small object and a mutator that there is.
@@ -417,19 +441,25 @@ impl<A: Allocator + Clone> Heap<A> {
         self.objects.step_of(place)
     }
 
-    /// Opens a collection of the generations 0 to `g`. The heap stays as it is.
-    pub fn open_collection(&self, alloc: A, g: u64) -> Result<Collection<A>, OpenError>
-        ensures ok { IfOk result (λ collection. IsOpened self.now g collection) }
-        ensures no_generation { (result ≡ Err OpenError.NoGeneration) ↔ (self.now.config.shape.generations ≤ g) }
+    /// Opens a collection of the generations 0 to `generation`. The heap stays as it is.
+    pub fn open_collection(&self, alloc: A, generation: u64) -> Result<Collection<A>, OpenError>
+        ensures ok { IfOk result (λ collection. IsOpened self.now generation collection) }
+        ensures no_generation { (result ≡ Err OpenError.NoGeneration) ↔ (self.now.config.shape.generations ≤ generation) }
         // What holds of every heap.
         ensures range { IsInRange self.now.config }
         ensures sound { IsHeap self.now }
     {
         let _free = self.objects.free_count();
-        if g >= self.objects.config().generations() as u64 {
+        if generation >= self.objects.config().generations() as u64 {
             return Err(OpenError::NoGeneration);
         }
-        match opened(alloc, &self.objects, &self.roots, &self.remembered, g as u8) {
+        match opened(
+            alloc,
+            &self.objects,
+            &self.roots,
+            &self.remembered,
+            generation as u8,
+        ) {
             Ok(collection) => Ok(collection),
             Err(_) => Err(OpenError::NoMemory),
         }

@@ -1,5 +1,5 @@
 -- What the remembered sets of a heap hold: objects with a pointer to a younger generation.
-use Rattle.std.specs.Prelude.{◌≡◌, ℕ, ◌<◌, ◌↔◌, Bool, false, List, [], length, Option, Some, None, IsTrue, nat_eq, if◌then◌else◌, slice_index_or, option_and_then, All}
+use Rattle.std.specs.Prelude.{ℕ, ◌<◌, ◌↔◌, Bool, false, List, [], length, Option, Some, None, IsTrue, nat_eq, if◌then◌else◌, slice_index_or, option_and_then}
 use Rattle.std.specs.Option.{option_map_or}
 use Rattle.std.specs.List.{IsDistinct}
 use Rattle.model.specs.Graph.{Graph, Object, object_at}

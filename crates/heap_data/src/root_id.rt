@@ -1,5 +1,5 @@
 /// The number of a root: what a program holds of an object.
-#[derive(Clone, Copy, Debug, PartialEq, Eq)]
+#[derive(Clone, Copy, Debug, PartialEq, Eq, PartialOrd, Ord, Hash)]
 pub struct RootId {
     pub number: usize,
 }

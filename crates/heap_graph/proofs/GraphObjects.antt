@@ -24,7 +24,7 @@ use Rattle.heap_data.specs.Words.{target_of_word}
 use Rattle.heap_data.specs.BlockObjects.{object_of, block_objects}
 use Rattle.block_table.specs.Table.{slot_at, slot_objects, table_objects, objects_map}
 use Rattle.large_objects.specs.LargeValue.{LargeObject, LargeValue, large_at, InUse}
-use Rattle.heap_graph.specs.WithLarge.{large_object, large_entries, with_large}
+use Rattle.heap_graph.specs.WithLarge.{large_object, large_entries}
 use Rattle.heap_graph.specs.HeapGraph.{IsHeapGraph, IsClosedWord, PointersLead}
 use Rattle.block_table.proofs.TableSteps.{in_list}
 use Rattle.block_table.proofs.TableLemmas.{SlotFits, TableFits, IsWordOf, find-at, find-first, word_cases, objects_from-within, slot_objects-within}

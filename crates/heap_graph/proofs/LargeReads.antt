@@ -1,9 +1,8 @@
 -- What the calls of large objects show.
-use Rattle.std.proofs.Common.{◌≡◌, ℕ, Option, Some, None, refl, sym, ap, ◌∙◌}
+use Rattle.std.proofs.Common.{◌≡◌, ℕ, Option, Some, None, refl, sym, ap}
 use Rattle.std.specs.Prelude.{IsSome}
 use Rattle.std.specs.Option.{option_map}
 use Rattle.model.proofs.Options.{some_is, some_not_none}
-use Rattle.layout.specs.Object.{Raw}
 use Rattle.layout.specs.ObjectRef.{raw_of}
 use Rattle.layout.specs.declared.object.ObjectRef.{ObjectRef}
 use Rattle.large_objects.specs.LargeValue.{LargeObject, LargeValue, large_at, InUse}

@@ -1,11 +1,11 @@
 -- Large objects beside those that stand in blocks.
-use Rattle.std.proofs.Common.{◌≡◌, ◌≢◌, ℕ, zero, suc, ◌+◌, ◌-◌, ◌<◌, ◌≤◌, List, [], ◌∷◌, ◌++◌, length, Option, Some, None, refl, sym, ap, subst, ◌∙◌, arith, ⊎_elim}
+use Rattle.std.proofs.Common.{◌≡◌, ◌≢◌, ℕ, zero, suc, ◌+◌, ◌<◌, List, [], ◌∷◌, ◌++◌, Option, Some, None, refl, sym, ap, ◌∙◌, arith, ⊎_elim}
 use Rattle.std.proofs.lemmas.Bool.{cases_eq}
 use Rattle.std.specs.Prelude.{slice_index_or}
 use Rattle.std.specs.Option.{option_map}
 use Rattle.std.specs.Ordering.{nat_cmp}
 use Rattle.std.specs.Cmp.{nat_cmp_total}
-use Rattle.std.specs.FinMap.{FinMap, find, get, entries, from_entries, get-entries, get-from_entries}
+use Rattle.std.specs.FinMap.{FinMap, find, get, entries, get-entries, get-from_entries}
 use Rattle.model.specs.Graph.{Object}
 use Rattle.model.proofs.NatMap.{find_same, find_other, same_nat_map}
 use Rattle.model.proofs.Rising.{KeysRise, KeysRise-weaker, KeysRise-append, KeysBelow, entries-from_entries}

@@ -75,22 +75,22 @@ fn push_fields<A: Allocator, B: Allocator>(
     Ok(())
 }
 
-/// Puts the fields of the object of generation `h` at a place, where there is one, at the end of the slots, those that
-/// lead to objects of generation at most `g`.
+/// Puts the fields of the object of generation `holder_generation` at a place, where there is one, at the end of the slots, those that
+/// lead to objects of generation at most `generation`.
 pub fn push_slots_of<A: Allocator, B: Allocator>(
     slots: &mut Vec<Slot, B>,
     table: &[Option<Block<A>>],
     large: &LargeTable<A>,
-    g: u8,
-    h: u8,
+    generation: u8,
+    holder_generation: u8,
     place: Place,
 ) -> Result<(), AllocError>
     requires short { length table.now ≤ 65535 }
     ensures { OnOk result ((graph : Graph) → IsHeapGraph graph table.now large.now
-        → map slot_value slots.new.items ≡ map slot_value slots.old.items ++ map field_slot_of (slots_at graph g h (place_word place))) }
+        → map slot_value slots.new.items ≡ map slot_value slots.old.items ++ map field_slot_of (slots_at graph generation holder_generation (place_word place))) }
 {
-    match object_of_generation(table, large, h, place) {
-        Some(object) => push_fields(slots, table, large, g, place, object.pointers),
+    match object_of_generation(table, large, holder_generation, place) {
+        Some(object) => push_fields(slots, table, large, generation, place, object.pointers),
         None => Ok(()),
     }
 }

@@ -56,18 +56,18 @@ fn points_below<A: Allocator>(
     false
 }
 
-/// Whether the object at a place is of generation `h` and has a pointer to an object of a younger one.
+/// Whether the object at a place is of generation `holder_generation` and has a pointer to an object of a younger one.
 pub fn is_holder<A: Allocator>(
     table: &[Option<Block<A>>],
     large: &LargeTable<A>,
-    h: u8,
+    holder_generation: u8,
     place: Place,
 ) -> bool
     requires short { length table.now ≤ 65535 }
-    ensures { (graph : Graph) → IsHeapGraph graph table.now large.now → result ≡ is_holder graph h (place_word place) }
+    ensures { (graph : Graph) → IsHeapGraph graph table.now large.now → result ≡ is_holder graph holder_generation (place_word place) }
 {
-    match object_of_generation(table, large, h, place) {
-        Some(object) => points_below(table, large, object.pointers, h),
+    match object_of_generation(table, large, holder_generation, place) {
+        Some(object) => points_below(table, large, object.pointers, holder_generation),
         None => false,
     }
 }

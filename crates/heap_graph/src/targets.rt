@@ -61,19 +61,19 @@ pub fn target(word: u64) -> Option<Place>
     Place::from_word(word).flatten()
 }
 
-/// Whether the object at a place is of generation at most `g`.
+/// Whether the object at a place is of generation at most `generation`.
 pub fn is_at_most<A: Allocator>(
     table: &[Option<Block<A>>],
     large: &LargeTable<A>,
     place: Place,
-    g: u8,
+    generation: u8,
 ) -> bool
     requires short { length table.now ≤ 65535 }
     ensures { (graph : Graph) → IsHeapGraph graph table.now large.now → IsClosedWord graph (place_word place)
-        → result ≡ is_young_name graph g (place_word place) }
+        → result ≡ is_young_name graph generation (place_word place) }
 {
     match generation_of(table, large, place) {
-        Some(generation) => generation <= g,
+        Some(of) => of <= generation,
         None => false,
     }
 }

@@ -81,43 +81,45 @@ impl<A: Allocator + Clone> HeapObjects<A> {
     }
 
     /// Puts a new small object into a mutator's nursery. `None` says that there is no room.
-    pub fn allocate(&mut self, mutator: usize, p: u32, q: u32) -> Option<Place>
+    pub fn allocate(&mut self, mutator: usize, pointers: u32, plain_words: u32) -> Option<Place>
         requires mutator { mutator < self.old.config.mutators }
-        requires small { 1 + p + q ≤ self.old.config.block_words / 4 }
-        ensures room { IsSome result ↔ IsSome (room_in self.old mutator (1 + p + q)) }
-        ensures some { IfSome result (λ place. AllocatesSmall self.old mutator p q (place_word place) self.new) }
+        requires small { 1 + pointers + plain_words ≤ self.old.config.block_words / 4 }
+        ensures room { IsSome result ↔ IsSome (room_in self.old mutator (1 + pointers + plain_words)) }
+        ensures some { IfSome result (λ place. AllocatesSmall self.old mutator pointers plain_words (place_word place) self.new) }
         ensures none { IfNone result (self.new ≡ self.old) }
     {
-        let place = self.space.allocate(mutator, p, q);
+        let place = self.space.allocate(mutator, pointers, plain_words);
         let _free = self.space.free_count();
         place
     }
 
-    /// How many blocks a large object with `p` pointers and `q` plain words takes.
-    pub fn wanted(&self, p: u32, q: u32) -> usize
-        ensures { result ≡ wanted self.now.config p q }
+    /// How many blocks a large object with so many pointers and plain words takes.
+    pub fn wanted(&self, pointers: u32, plain_words: u32) -> usize
+        ensures { result ≡ wanted self.now.config pointers plain_words }
     {
         let words = self.space.config().block_words();
-        (p as usize + q as usize + words) / words
+        (pointers as usize + plain_words as usize + words) / words
     }
 
     /// Makes a new large object in the free blocks with the lowest numbers, as many as hold it. `HeapFull` says that fewer are
     /// free. `NoMemory` says that memory ran out, or that there are 65,535 large objects.
-    pub fn allocate_large(&mut self, p: u32, q: u32) -> Result<Place, GrantError>
-        requires pointers { p ≤ 100000 }
-        requires plain { q ≤ 100000 }
-        requires large { self.old.config.block_words / 4 < 1 + p + q }
-        ensures ok { IfOk result (λ place. AllocatesLarge self.old p q (place_word place) self.new) }
-        ensures full { (result ≡ Err GrantError.HeapFull) ↔ (length self.old.free < wanted self.old.config p q) }
+    pub fn allocate_large(&mut self, pointers: u32, plain_words: u32) -> Result<Place, GrantError>
+        requires pointers { pointers ≤ 100000 }
+        requires plain { plain_words ≤ 100000 }
+        requires large { self.old.config.block_words / 4 < 1 + pointers + plain_words }
+        ensures ok { IfOk result (λ place. AllocatesLarge self.old pointers plain_words (place_word place) self.new) }
+        ensures full { (result ≡ Err GrantError.HeapFull) ↔ (length self.old.free < wanted self.old.config pointers plain_words) }
         ensures err { OnErr result (self.new ≡ self.old) }
     {
-        if self.space.free_count() < self.wanted(p, q) {
+        if self.space.free_count() < self.wanted(pointers, plain_words) {
             return Err(GrantError::HeapFull);
         }
         let Ok(alloc) = self.alloc.clone() else {
             return Err(GrantError::NoMemory);
         };
-        let number = self.space.add_large(alloc, &mut self.large, p, q)?;
+        let number = self
+            .space
+            .add_large(alloc, &mut self.large, pointers, plain_words)?;
         let _free = self.space.free_count();
         let _numbers = self.large.len();
         Ok(Place::Large(number))
@@ -228,28 +230,35 @@ impl<A: Allocator + Clone> HeapObjects<A> {
         count_remembered(self.space.table(), &self.large)
     }
 
-    /// Puts the pointers of the object of generation `h` at a place, where there is one, at the end of the slots, those
-    /// that lead to objects of generation at most `g`.
+    /// Puts the pointers of the object of generation `holder_generation` at a place, where there is one, at the end of the slots, those
+    /// that lead to objects of generation at most `generation`.
     pub fn push_slots_of<B: Allocator>(
         &self,
         slots: &mut Vec<Slot, B>,
-        g: u8,
-        h: u8,
+        generation: u8,
+        holder_generation: u8,
         place: Place,
     ) -> Result<(), AllocError>
         requires { IsClosed (graph_in self.now) }
         ensures { OnOk result (map slot_value slots.new.items ≡ map slot_value slots.old.items
-            ++ map field_slot_of (slots_at (graph_in self.now) g h (place_word place))) }
+            ++ map field_slot_of (slots_at (graph_in self.now) generation holder_generation (place_word place))) }
     {
-        push_slots_of(slots, self.space.table(), &self.large, g, h, place)
+        push_slots_of(
+            slots,
+            self.space.table(),
+            &self.large,
+            generation,
+            holder_generation,
+            place,
+        )
     }
 
-    /// Whether the object at a place is of generation `h` and has a pointer to an object of a younger one.
-    pub fn is_holder(&self, h: u8, place: Place) -> bool
+    /// Whether the object at a place is of generation `holder_generation` and has a pointer to an object of a younger one.
+    pub fn is_holder(&self, holder_generation: u8, place: Place) -> bool
         requires { IsClosed (graph_in self.now) }
-        ensures { result ≡ is_holder (graph_in self.now) h (place_word place) }
+        ensures { result ≡ is_holder (graph_in self.now) holder_generation (place_word place) }
     {
-        is_holder(self.space.table(), &self.large, h, place)
+        is_holder(self.space.table(), &self.large, holder_generation, place)
     }
 
     /// The lowest number of a large object, from this one on. None says that there is none from there on.
@@ -259,24 +268,24 @@ impl<A: Allocator + Clone> HeapObjects<A> {
         self.large.next_from(from)
     }
 
-    /// How the objects of generation at most `g` are numbered, and how many such objects there are.
-    pub fn numbering(&self, alloc: A, g: u8) -> Result<(Numbering<A>, u32), AllocError>
-        ensures numbering { IfOk result (λ r. IsNumbering (graph_in self.now) g r.0) }
-        ensures all { IfOk result (λ r. r.1 ≡ length (young_names (graph_in self.now) g)) }
+    /// How the objects of generation at most `generation` are numbered, and how many such objects there are.
+    pub fn numbering(&self, alloc: A, generation: u8) -> Result<(Numbering<A>, u32), AllocError>
+        ensures numbering { IfOk result (λ r. IsNumbering (graph_in self.now) generation r.0) }
+        ensures all { IfOk result (λ r. r.1 ≡ length (young_names (graph_in self.now) generation)) }
     {
-        let (blocks, small) = self.space.bases(alloc.clone()?, g)?;
-        let (large, all) = large_numbers(alloc, &self.large, g, small)?;
+        let (blocks, small) = self.space.bases(alloc.clone()?, generation)?;
+        let (large, all) = large_numbers(alloc, &self.large, generation, small)?;
         Ok((Numbering::new(blocks, large), all))
     }
 
-    /// The number of an object of generation at most `g`.
-    pub fn number_of(&self, numbering: &Numbering<A>, g: u8, place: Place) -> u32
-        requires numbering { IsNumbering (graph_in self.now) g numbering.now }
-        requires young { IsYoung (graph_in self.now) g (place_word place) }
-        ensures { IsNumbered self.now g (place_word place) result }
+    /// The number of an object of generation at most `generation`.
+    pub fn number_of(&self, numbering: &Numbering<A>, generation: u8, place: Place) -> u32
+        requires numbering { IsNumbering (graph_in self.now) generation numbering.now }
+        requires young { IsYoung (graph_in self.now) generation (place_word place) }
+        ensures { IsNumbered self.now generation (place_word place) result }
     {
         match place {
-            Place::Small(_) => self.space.number_of(numbering.blocks(), g, place),
+            Place::Small(_) => self.space.number_of(numbering.blocks(), generation, place),
             Place::Large(number) => numbering.large()[number.number as usize],
         }
     }
@@ -309,24 +318,24 @@ impl<A: Allocator + Clone> HeapObjects<A> {
     }
 
     /// The object at a place where there is one, its generation and step, and its number where its generation is at
-    /// most `g`.
+    /// most `generation`.
     #[inline]
     pub fn find(
         &self,
         numbering: &Numbering<A>,
-        g: u8,
+        generation: u8,
         place: Place,
     ) -> (ObjectRef<'_>, StepId, Option<u32>)
-        requires numbering { IsNumbering (graph_in self.now) g numbering.now }
+        requires numbering { IsNumbering (graph_in self.now) generation numbering.now }
         requires there { IsSome (get self.now.objects (place_word place)) }
         ensures object { IsSomeAnd (get self.now.objects (place_word place)) (λ o. IsShownAs o (raw_of result.0)) }
         ensures step { Some (step_pair result.1) ≡ option_map stands_at (get self.now.objects (place_word place)) }
-        ensures number { MatchOption result.2 (IsYoung (graph_in self.now) g (place_word place) → ⊥)
-            (λ n. IsYoung (graph_in self.now) g (place_word place) × IsNumbered self.now g (place_word place) n) }
+        ensures number { MatchOption result.2 (IsYoung (graph_in self.now) generation (place_word place) → ⊥)
+            (λ n. IsYoung (graph_in self.now) generation (place_word place) × IsNumbered self.now generation (place_word place) n) }
     {
         match place {
-            Place::Small(_) => self.space.find(numbering.blocks(), g, place),
-            Place::Large(number) => self.find_large(numbering, g, number),
+            Place::Small(_) => self.space.find(numbering.blocks(), generation, place),
+            Place::Large(number) => self.find_large(numbering, generation, number),
         }
     }
 
@@ -354,28 +363,28 @@ impl<A: Allocator + Clone> HeapObjects<A> {
         self.space.config()
     }
 
-    /// Puts blocks in the place of all small objects of generation at most `g`. The large ones of them that have a new place
+    /// Puts blocks in the place of all small objects of generation at most `generation`. The large ones of them that have a new place
     /// go to their destinations, and the others are gone. Where memory runs out nothing changes.
     pub fn replace(
         &mut self,
         alloc: A,
-        g: u8,
+        generation: u8,
         blocks: Vec<Block<A>, A>,
         numbering: &Numbering<A>,
         places: &[Option<Place>],
     ) -> Result<(), AllocError>
         requires blocks { CanReplace self.old blocks.items }
-        requires numbering { IsNumbering (graph_in self.old) g numbering.now }
-        requires count { length places.now ≡ length (young_names (graph_in self.old) g) }
-        ensures ok { OnOk result (IsReplaced self.old g blocks.items places.now self.new) }
+        requires numbering { IsNumbering (graph_in self.old) generation numbering.now }
+        requires count { length places.now ≡ length (young_names (graph_in self.old) generation) }
+        ensures ok { OnOk result (IsReplaced self.old generation blocks.items places.now self.new) }
         ensures err { OnErr result (self.new ≡ self.old) }
     {
-        self.space.replace(alloc, g, blocks)?;
+        self.space.replace(alloc, generation, blocks)?;
         let _free = self.space.free_count();
         renew(
             &mut self.space,
             &mut self.large,
-            g,
+            generation,
             numbering.large(),
             places,
         );

@@ -101,14 +101,14 @@ impl<A: Allocator + Clone> Space<A> {
     }
 
     /// Puts a new small object into a mutator's nursery. `None` says that there is no room.
-    pub fn allocate(&mut self, mutator: usize, p: u32, q: u32) -> Option<Place>
+    pub fn allocate(&mut self, mutator: usize, pointers: u32, plain_words: u32) -> Option<Place>
         requires mutator { mutator < self.old.config.mutators }
-        requires small { 1 + p + q ≤ self.old.config.block_words / 4 }
-        ensures room { IsSome result ↔ IsSome (room_in self.old mutator (1 + p + q)) }
-        ensures some { IfSome result (λ place. SpaceAllocates self.old mutator p q (place_word place) self.new) }
+        requires small { 1 + pointers + plain_words ≤ self.old.config.block_words / 4 }
+        ensures room { IsSome result ↔ IsSome (room_in self.old mutator (1 + pointers + plain_words)) }
+        ensures some { IfSome result (λ place. SpaceAllocates self.old mutator pointers plain_words (place_word place) self.new) }
         ensures none { IfNone result (self.new ≡ self.old) }
     {
-        let Ok(place) = self.nurseries[mutator].alloc(&mut self.table, p, q) else {
+        let Ok(place) = self.nurseries[mutator].alloc(&mut self.table, pointers, plain_words) else {
             return None;
         };
         Some(place)
@@ -226,22 +226,22 @@ impl<A: Allocator + Clone> Space<A> {
         &self.table
     }
 
-    /// The number of the first object of generation at most `g` of each block, and how many such objects there are.
-    pub fn bases(&self, alloc: A, g: u8) -> Result<(Vec<u32, A>, u32), AllocError>
-        ensures bases { IfOk result (λ r. AreBases self.now g r.0.items) }
+    /// The number of the first object of generation at most `generation` of each block, and how many such objects there are.
+    pub fn bases(&self, alloc: A, generation: u8) -> Result<(Vec<u32, A>, u32), AllocError>
+        ensures bases { IfOk result (λ r. AreBases self.now generation r.0.items) }
         ensures short { IfOk result (λ r. length r.0.items ≤ 65535) }
-        ensures all { IfOk result (λ r. r.1 ≡ length (young_names (graph_in self.now) g)) }
+        ensures all { IfOk result (λ r. r.1 ≡ length (young_names (graph_in self.now) generation)) }
         ensures few { IfOk result (λ r. r.1 ≤ 65535 * 512) }
     {
-        let found = bases(alloc, &self.table, &self.areas, g)?;
+        let found = bases(alloc, &self.table, &self.areas, generation)?;
         Ok(found)
     }
 
-    /// The number of an object of generation at most `g`.
-    pub fn number_of(&self, bases: &[u32], g: u8, place: Place) -> u32
-        requires bases { AreBases self.now g bases.now }
-        requires young { IsYoung (graph_in self.now) g (place_word place) }
-        ensures { IsNumbered self.now g (place_word place) result }
+    /// The number of an object of generation at most `generation`.
+    pub fn number_of(&self, bases: &[u32], generation: u8, place: Place) -> u32
+        requires bases { AreBases self.now generation bases.now }
+        requires young { IsYoung (graph_in self.now) generation (place_word place) }
+        ensures { IsNumbered self.now generation (place_word place) result }
     {
         let table = &self.table;
         let Place::Small(at) = place else {
@@ -252,15 +252,20 @@ impl<A: Allocator + Clone> Space<A> {
     }
 
     /// The object at a place where there is one, its generation and step, and its number where its generation is at
-    /// most `g`.
+    /// most `generation`.
     #[inline]
-    pub fn find(&self, bases: &[u32], g: u8, place: Place) -> (ObjectRef<'_>, StepId, Option<u32>)
-        requires bases { AreBases self.now g bases.now }
+    pub fn find(
+        &self,
+        bases: &[u32],
+        generation: u8,
+        place: Place,
+    ) -> (ObjectRef<'_>, StepId, Option<u32>)
+        requires bases { AreBases self.now generation bases.now }
         requires there { IsSome (get self.now.objects (place_word place)) }
         ensures object { IsSomeAnd (get self.now.objects (place_word place)) (λ o. IsShownAs o (raw_of result.0)) }
         ensures step { Some (step_pair result.1) ≡ option_map stands_at (get self.now.objects (place_word place)) }
-        ensures number { MatchOption result.2 (IsYoung (graph_in self.now) g (place_word place) → ⊥)
-            (λ n. IsYoung (graph_in self.now) g (place_word place) × IsNumbered self.now g (place_word place) n) }
+        ensures number { MatchOption result.2 (IsYoung (graph_in self.now) generation (place_word place) → ⊥)
+            (λ n. IsYoung (graph_in self.now) generation (place_word place) × IsNumbered self.now generation (place_word place) n) }
     {
         let table = &self.table;
         let Place::Small(at) = place else {
@@ -269,7 +274,7 @@ impl<A: Allocator + Clone> Space<A> {
         let number = at.block as usize;
         let object = object_from(table, number, at.offset as usize);
         let step = step_at(table, number);
-        if step.generation > g {
+        if step.generation > generation {
             return (object, step, None);
         }
         let named = bases[number] + object.header.ordinal as u32;
@@ -292,27 +297,33 @@ impl<A: Allocator + Clone> Space<A> {
         self.pool.free_numbers(alloc)
     }
 
-    /// Makes a large object of `p` nil pointers and `q` zero words. Its blocks are the free ones with the lowest numbers: as
+    /// Makes a large object of so many nil pointers and zero words. Its blocks are the free ones with the lowest numbers: as
     /// many as hold it with its header. `HeapFull` says that fewer are free. At an error nothing changes.
     pub fn add_large(
         &mut self,
         alloc: A,
         large: &mut LargeTable<A>,
-        p: u32,
-        q: u32,
+        pointers: u32,
+        plain_words: u32,
     ) -> Result<LargeNumber, GrantError>
-        requires pointers { p ≤ 100000 }
-        requires plain { q ≤ 100000 }
+        requires pointers { pointers ≤ 100000 }
+        requires plain { plain_words ≤ 100000 }
         requires blocks { ArePoolBlocks large.old (pool_in self.old) }
         ensures number { IfOk result (λ of. of.number ≡ large.old.next) }
-        ensures added { IfOk result (λ of. IsAdded large.old large.new of.number (made p q (take (block_count (size_of p q) self.old.config.block_words) self.old.free))) }
-        ensures granted { OnOk result (self.new ≡ record self.old { free = drop (block_count (size_of p q) self.old.config.block_words) self.old.free }) }
-        ensures full { (result ≡ Err GrantError.HeapFull) ↔ (length self.old.free < block_count (size_of p q) self.old.config.block_words) }
+        ensures added { IfOk result (λ of. IsAdded large.old large.new of.number (made pointers plain_words (take (block_count (size_of pointers plain_words) self.old.config.block_words) self.old.free))) }
+        ensures granted { OnOk result (self.new ≡ record self.old { free = drop (block_count (size_of pointers plain_words) self.old.config.block_words) self.old.free }) }
+        ensures full { (result ≡ Err GrantError.HeapFull) ↔ (length self.old.free < block_count (size_of pointers plain_words) self.old.config.block_words) }
         ensures large_kept { OnErr result (large.new ≡ large.old) }
         ensures kept { OnErr result (self.new ≡ self.old) }
         ensures pool_blocks { ArePoolBlocks large.new (pool_in self.new) }
     {
-        large.add(alloc, &mut self.pool, self.config.block_words(), p, q)
+        large.add(
+            alloc,
+            &mut self.pool,
+            self.config.block_words(),
+            pointers,
+            plain_words,
+        )
     }
 
     /// Gives up a large object: its blocks, in which no other object stands, are free.
@@ -336,14 +347,19 @@ impl<A: Allocator + Clone> Space<A> {
         self.config
     }
 
-    /// Puts blocks in the place of all objects of generation at most `g`. Where memory runs out nothing changes.
-    pub fn replace(&mut self, alloc: A, g: u8, blocks: Vec<Block<A>, A>) -> Result<(), AllocError>
+    /// Puts blocks in the place of all objects of generation at most `generation`. Where memory runs out nothing changes.
+    pub fn replace(
+        &mut self,
+        alloc: A,
+        generation: u8,
+        blocks: Vec<Block<A>, A>,
+    ) -> Result<(), AllocError>
         requires { CanReplace self.old blocks.items }
-        ensures ok { OnOk result (IsReplaced self.old g blocks.items self.new) }
+        ensures ok { OnOk result (IsReplaced self.old generation blocks.items self.new) }
         ensures err { OnErr result (self.new ≡ self.old) }
     {
         let count = nursery_blocks(self.config);
-        let old = young_blocks(alloc, &self.areas, count, g)?;
+        let old = young_blocks(alloc, &self.areas, count, generation)?;
         let end = end_of(&blocks);
         grow(&mut self.table, end)?;
         self.areas.reserve(end)?;

@@ -13,3 +13,5 @@ mod large_numbers;
 mod many_roots;
 #[cfg(test)]
 mod pointers;
+#[cfg(test)]
+mod texts;

@@ -38,20 +38,20 @@ fn line_of(cause: Cause, g: u64, kept: u64, freed: u64) -> Line
     line
 }
 
-/// Writes the line of a collection of the generations 0 to `g`. It takes no memory. After a failed write nothing is said of
+/// Writes the line of a collection of the generations 0 to `generation`. It takes no memory. After a failed write nothing is said of
 /// what was written.
 pub fn write_collection<W: Sink>(
     cause: Cause,
-    g: u64,
+    generation: u64,
     kept: u64,
     freed: u64,
     writer: &mut W,
 ) -> Result<(), WriteFailed>
     requires { W.failed_writes writer.old < 2 ^ 64 - 1 }
-    ensures bytes { OnOk result (Appends (W.contents writer.old) (W.contents writer.new) (collection_line (cause_word cause) g kept freed)) }
+    ensures bytes { OnOk result (Appends (W.contents writer.old) (W.contents writer.new) (collection_line (cause_word cause) generation kept freed)) }
     ensures ok { OnOk result (W.failed_writes writer.new ≡ W.failed_writes writer.old) }
     ensures failed { OnErr result (W.failed_writes writer.new ≡ W.failed_writes writer.old + 1) }
 {
-    let line = line_of(cause, g, kept, freed);
+    let line = line_of(cause, generation, kept, freed);
     write_all(writer, line.as_str().as_bytes())
 }

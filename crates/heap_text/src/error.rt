@@ -1,9 +1,13 @@
 //! Why a text was not written.
 
+use thiserror::Error;
+
 /// Why a text was not written.
-#[derive(Clone, Copy, Debug, PartialEq, Eq)]
+#[derive(Clone, Copy, Debug, PartialEq, Eq, Error)]
 pub enum WriteError {
     /// Nothing was written.
+    #[error("no memory")]
     NoMemory,
+    #[error("write failed")]
     WriteFailed,
 }

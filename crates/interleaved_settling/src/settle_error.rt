@@ -1,11 +1,14 @@
 //! Why a collection wasn't settled.
 use std::alloc::AllocError;
+use thiserror::Error;
 
 /// Why a collection wasn't settled. The heap is as before.
-#[derive(Clone, Copy, Debug, PartialEq, Eq)]
+#[derive(Clone, Copy, Debug, PartialEq, Eq, Error)]
 pub enum SettleError {
     /// Some worker hasn't ended.
+    #[error("a worker hasn't ended")]
     NotEnded,
+    #[error("no memory")]
     NoMemory,
 }
 

@@ -48,7 +48,7 @@ impl<A: Allocator + Clone> LargeTable<A> {
         })
     }
 
-    /// Makes an object of `p` nil pointers and `q` zero words, at generation 0 and step 0, and gives its number, which was not in
+    /// Makes an object of so many nil pointers and zero words, at generation 0 and step 0, and gives its number, which was not in
     /// use. The number that was given up last is the first to be used again. The object takes the free blocks with the lowest
     /// numbers: as many blocks of `block_words` words, from 16 to 512, as hold it with its header.
     /// `HeapFull` says that fewer blocks are free. `NoMemory` says that memory ran out, or that the number would not be below
@@ -58,23 +58,23 @@ impl<A: Allocator + Clone> LargeTable<A> {
         alloc: A,
         pool: &mut Pool<B>,
         block_words: usize,
-        p: u32,
-        q: u32,
+        pointers: u32,
+        plain_words: u32,
     ) -> Result<LargeNumber, GrantError>
-        requires pointers { p ≤ MOST_FIELDS }
-        requires plain { q ≤ MOST_FIELDS }
+        requires pointers { pointers ≤ MOST_FIELDS }
+        requires plain { plain_words ≤ MOST_FIELDS }
         requires words_from { 16 ≤ block_words }
         requires words_to { block_words ≤ 512 }
         requires blocks { ArePoolBlocks self.old pool.old }
         ensures number { IfOk result (λ of. of.number ≡ self.old.next) }
-        ensures added { IfOk result (λ of. IsAdded self.old self.new of.number (made p q (take (block_count (size_of p q) block_words) pool.old.free))) }
-        ensures granted { OnOk result (pool.new ≡ record pool.old { free = drop (block_count (size_of p q) block_words) pool.old.free }) }
-        ensures full { (result ≡ Err GrantError.HeapFull) ↔ (length pool.old.free < block_count (size_of p q) block_words) }
+        ensures added { IfOk result (λ of. IsAdded self.old self.new of.number (made pointers plain_words (take (block_count (size_of pointers plain_words) block_words) pool.old.free))) }
+        ensures granted { OnOk result (pool.new ≡ record pool.old { free = drop (block_count (size_of pointers plain_words) block_words) pool.old.free }) }
+        ensures full { (result ≡ Err GrantError.HeapFull) ↔ (length pool.old.free < block_count (size_of pointers plain_words) block_words) }
         ensures table_kept { OnErr result (self.new ≡ self.old) }
         ensures pool_kept { OnErr result (pool.new ≡ pool.old) }
         ensures pool_blocks { ArePoolBlocks self.new pool.new }
     {
-        let fields = p as usize + q as usize;
+        let fields = pointers as usize + plain_words as usize;
         let count = (fields + block_words) / block_words;
         if pool.free_count() < count {
             return Err(GrantError::HeapFull);
@@ -88,7 +88,7 @@ impl<A: Allocator + Clone> LargeTable<A> {
         let blocks = pool.grant(alloc, count)?;
         let key = self
             .slab
-            .insert_reserved(StoredObject::new(p, words, blocks));
+            .insert_reserved(StoredObject::new(pointers, words, blocks));
         self.used.set(key);
         Ok(number)
     }

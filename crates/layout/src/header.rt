@@ -1,6 +1,8 @@
 ghost use Rattle.std.specs.Prelude.{◌≡◌, ◌≢◌, ◌+◌, ◌*◌, ◌^◌, ◌<◌, ◌≤◌, ◌↔◌, ◌/◌, ℕ, IfOk, IfSome, IfNone, IsOk, IsTrue, IsSomeAnd};
 ghost use Rattle.layout.specs.Header.{header_word, size_of};
 
+use thiserror::Error;
+
 /// The most pointers, and the most plain words, that an object may have.
 pub const MOST_FIELDS: u32 = 100000;
 
@@ -11,7 +13,8 @@ const PLAIN_UNIT: u64 = 1 << 24;
 const ORDINAL_UNIT: u64 = 1 << 48;
 
 /// More pointers or plain words than an object may have.
-#[derive(Clone, Copy, Debug, PartialEq, Eq)]
+#[derive(Clone, Copy, Debug, PartialEq, Eq, Error)]
+#[error("more pointers or plain words than an object may have")]
 pub struct TooBig;
 
 /// How many pointers and plain words an object has, and its ordinal in its block.
@@ -25,18 +28,18 @@ pub struct Header {
 }
 
 impl Header {
-    /// The header word of an object with `p` pointers and `q` plain words.
+    /// The header word of an object with so many pointers and plain words.
     /// `TooBig` says that one of them is above `MOST_FIELDS`.
-    pub fn pack(p: u32, q: u32, ordinal: u16) -> Result<u64, TooBig>
-        ensures word { IfOk result (λ word. word ≡ header_word p q ordinal) }
-        ensures ok { IsOk result ↔ ((p ≤ MOST_FIELDS) × (q ≤ MOST_FIELDS)) }
+    pub fn pack(pointers: u32, plain_words: u32, ordinal: u16) -> Result<u64, TooBig>
+        ensures word { IfOk result (λ word. word ≡ header_word pointers plain_words ordinal) }
+        ensures ok { IsOk result ↔ ((pointers ≤ MOST_FIELDS) × (plain_words ≤ MOST_FIELDS)) }
     {
-        if p > MOST_FIELDS || q > MOST_FIELDS {
+        if pointers > MOST_FIELDS || plain_words > MOST_FIELDS {
             return Err(TooBig);
         }
         let header = Header {
-            pointers: p,
-            plain: q,
+            pointers,
+            plain: plain_words,
             ordinal,
         };
         Ok(header.to_word())
@@ -73,17 +76,17 @@ impl Header {
     }
 }
 
-/// How many words an object with `p` pointers and `q` plain words takes, its header among them.
-pub fn size(p: u32, q: u32) -> u32
-    requires { size_of p q < 2 ^ 32 }
-    ensures { result ≡ size_of p q }
+/// How many words an object with so many pointers and plain words takes, its header among them.
+pub fn size(pointers: u32, plain_words: u32) -> u32
+    requires { size_of pointers plain_words < 2 ^ 32 }
+    ensures { result ≡ size_of pointers plain_words }
 {
-    1 + p + q
+    1 + pointers + plain_words
 }
 
-/// Whether an object of `size` words is large in a heap with blocks of `w` words.
-pub fn is_large(size: u32, w: u32) -> bool
-    ensures { IsTrue result ↔ (w / 4 < size) }
+/// Whether an object of `size` words is large in a heap with blocks of `block_words` words.
+pub fn is_large(size: u32, block_words: u32) -> bool
+    ensures { IsTrue result ↔ (block_words / 4 < size) }
 {
-    size > w / 4
+    size > block_words / 4
 }

@@ -1,7 +1,7 @@
 ghost use Rattle.std.specs.Prelude.{◌≡◌, ◌≢◌, ◌<◌, Some, IfSome, IfNone, Option};
 
 /// Where a small object is: a block's number, and the index of the object's first word in it.
-#[derive(Clone, Copy, Debug, PartialEq, Eq)]
+#[derive(Clone, Copy, Debug, PartialEq, Eq, PartialOrd, Ord, Hash)]
 pub struct SmallPlace {
     pub block: u16,
     pub offset: u16,
@@ -10,14 +10,14 @@ pub struct SmallPlace {
 }
 
 /// The number of a large object.
-#[derive(Clone, Copy, Debug, PartialEq, Eq)]
+#[derive(Clone, Copy, Debug, PartialEq, Eq, PartialOrd, Ord, Hash)]
 pub struct LargeNumber {
     pub number: u16,
     pub ghost in_range: { number < 65535 },
 }
 
-/// Where an object is.
-#[derive(Clone, Copy, Debug, PartialEq, Eq)]
+/// Where an object is. Small places come first, by block and offset, and then large numbers, as the words of pointers do.
+#[derive(Clone, Copy, Debug, PartialEq, Eq, PartialOrd, Ord, Hash)]
 pub enum Place {
     Small(SmallPlace),
     Large(LargeNumber),

@@ -31,19 +31,19 @@ impl<'a, A: Allocator> Model for Machine<'a, A> {
 }
 
 impl<'a, A: Allocator + Clone> Machine<'a, A> {
-    /// `n` workers, 1 to 16, before the first event of a collection of the generations 0 to `g`.
-    pub fn open(alloc: A, heap: &'a Heap<A>, g: u64, n: u32) -> Result<Self, MachineError>
-        ensures ok { IfOk result (λ m. Opens heap.now g n m) }
+    /// `n` workers, 1 to 16, before the first event of a collection of the generations 0 to `generation`.
+    pub fn open(alloc: A, heap: &'a Heap<A>, generation: u64, n: u32) -> Result<Self, MachineError>
+        ensures ok { IfOk result (λ m. Opens heap.now generation n m) }
         ensures config { (result ≡ Err MachineError.BadConfig) ↔ ((n ≡ 0) ⊎ (16 < n)) }
-        ensures generation { (result ≡ Err MachineError.NoGeneration) ↔ ((0 < n) × (n ≤ 16) × (heap.now.config.shape.generations ≤ g)) }
+        ensures generation { (result ≡ Err MachineError.NoGeneration) ↔ ((0 < n) × (n ≤ 16) × (heap.now.config.shape.generations ≤ generation)) }
     {
         if n == 0 || n > 16 {
             return Err(MachineError::BadConfig);
         }
-        if g >= heap.config().generations() as u64 {
+        if generation >= heap.config().generations() as u64 {
             return Err(MachineError::NoGeneration);
         }
-        let collection = heap.open_collection(alloc.clone()?, g)?;
+        let collection = heap.open_collection(alloc.clone()?, generation)?;
         let workers = InterleavedCollection::new(alloc.clone()?, heap, &collection, n)?;
         Ok(Machine {
             alloc,

@@ -1,13 +1,17 @@
 //! Why a machine didn't open.
 use heap::OpenError;
 use std::alloc::AllocError;
+use thiserror::Error;
 
 /// Why a machine didn't open.
-#[derive(Clone, Copy, Debug, PartialEq, Eq)]
+#[derive(Clone, Copy, Debug, PartialEq, Eq, Error)]
 pub enum MachineError {
     /// There are 1 to 16 workers.
+    #[error("there are 1 to 16 workers")]
     BadConfig,
+    #[error("no such generation")]
     NoGeneration,
+    #[error("no memory")]
     NoMemory,
 }
 

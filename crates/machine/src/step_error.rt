@@ -1,14 +1,18 @@
 //! Why an event didn't come.
 use scavenge::LookError;
 use std::alloc::AllocError;
+use thiserror::Error;
 
 /// Why an event didn't come. The machine is as before.
-#[derive(Clone, Copy, Debug, PartialEq, Eq)]
+#[derive(Clone, Copy, Debug, PartialEq, Eq, Error)]
 pub enum StepError {
     /// It wasn't lawful.
+    #[error("not lawful")]
     NotLawful,
     /// A copy needed a block, and all were drawn.
+    #[error("heap full")]
     HeapFull,
+    #[error("no memory")]
     NoMemory,
 }
 

@@ -1,5 +1,5 @@
 /// A command of a trace. Its names are slices of the line.
-#[derive(Clone, Copy, Debug)]
+#[derive(Clone, Copy, Debug, PartialEq, Eq, Hash)]
 pub enum Command<'a> {
     /// A new object of a mutator, with so many pointers and plain words; the name leads to it.
     New {

@@ -11,9 +11,11 @@ use block_pool::Block;
 use layout::Place;
 use std::alloc::Allocator;
 use std::marker::Model;
+use thiserror::Error;
 
 /// No block of the nursery has room for the object.
-#[derive(Clone, Copy, Debug, PartialEq, Eq)]
+#[derive(Clone, Copy, Debug, PartialEq, Eq, Error)]
+#[error("the nursery is full")]
 pub struct NurseryFull;
 
 /// Blocks of a table with numbers in a row, of which one is filled now: those after it are empty.
@@ -110,27 +112,27 @@ impl Nursery {
         self.block_for(table, size).is_some()
     }
 
-    /// Puts a new object of `p` nil pointers and `q` zero words at the end of one of the blocks. Where there is no room
+    /// Puts a new object of so many nil pointers and zero words at the end of one of the blocks. Where there is no room
     /// nothing changes.
     pub fn alloc<A: Allocator>(
         &mut self,
         table: &mut [Option<Block<A>>],
-        p: u32,
-        q: u32,
+        pointers: u32,
+        plain_words: u32,
     ) -> Result<Place, NurseryFull>
-        requires { IsSmallIn self.old table.old (1 + p + q) }
+        requires { IsSmallIn self.old table.old (1 + pointers + plain_words) }
         ensures ok { (words : ℕ) → IsNursery words self.old table.old
-            → IfOk result (λ place. Pushes words self.old table.old p q (place_word place) self.new table.new) }
+            → IfOk result (λ place. Pushes words self.old table.old pointers plain_words (place_word place) self.new table.new) }
         ensures full { (words : ℕ) → IsNursery words self.old table.old
-            → (IsErr result ↔ (room_after words (nursery_room self.old table.old) (1 + p + q) ≡ None)) }
+            → (IsErr result ↔ (room_after words (nursery_room self.old table.old) (1 + pointers + plain_words) ≡ None)) }
         ensures err { OnErr result ((self.new ≡ self.old) × (table.new ≡ table.old)) }
     {
-        let size = 1 + p as usize + q as usize;
+        let size = 1 + pointers as usize + plain_words as usize;
         let Some(current) = self.block_for(table, size) else {
             return Err(NurseryFull);
         };
         let number = self.first + current;
-        let offset = push_new(table, number, p, q);
+        let offset = push_new(table, number, pointers, plain_words);
         self.current = current;
         Ok(Place::small(number as u16, offset as u16))
     }

@@ -155,7 +155,7 @@ impl<A: Allocator + Clone> Store<A> {
         }
     }
 
-    /// A new object of a mutator with `p` pointers and `q` plain words, and what is written: the line of the
+    /// A new object of a mutator with so many pointers and plain words, and what is written: the line of the
     /// collection that a full nursery made. After a fault the store is as before; where memory ran out it may be as
     /// that collection left it.
     pub fn add(
@@ -164,11 +164,11 @@ impl<A: Allocator + Clone> Store<A> {
         config: &Config,
         text: &[u8],
         mutator: u64,
-        p: u64,
-        q: u64,
+        pointers: u64,
+        plain_words: u64,
     ) -> Result<String<A>, Refusal>
-        ensures ok { IfOk result (λ line. carried config.now self.old (meant.New text.now mutator p q) ≡ Ok (self.new, string_bytes line)) }
-        ensures fault { IfErr result (λ e. IfFault e (λ kind. (carried config.now self.old (meant.New text.now mutator p q) ≡ Err kind) × (self.new ≡ self.old))) }
+        ensures ok { IfOk result (λ line. carried config.now self.old (meant.New text.now mutator pointers plain_words) ≡ Ok (self.new, string_bytes line)) }
+        ensures fault { IfErr result (λ e. IfFault e (λ kind. (carried config.now self.old (meant.New text.now mutator pointers plain_words) ≡ Err kind) × (self.new ≡ self.old))) }
     {
         if self.named(text).is_some() {
             return Err(Refusal::Fault(Kind::NameInUse));
@@ -176,23 +176,28 @@ impl<A: Allocator + Clone> Store<A> {
         if mutator >= config.mutators {
             return Err(Refusal::Fault(Kind::NoMutator));
         }
-        if p > 100_000 || q > 100_000 {
+        if pointers > 100_000 || plain_words > 100_000 {
             return Err(Refusal::Fault(Kind::TooBig));
         }
-        self.add_sized(alloc, config, text, mutator, p, q)
+        self.add_sized(alloc, config, text, mutator, pointers, plain_words)
             .map_err(|_| Refusal::NoMemory)
     }
 
-    /// Collects the generations 0 to `g`, and returns the line that is written. After a refusal the store is as before.
-    pub fn collect_to(&mut self, alloc: A, config: &Config, g: u64) -> Result<String<A>, Refusal>
-        ensures ok { IfOk result (λ line. carried config.now self.old (meant.Collect g) ≡ Ok (self.new, string_bytes line)) }
-        ensures fault { IfErr result (λ e. IfFault e (λ kind. carried config.now self.old (meant.Collect g) ≡ Err kind)) }
+    /// Collects the generations 0 to `generation`, and returns the line that is written. After a refusal the store is as before.
+    pub fn collect_to(
+        &mut self,
+        alloc: A,
+        config: &Config,
+        generation: u64,
+    ) -> Result<String<A>, Refusal>
+        ensures ok { IfOk result (λ line. carried config.now self.old (meant.Collect generation) ≡ Ok (self.new, string_bytes line)) }
+        ensures fault { IfErr result (λ e. IfFault e (λ kind. carried config.now self.old (meant.Collect generation) ≡ Err kind)) }
         ensures err { OnErr result (self.new ≡ self.old) }
     {
-        if g >= config.generations {
+        if generation >= config.generations {
             return Err(Refusal::Fault(Kind::NoGeneration));
         }
-        self.collect(alloc, config, "collected", g)
+        self.collect(alloc, config, "collected", generation)
             .map_err(|_| Refusal::NoMemory)
     }
 }

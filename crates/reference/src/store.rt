@@ -131,13 +131,13 @@ impl<A: Allocator + Clone> Store<A> {
         self.young_of(alloc, g, all.as_slice())
     }
 
-    /// What a collection of the generations 0 to `g` keeps of them, breadth first from roots and old pointers.
+    /// What a collection of the generations 0 to `generation` keeps of them, breadth first from roots and old pointers.
     /// An error says that memory ran out.
-    pub fn live(&self, alloc: A, g: u64) -> Result<Vec<usize, A>, AllocError>
-        ensures { IfOk result (λ v. v.items ≡ live_list self.now g) }
+    pub fn live(&self, alloc: A, generation: u64) -> Result<Vec<usize, A>, AllocError>
+        ensures { IfOk result (λ v. v.items ≡ live_list self.now generation) }
     {
-        let rows = self.rows(alloc.clone()?, Some(g))?;
-        let start = self.starts(alloc.clone()?, g)?;
+        let rows = self.rows(alloc.clone()?, Some(generation))?;
+        let start = self.starts(alloc.clone()?, generation)?;
         reached(alloc, rows.as_slice(), start.as_slice())
     }
 }

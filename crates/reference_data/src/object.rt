@@ -143,15 +143,15 @@ fn zero_words<A: Allocator>(alloc: A, q: u64) -> Result<Vec<u64, A>, AllocError>
 }
 
 impl<A: Allocator + Clone> Object<A> {
-    /// A new object with `p` nil pointers and `q` zero words.
+    /// A new object with so many nil pointers and zero words.
     /// An error says that memory ran out.
-    pub fn fresh(alloc: A, p: u64, q: u64) -> Result<Self, AllocError>
-        requires pointers { p ≤ 100000 }
-        requires plain { q ≤ 100000 }
-        ensures { IfOk result (λ o. o ≡ fresh_object p q) }
+    pub fn fresh(alloc: A, pointers: u64, plain_words: u64) -> Result<Self, AllocError>
+        requires pointers { pointers ≤ 100000 }
+        requires plain { plain_words ≤ 100000 }
+        ensures { IfOk result (λ o. o ≡ fresh_object pointers plain_words) }
     {
-        let pointers = nil_pointers(alloc.clone()?, p)?;
-        let plain = zero_words(alloc, q)?;
+        let pointers = nil_pointers(alloc.clone()?, pointers)?;
+        let plain = zero_words(alloc, plain_words)?;
         Ok(Object {
             pointers,
             plain,

@@ -54,7 +54,7 @@ fn push_generation<A: Allocator + Clone>(
     push_members(slots, objects, g, h, &members)
 }
 
-/// Puts the pointers of objects older than `g` that lead to objects of generation at most `g` at the end of the slots:
+/// Puts the pointers of objects older than `generation` that lead to objects of generation at most `generation` at the end of the slots:
 /// by the generation of their object, then its place, then the field. Of the older objects only the members of the
 /// remembered sets are looked at.
 pub fn push_old_slots<A: Allocator + Clone>(
@@ -62,15 +62,15 @@ pub fn push_old_slots<A: Allocator + Clone>(
     slots: &mut Vec<Slot, A>,
     objects: &HeapObjects<A>,
     sets: &Remembered<A>,
-    g: u8,
+    generation: u8,
 ) -> Result<(), AllocError>
     requires closed { IsClosed (graph_in objects.now) }
     requires covers { CoversYounger (graph_in objects.now) sets.now }
     ensures { OnOk result (map slot_value slots.new.items ≡ map slot_value slots.old.items
-        ++ map field_slot_of (old_slots (graph_in objects.now) (length sets.now) g)) }
+        ++ map field_slot_of (old_slots (graph_in objects.now) (length sets.now) generation)) }
 {
-    for h in g as usize + 1..sets.generations() {
-        push_generation(alloc.clone()?, slots, objects, sets, g, h as u8)?;
+    for h in generation as usize + 1..sets.generations() {
+        push_generation(alloc.clone()?, slots, objects, sets, generation, h as u8)?;
     }
     Ok(())
 }

@@ -28,13 +28,16 @@ use cells::Cells;
 use heap::{Collection, Found, Heap, StepId};
 use layout::{ObjectRef, Place};
 use std::alloc::{AllocError, Allocator};
+use thiserror::Error;
 use to_space::front_pointer;
 
 /// Why a worker didn't look. It is as before.
-#[derive(Clone, Copy, Debug, PartialEq, Eq)]
+#[derive(Clone, Copy, Debug, PartialEq, Eq, Error)]
 pub enum LookError {
     /// The copy needs a block, and all were drawn.
+    #[error("all free blocks were drawn")]
     HeapFull,
+    #[error("no memory")]
     NoMemory,
 }
 

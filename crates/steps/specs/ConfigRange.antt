@@ -21,3 +21,7 @@ pub record IsInRange (config : Config) : Type 0 where
 -- the sizes that were asked for
 abbrev pub sizes_of : Sizes → Config
 sizes_of s = record { block_words = s.block_words; blocks = s.blocks; mutators = s.mutators; nursery_blocks = s.nursery_blocks; shape = record { generations = s.generations; steps = s.steps } }
+
+-- the sizes of a heap for which none are given
+abbrev pub default_sizes : Sizes
+default_sizes = record { block_words = 512; blocks = 4096; mutators = 1; nursery_blocks = 4; generations = 2; steps = 2 }

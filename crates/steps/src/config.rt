@@ -6,6 +6,7 @@ ghost use Rattle.steps.specs.StepPairs.{step_pair};
 
 use crate::step_id::StepId;
 use std::marker::Model;
+use thiserror::Error;
 
 /// Sizes of a heap as a user gives them, any of which may be out of range.
 #[derive(Clone, Copy, Debug, PartialEq, Eq)]
@@ -24,8 +25,28 @@ pub struct Sizes {
     pub steps: u64,
 }
 
+impl Default for Sizes {
+    ghost use Rattle.steps.specs.ConfigRange.{default_sizes};
+    ghost use Rattle.std.specs.Prelude.{◌≡◌};
+
+    ghost is_default = { λ sizes. sizes ≡ default_sizes };
+
+    /// 4,096 blocks of 512 words; one mutator, with a nursery of 4 blocks; two generations, the young one with two steps.
+    fn default() -> Sizes {
+        Sizes {
+            block_words: 512,
+            blocks: 4096,
+            mutators: 1,
+            nursery_blocks: 4,
+            generations: 2,
+            steps: 2,
+        }
+    }
+}
+
 /// A size is out of its range.
-#[derive(Clone, Copy, Debug, PartialEq, Eq)]
+#[derive(Clone, Copy, Debug, PartialEq, Eq, Error)]
+#[error("a size is out of its range")]
 pub struct BadConfig;
 
 /// Sizes of a heap, each in its range.
@@ -161,15 +182,15 @@ impl Config {
         }
     }
 
-    /// How many destinations a collection of the generations 0 to `g` has.
-    pub fn dest_count(&self, g: u8) -> usize
-        ensures value { result ≡ dest_count self.now.shape g }
+    /// How many destinations a collection of the generations 0 to `generation` has.
+    pub fn dest_count(&self, generation: u8) -> usize
+        ensures value { result ≡ dest_count self.now.shape generation }
         ensures in_range { IsInRange self.now }
     {
         let oldest = self.generations - 1;
-        let g = g as usize;
-        if g < oldest {
-            return (g + 1) * self.steps;
+        let generation = generation as usize;
+        if generation < oldest {
+            return (generation + 1) * self.steps;
         }
         (oldest * self.steps).max(1)
     }

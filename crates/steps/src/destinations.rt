@@ -49,13 +49,13 @@ fn destination_at(config: &Config, number: usize) -> StepId
 }
 
 impl Destinations {
-    /// Those of a collection of the generations 0 to `g`. Takes no memory.
-    pub fn new(config: Config, g: u8) -> Destinations
-        requires { g < config.shape.generations }
-        ensures { result ≡ destination_list config.shape g }
+    /// Those of a collection of the generations 0 to `generation`. Takes no memory.
+    pub fn new(config: Config, generation: u8) -> Destinations
+        requires { generation < config.shape.generations }
+        ensures { result ≡ destination_list config.shape generation }
     {
         let mut places = ArrayVec::new();
-        for number in 0..config.dest_count(g) {
+        for number in 0..config.dest_count(generation) {
             places.push(destination_at(&config, number));
         }
         Destinations { places }

@@ -1,5 +1,5 @@
-/// A generation and one of its steps.
-#[derive(Clone, Copy, Debug, Default, PartialEq, Eq)]
+/// A generation and one of its steps, in the order in which objects age.
+#[derive(Clone, Copy, Debug, Default, PartialEq, Eq, PartialOrd, Ord, Hash)]
 pub struct StepId {
     pub generation: u8,
     pub step: u8,

@@ -4,7 +4,7 @@ use Rattle.std.specs.Io.KnownBytes.{Appends}
 use Rattle.model.specs.Config.{Config}
 use Rattle.model.specs.declared.kind.Kind.{Kind}
 use Rattle.model.specs.Commands.{Run as Meant}
-use Rattle.heap.specs.ConfigRange.{IsInRange}
+use Rattle.heap.specs.ConfigRange.{IsInRange, sizes_of}
 use Rattle.trace_lines.specs.Outcome.{outcome}
 use Rattle.trace_lines.specs.Carried.{Prints}
 use Rattle.command_line.specs.declared.words.Options.{Options}
@@ -16,7 +16,7 @@ use Rattle.trace_replay.specs.ReplayStops.{HasTraceFault, HasScheduleFault, Quie
 
 -- the sizes that were asked for
 abbrev pub config_of : Options → Config
-config_of o = record { block_words = o.block_words; blocks = o.blocks; mutators = o.mutators; nursery_blocks = o.nursery; shape = record { generations = o.generations; steps = o.steps } }
+config_of o = sizes_of o.sizes
 
 -- what is so of each task
 abbrev pub ByTask : Task → Type 0 → Type 0 → Type 0

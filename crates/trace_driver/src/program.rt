@@ -11,7 +11,7 @@ use crate::replaying::replay;
 use crate::running::run;
 use byte_streams::{Sink, Source, write_all};
 use command_line::{Options, Refused, Task, read_words};
-use heap::{BadConfig, Config, Sizes};
+use heap::{BadConfig, Config};
 use std::alloc::Global;
 use std::convert::AsStr;
 use trace_lines::{Fault, write_fault};
@@ -21,14 +21,7 @@ fn run_config(options: &Options) -> Result<RunConfig, BadConfig>
     ensures ok { IfOk result (λ run. (run.config ≡ config_of options.now) × (run.workers ≡ options.now.threads)) }
     ensures in_range { IsOk result ↔ AreInRange options.now }
 {
-    let config = Config::new(Sizes {
-        block_words: options.block_words,
-        blocks: options.blocks,
-        mutators: options.mutators,
-        nursery_blocks: options.nursery,
-        generations: options.generations,
-        steps: options.steps,
-    })?;
+    let config = Config::new(options.sizes)?;
     match options.task {
         Task::Run if options.threads != 1 => Err(BadConfig),
         Task::Run | Task::Replay => RunConfig::new(config, options.threads),

@@ -1,7 +1,7 @@
 use model::Command;
 
 /// A line of a trace. Its names are slices of the line.
-#[derive(Clone, Copy, Debug)]
+#[derive(Clone, Copy, Debug, PartialEq, Eq, Hash)]
 pub enum Line<'a> {
     /// A blank line or a comment.
     Nothing,

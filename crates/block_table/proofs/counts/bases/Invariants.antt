@@ -5,7 +5,7 @@ use Rattle.block_table.proofs.counts.bases.Given as goal
 
 abbrev pub invariant-loop-number : goal.invariant-loop-number
 invariant-loop-number g l = record {
-  so_far : HasCounted (young_table l.g l.table) l.bases.items l.objects;
+  so_far : HasCounted (young_table l.generation l.table) l.bases.items l.objects;
   few : l.objects ≤ length l.bases.items * 512;
   within : length l.bases.items ≤ length l.table;
 }

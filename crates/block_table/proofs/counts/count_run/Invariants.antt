@@ -8,7 +8,7 @@ abbrev pub invariant-loop-slot : goal.invariant-loop-slot
 invariant-loop-slot g l = record {
   reached : length l.bases.items ≡ length l.initial.bases.items + l.slot-index;
   in_table : length l.bases.items ≤ length l.table;
-  young : (b : ℕ) → length l.initial.bases.items ≤ b → b < length l.bases.items → is_some (young_slot l.g (slot_at l.table b)) ≡ true;
-  counted : HasCounted (young_table l.g l.table) l.bases.items l.objects;
+  young : (b : ℕ) → length l.initial.bases.items ≤ b → b < length l.bases.items → is_some (young_slot l.generation (slot_at l.table b)) ≡ true;
+  counted : HasCounted (young_table l.generation l.table) l.bases.items l.objects;
   few : l.objects ≤ length l.bases.items * 512;
 }

@@ -5,7 +5,7 @@ use Rattle.block_table.proofs.counts.young_blocks.Given as goal
 
 abbrev pub invariant-loop-number : goal.invariant-loop-number
 invariant-loop-number g l = record {
-  so_far : HasNumbers (is_flagged l.areas l.g) l.from l.next l.numbers.items;
+  so_far : HasNumbers (is_flagged l.areas l.generation) l.from l.next l.numbers.items;
   low : l.from ≤ l.next;
 }
 

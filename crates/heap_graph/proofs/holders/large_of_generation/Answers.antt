@@ -1,10 +1,9 @@
-use Rattle.std.proofs.Common.{◌≡◌, false, true, Option, Some, None, sym, ap, subst, ◌∙◌, arith}
+use Rattle.std.proofs.Common.{◌≡◌, false, true, None, sym, ap, subst, ◌∙◌, arith}
 use Rattle.std.proofs.lemmas.Bool.Decides.{nat_tests}
 use Rattle.std.specs.Prelude.{nat_eq, All, IfSome, IsSomeAnd, MatchOption}
 use Rattle.std.specs.Option.{option_map}
 use Rattle.layout.specs.Object.{Raw}
 use Rattle.layout.specs.ObjectRef.{raw_of}
-use Rattle.layout.specs.declared.object.ObjectRef.{ObjectRef}
 use Rattle.layout.specs.Place.{large_word}
 use Rattle.heap_data.specs.Remembered.{object_of_generation}
 use Rattle.heap_data.specs.Words.{IsShownAs}

@@ -13,9 +13,9 @@ returns-in-Some g c =
     on_ok_weaker c.push_fields.result
     (λ pushed graph shows.
     pushed graph shows (c.in-Some.ensures.closed graph shows)
-    ∙ ap (λ ss. map slot_value c.args.slots.now.items ++ map field_slot_of ss) (sym (slots_shown graph c.args.g c.args.h (place_word c.args.place) (raw_of c.in-Some.object) (c.in-Some.ensures.object graph shows))))
+    ∙ ap (λ ss. map slot_value c.args.slots.now.items ++ map field_slot_of ss) (sym (slots_shown graph c.args.generation c.args.holder_generation (place_word c.args.place) (raw_of c.in-Some.object) (c.in-Some.ensures.object graph shows))))
     c.push_fields.ensures
 
 pub returns-in-None : goal.returns-in-None
 returns-in-None g c = λ graph shows.
-    pushed_none _ _ (slots_none graph c.args.g c.args.h (place_word c.args.place) (c.in-None.ensures.object graph shows))
+    pushed_none _ _ (slots_none graph c.args.generation c.args.holder_generation (place_word c.args.place) (c.in-None.ensures.object graph shows))

@@ -1,9 +1,6 @@
-use Rattle.std.proofs.Common.{◌≡◌, ◌<◌, ◌≤◌, ℕ, true, false, cond, Option, Some, None, sym, ap, ◌∙◌, arith}
-use Rattle.std.specs.Prelude.{IsSome}
+use Rattle.std.proofs.Common.{true, false, sym, ◌∙◌, arith}
 use Rattle.model.specs.Graph.{object_at}
 use Rattle.model.specs.Census.{points_younger}
-use Rattle.large_objects.specs.LargeValue.{LargeObject, large_at}
-use Rattle.model.proofs.Options.{some_not_none}
 use Rattle.heap_graph.proofs.LargeCounts.{count_next, count_end}
 use Rattle.heap_graph.proofs.LargeReads.{in_use}
 use Rattle.heap_graph.proofs.remembered.count_large.Goals as goal

@@ -5,8 +5,8 @@ use Rattle.heap_graph.proofs.targets.is_at_most.Goals as goal
 
 pub returns-in-Some : goal.returns-in-Some
 returns-in-Some g c = λ graph shows closed.
-    at_most_is graph c.args.g (place_word c.args.place) _ (sym (c.generation_of.ensures graph shows closed) ∙ c.in-Some.is)
+    at_most_is graph c.args.generation (place_word c.args.place) _ (sym (c.generation_of.ensures graph shows closed) ∙ c.in-Some.is)
 
 pub returns-in-None : goal.returns-in-None
 returns-in-None g c = λ graph shows closed.
-    at_most_is graph c.args.g (place_word c.args.place) _ (sym (c.generation_of.ensures graph shows closed) ∙ c.in-None.is)
+    at_most_is graph c.args.generation (place_word c.args.place) _ (sym (c.generation_of.ensures graph shows closed) ∙ c.in-None.is)

@@ -10,7 +10,7 @@ use Rattle.remembering.proofs.old_slots.push_old_slots.Given as goal
 -- the slots of the generations so far
 abbrev pub invariant-loop-h : goal.invariant-loop-h
 invariant-loop-h g l = record {
-  low : l.g + 1 ≤ l.h;
-  high : l.h ≤ max (l.g + 1) (length l.sets);
-  pushed : map slot_value l.slots.items ≡ map slot_value l.fn.slots.items ++ map field_slot_of (flat_map (slots_of_generation (graph_in l.objects) l.g) (numbers_from (l.g + 1) (l.h - (l.g + 1))));
+  low : l.generation + 1 ≤ l.h;
+  high : l.h ≤ max (l.generation + 1) (length l.sets);
+  pushed : map slot_value l.slots.items ≡ map slot_value l.fn.slots.items ++ map field_slot_of (flat_map (slots_of_generation (graph_in l.objects) l.generation) (numbers_from (l.generation + 1) (l.h - (l.generation + 1))));
 }

@@ -14,7 +14,7 @@ write_new-requires-clause-room g c =
     has_objects _ _ _ _ _ _ _ c.self.invariant (ap (λ v. v.objects) c.self.view_is)
     in
     let words : length c.self.inside.words.items ≡ c.args.self.now.words = ap (λ v. v.words) c.self.view_is in
-    let room : c.self.inside.used + (1 + c.args.p + c.args.q) ≤ length c.deref_mut.result.now = omega (arith, c.requires, f.used_is, words, ap length c.deref_mut.ensures.value) in
+    let room : c.self.inside.used + (1 + c.args.pointers + c.args.plain_words) ≤ length c.deref_mut.result.now = omega (arith, c.requires, f.used_is, words, ap length c.deref_mut.ensures.value) in
     room
 
 pub index_mut-requires : goal.index_mut-requires
@@ -31,10 +31,10 @@ invariant_of-self g c =
     has_objects _ _ _ _ _ _ _ c.self.invariant (ap (λ v. v.objects) c.self.view_is)
     in
     let words : length c.self.inside.words.items ≡ c.args.self.now.words = ap (λ v. v.words) c.self.view_is in
-    let size : raw_size (new_object c.args.p c.args.q) ≡ (1 + c.args.p + c.args.q) = raw_size-new_object c.args.p c.args.q in
+    let size : raw_size (new_object c.args.pointers c.args.plain_words) ≡ (1 + c.args.pointers + c.args.plain_words) = raw_size-new_object c.args.pointers c.args.plain_words in
     let stays : length c.write_new.new.words ≡ length c.self.inside.words.items = c.write_new.auto.words ∙ ap length c.deref_mut.ensures.value in
-    let written : IsWritten c.self.inside.words.items c.write_new.new.words c.self.inside.used c.self.inside.len (new_object c.args.p c.args.q) = rw c.deref_mut.ensures.value at c.write_new.ensures in
-    let pushed : IsPushed c.self.inside.words.items c.write_new.new.words c.self.inside.offsets.items c.self.inside.len c.self.inside.used (c.self.inside.used + (1 + c.args.p + c.args.q)) c.self.inside.front c.self.inside.number (new_object c.args.p c.args.q) =
+    let written : IsWritten c.self.inside.words.items c.write_new.new.words c.self.inside.used c.self.inside.len (new_object c.args.pointers c.args.plain_words) = rw c.deref_mut.ensures.value at c.write_new.ensures in
+    let pushed : IsPushed c.self.inside.words.items c.write_new.new.words c.self.inside.offsets.items c.self.inside.len c.self.inside.used (c.self.inside.used + (1 + c.args.pointers + c.args.plain_words)) c.self.inside.front c.self.inside.number (new_object c.args.pointers c.args.plain_words) =
     is_pushed _ _ _ _ _ _ _ _ _ c.self.invariant written stays (omega arith) (omega (arith, c.requires, f.used_is, words))
     in
     let items : (with_items c.self.inside.words c.write_new.new.words).items ≡ c.write_new.new.words = with_items_is c.self.inside.words c.write_new.new.words (omega (arith, c.write_new.auto.words, c.deref_mut.ensures.len)) in
@@ -56,10 +56,10 @@ returns-clause-pushed g c =
     has_objects _ _ _ _ _ _ _ c.self.invariant (ap (λ v. v.objects) c.self.view_is)
     in
     let words : length c.self.inside.words.items ≡ c.args.self.now.words = ap (λ v. v.words) c.self.view_is in
-    let size : raw_size (new_object c.args.p c.args.q) ≡ (1 + c.args.p + c.args.q) = raw_size-new_object c.args.p c.args.q in
+    let size : raw_size (new_object c.args.pointers c.args.plain_words) ≡ (1 + c.args.pointers + c.args.plain_words) = raw_size-new_object c.args.pointers c.args.plain_words in
     let stays : length c.write_new.new.words ≡ length c.self.inside.words.items = c.write_new.auto.words ∙ ap length c.deref_mut.ensures.value in
-    let written : IsWritten c.self.inside.words.items c.write_new.new.words c.self.inside.used c.self.inside.len (new_object c.args.p c.args.q) = rw c.deref_mut.ensures.value at c.write_new.ensures in
-    let pushed : IsPushed c.self.inside.words.items c.write_new.new.words c.self.inside.offsets.items c.self.inside.len c.self.inside.used (c.self.inside.used + (1 + c.args.p + c.args.q)) c.self.inside.front c.self.inside.number (new_object c.args.p c.args.q) =
+    let written : IsWritten c.self.inside.words.items c.write_new.new.words c.self.inside.used c.self.inside.len (new_object c.args.pointers c.args.plain_words) = rw c.deref_mut.ensures.value at c.write_new.ensures in
+    let pushed : IsPushed c.self.inside.words.items c.write_new.new.words c.self.inside.offsets.items c.self.inside.len c.self.inside.used (c.self.inside.used + (1 + c.args.pointers + c.args.plain_words)) c.self.inside.front c.self.inside.number (new_object c.args.pointers c.args.plain_words) =
     is_pushed _ _ _ _ _ _ _ _ _ c.self.invariant written stays (omega arith) (omega (arith, c.requires, f.used_is, words))
     in
     let items : (with_items c.self.inside.words c.write_new.new.words).items ≡ c.write_new.new.words = with_items_is c.self.inside.words c.write_new.new.words (omega (arith, c.write_new.auto.words, c.deref_mut.ensures.len)) in

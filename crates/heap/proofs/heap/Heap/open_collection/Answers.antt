@@ -11,8 +11,8 @@ opened-requires-clause-covers g c = c.self.invariant.covers
 pub opened-requires-clause-generations : goal.opened-requires-clause-generations
 opened-requires-clause-generations g c = c.self.invariant.sets
 
-pub returns-then-g-generations-clause-sound : goal.returns-then-g-generations-clause-sound
-returns-then-g-generations-clause-sound g c = rw (← c.self.view_is) (heap_is c.self.inside.objects c.self.inside.roots.slots c.self.inside.remembered c.free_count-free.ensures.sound c.self.invariant)
+pub returns-then-generation-generations-clause-sound : goal.returns-then-generation-generations-clause-sound
+returns-then-generation-generations-clause-sound g c = rw (← c.self.view_is) (heap_is c.self.inside.objects c.self.inside.roots.slots c.self.inside.remembered c.free_count-free.ensures.sound c.self.invariant)
 
 pub returns-in-Ok-clause-sound : goal.returns-in-Ok-clause-sound
 returns-in-Ok-clause-sound g c = rw (← c.self.view_is) (heap_is c.self.inside.objects c.self.inside.roots.slots c.self.inside.remembered c.free_count-free.ensures.sound c.self.invariant)

@@ -9,7 +9,7 @@ use Rattle.heap_objects.proofs.objects.HeapObjects.find.Goals as goal
 pub find-requires-clause-bases : goal.find-requires-clause-bases
 find-requires-clause-bases g c =
     let numbering = rw (← c.self.view_is) at c.requires.numbering in
-    rw c.blocks-in-Small.ensures (bases_of _ _ c.self.invariant c.args.g c.args.numbering.now numbering)
+    rw c.blocks-in-Small.ensures (bases_of _ _ c.self.invariant c.args.generation c.args.numbering.now numbering)
 
 pub find-requires-clause-there : goal.find-requires-clause-there
 find-requires-clause-there g c =
@@ -34,4 +34,4 @@ pub returns-in-Small-clause-number : goal.returns-in-Small-clause-number
 returns-in-Small-clause-number g c =
     let at = c.in-Small.field-0 in
     let lt : place_word c.args.place < large_word 0 = rw c.in-Small.is (omega (arith, at.block_in_range, at.offset_in_range)) in
-    rw (← c.self.view_is) (number_found _ _ c.self.invariant c.args.g (place_word c.args.place) lt _ c.find.ensures.number)
+    rw (← c.self.view_is) (number_found _ _ c.self.invariant c.args.generation (place_word c.args.place) lt _ c.find.ensures.number)

@@ -19,14 +19,14 @@ replace-requires g c =
 pub renew-requires-clause-apart : goal.renew-requires-clause-apart
 renew-requires-clause-apart g c =
     let can = rw (← c.self.view_is) at c.requires.blocks in
-    replaced_apart _ _ _ c.args.g c.args.blocks.items c.self.invariant can c.in_ok-replace.ensures.ok c.free_count-free.ensures.space
+    replaced_apart _ _ _ c.args.generation c.args.blocks.items c.self.invariant can c.in_ok-replace.ensures.ok c.free_count-free.ensures.space
 
 pub renew-requires-clause-numbers : goal.renew-requires-clause-numbers
 renew-requires-clause-numbers g c = λ n o is young.
     let numbering = rw (← c.self.view_is) at c.requires.numbering in
     let count = rw (← c.self.view_is) at c.requires.count in
-    let lt = numbering.covers_large n (young_of_large _ _ c.self.invariant c.args.g n o is young) in
-    let at = numbered_large _ _ c.self.invariant c.args.g n o (slice_index c.args.numbering.now.large n) is young (numbering.large n lt) in
+    let lt = numbering.covers_large n (young_of_large _ _ c.self.invariant c.args.generation n o is young) in
+    let at = numbered_large _ _ c.self.invariant c.args.generation n o (slice_index c.args.numbering.now.large n) is young (numbering.large n lt) in
     rw c.large.ensures (lt, omega (arith, at.in_range, count))
 
 pub returns-clause-ok : goal.returns-clause-ok
@@ -39,7 +39,7 @@ returns-clause-ok g c =
     let done = c.in_ok-replace.ensures.ok in
     let after = subst (λ (s : SpaceValue). AreApart s c.renew.new.large) c.renew.ensures.space c.renew.ensures.apart in
     let each = λ (n : ℕ). c.renew.ensures.each n
-    ∙ ap (λ (ns : List ℕ). option_and_then (renewed mid.config.shape c.args.g (is_some (slice_index_or places (slice_index ns n) None))) (large_at large n)) c.large.ensures
-    ∙ ap (λ (k : Config). option_and_then (renewed k.shape c.args.g (is_some (slice_index_or places (slice_index c.args.numbering.now.large n) None))) (large_at large n)) done.config in
-    let replaced = is_replaced space mid c.renew.new.space.free large c.renew.new.large c.args.g c.args.blocks.items c.args.numbering.now places c.self.invariant after numbering each done in
-    rw (← c.self.view_is) (subst (λ (s : SpaceValue). IsReplaced (objects_of space large) c.args.g c.args.blocks.items places (objects_of s c.renew.new.large)) (sym c.renew.ensures.space) replaced)
+    ∙ ap (λ (ns : List ℕ). option_and_then (renewed mid.config.shape c.args.generation (is_some (slice_index_or places (slice_index ns n) None))) (large_at large n)) c.large.ensures
+    ∙ ap (λ (k : Config). option_and_then (renewed k.shape c.args.generation (is_some (slice_index_or places (slice_index c.args.numbering.now.large n) None))) (large_at large n)) done.config in
+    let replaced = is_replaced space mid c.renew.new.space.free large c.renew.new.large c.args.generation c.args.blocks.items c.args.numbering.now places c.self.invariant after numbering each done in
+    rw (← c.self.view_is) (subst (λ (s : SpaceValue). IsReplaced (objects_of space large) c.args.generation c.args.blocks.items places (objects_of s c.renew.new.large)) (sym c.renew.ensures.space) replaced)

@@ -10,7 +10,7 @@ pub returns-clause-bases : goal.returns-clause-bases
 returns-clause-bases g c =
     let covers = rw c.deref.ensures.value at c.in_ok-found.ensures.covers in
     let each = rw c.deref.ensures.value at c.in_ok-found.ensures.bases in
-    rw (← c.self.view_is) (are_bases _ _ _ _ c.self.invariant.space c.args.g c.in_ok-found.found.0.items covers each)
+    rw (← c.self.view_is) (are_bases _ _ _ _ c.self.invariant.space c.args.generation c.in_ok-found.found.0.items covers each)
 
 pub returns-clause-short : goal.returns-clause-short
 returns-clause-short g c =
@@ -20,9 +20,9 @@ returns-clause-short g c =
 pub returns-clause-all : goal.returns-clause-all
 returns-clause-all g c =
     let all = rw c.deref.ensures.value at c.in_ok-found.ensures.all in
-    rw (← c.self.view_is) (all ∙ sym (young_count _ _ _ _ c.self.invariant.space c.args.g))
+    rw (← c.self.view_is) (all ∙ sym (young_count _ _ _ _ c.self.invariant.space c.args.generation))
 
 pub returns-clause-few : goal.returns-clause-few
 returns-clause-few g c =
     let all = rw c.deref.ensures.value at c.in_ok-found.ensures.all in
-    omega (arith, all, few_young _ _ _ _ c.self.invariant.space c.args.g)
+    omega (arith, all, few_young _ _ _ _ c.self.invariant.space c.args.generation)

@@ -19,14 +19,14 @@ step_at-step-requires g c =
     let there = rw (← c.self.view_is, c.in-Small.is) at c.requires.there in
     record { in_range = rw c.deref-2.ensures.value (covered c.self.inside.table.items (sound_fits _ _ _ _ c.self.invariant.space) (few_blocks _ _ _ _ c.self.invariant.space) c.in-Small.at.block c.in-Small.at.offset (omega (arith, c.in-Small.at.offset_in_range)) there) }
 
-pub returns-then-step-g-clause-object : goal.returns-then-step-g-clause-object
-returns-then-step-g-clause-object g c =
+pub returns-then-step-generation-clause-object : goal.returns-then-step-generation-clause-object
+returns-then-step-generation-clause-object g c =
     let there = rw (← c.self.view_is, c.in-Small.is) at c.requires.there in
     let read = rw c.deref.ensures.value at c.object_from-object.ensures in
     rw (← c.self.view_is, c.in-Small.is) (shown _ _ _ _ c.self.invariant.space c.in-Small.at.block c.in-Small.at.offset c.in-Small.at.offset_in_range there c.object_from-object.result read)
 
-pub returns-then-step-g-clause-step : goal.returns-then-step-g-clause-step
-returns-then-step-g-clause-step g c =
+pub returns-then-step-generation-clause-step : goal.returns-then-step-generation-clause-step
+returns-then-step-generation-clause-step g c =
     let there = rw (← c.self.view_is, c.in-Small.is) at c.requires.there in
     let read = rw c.deref.ensures.value at c.object_from-object.ensures in
     let stands = rw c.deref-2.ensures.value at c.step_at-step.ensures in
@@ -45,12 +45,12 @@ returns-clause-step g c =
     let stands = rw c.deref-2.ensures.value at c.step_at-step.ensures in
     rw (← c.self.view_is, c.in-Small.is) (at_step _ _ _ _ c.self.invariant.space c.in-Small.at.block c.in-Small.at.offset c.in-Small.at.offset_in_range there c.object_from-object.result read c.step_at-step.result stands)
 
-pub returns-then-step-g-clause-number : goal.returns-then-step-g-clause-number
-returns-then-step-g-clause-number g c =
+pub returns-then-step-generation-clause-number : goal.returns-then-step-generation-clause-number
+returns-then-step-generation-clause-number g c =
     let there = rw (← c.self.view_is, c.in-Small.is) at c.requires.there in
     let read = rw c.deref.ensures.value at c.object_from-object.ensures in
     let stands = rw c.deref-2.ensures.value at c.step_at-step.ensures in
-    rw (← c.self.view_is, c.in-Small.is) (not_young _ _ _ _ c.self.invariant.space c.in-Small.at.block c.in-Small.at.offset c.in-Small.at.offset_in_range there c.object_from-object.result read c.step_at-step.result stands c.args.g c.if-step-g.true)
+    rw (← c.self.view_is, c.in-Small.is) (not_young _ _ _ _ c.self.invariant.space c.in-Small.at.block c.in-Small.at.offset c.in-Small.at.offset_in_range there c.object_from-object.result read c.step_at-step.result stands c.args.generation c.if-step-generation.true)
 
 pub bounds-bases-number : goal.bounds-bases-number
 bounds-bases-number g c =
@@ -58,8 +58,8 @@ bounds-bases-number g c =
     let read = rw c.deref.ensures.value at c.object_from-object.ensures in
     let stands = rw c.deref-2.ensures.value at c.step_at-step.ensures in
     let bases = rw (← c.self.view_is) at c.requires.bases in
-    let le : c.step_at-step.result.generation ≤ c.args.g = omega (arith, c.if-step-g.false) in
-    (sum_is _ _ _ _ c.self.invariant.space c.in-Small.at.block c.in-Small.at.offset c.in-Small.at.offset_in_range there c.object_from-object.result read c.step_at-step.result stands c.args.g c.args.bases.now le bases).0
+    let le : c.step_at-step.result.generation ≤ c.args.generation = omega (arith, c.if-step-generation.false) in
+    (sum_is _ _ _ _ c.self.invariant.space c.in-Small.at.block c.in-Small.at.offset c.in-Small.at.offset_in_range there c.object_from-object.result read c.step_at-step.result stands c.args.generation c.args.bases.now le bases).0
 
 pub overflow_add-named : goal.overflow_add-named
 overflow_add-named g c =
@@ -67,8 +67,8 @@ overflow_add-named g c =
     let read = rw c.deref.ensures.value at c.object_from-object.ensures in
     let stands = rw c.deref-2.ensures.value at c.step_at-step.ensures in
     let bases = rw (← c.self.view_is) at c.requires.bases in
-    let le : c.step_at-step.result.generation ≤ c.args.g = omega (arith, c.if-step-g.false) in
-    omega (arith, (sum_is _ _ _ _ c.self.invariant.space c.in-Small.at.block c.in-Small.at.offset c.in-Small.at.offset_in_range there c.object_from-object.result read c.step_at-step.result stands c.args.g c.args.bases.now le bases).1, sum_few _ _ _ _ c.self.invariant.space c.in-Small.at.block c.in-Small.at.offset c.in-Small.at.offset_in_range there c.object_from-object.result read c.step_at-step.result stands c.args.g le)
+    let le : c.step_at-step.result.generation ≤ c.args.generation = omega (arith, c.if-step-generation.false) in
+    omega (arith, (sum_is _ _ _ _ c.self.invariant.space c.in-Small.at.block c.in-Small.at.offset c.in-Small.at.offset_in_range there c.object_from-object.result read c.step_at-step.result stands c.args.generation c.args.bases.now le bases).1, sum_few _ _ _ _ c.self.invariant.space c.in-Small.at.block c.in-Small.at.offset c.in-Small.at.offset_in_range there c.object_from-object.result read c.step_at-step.result stands c.args.generation le)
 
 pub returns-clause-number : goal.returns-clause-number
 returns-clause-number g c =
@@ -76,5 +76,5 @@ returns-clause-number g c =
     let read = rw c.deref.ensures.value at c.object_from-object.ensures in
     let stands = rw c.deref-2.ensures.value at c.step_at-step.ensures in
     let bases = rw (← c.self.view_is) at c.requires.bases in
-    let le : c.step_at-step.result.generation ≤ c.args.g = omega (arith, c.if-step-g.false) in
-    rw (← c.self.view_is, c.in-Small.is) (young_here _ _ _ _ c.self.invariant.space c.in-Small.at.block c.in-Small.at.offset c.in-Small.at.offset_in_range there c.object_from-object.result read c.step_at-step.result stands c.args.g le, rw (sum_is _ _ _ _ c.self.invariant.space c.in-Small.at.block c.in-Small.at.offset c.in-Small.at.offset_in_range there c.object_from-object.result read c.step_at-step.result stands c.args.g c.args.bases.now le bases).1 (numbered_here _ _ _ _ c.self.invariant.space c.in-Small.at.block c.in-Small.at.offset c.in-Small.at.offset_in_range there c.object_from-object.result read c.step_at-step.result stands c.args.g le))
+    let le : c.step_at-step.result.generation ≤ c.args.generation = omega (arith, c.if-step-generation.false) in
+    rw (← c.self.view_is, c.in-Small.is) (young_here _ _ _ _ c.self.invariant.space c.in-Small.at.block c.in-Small.at.offset c.in-Small.at.offset_in_range there c.object_from-object.result read c.step_at-step.result stands c.args.generation le, rw (sum_is _ _ _ _ c.self.invariant.space c.in-Small.at.block c.in-Small.at.offset c.in-Small.at.offset_in_range there c.object_from-object.result read c.step_at-step.result stands c.args.generation c.args.bases.now le bases).1 (numbered_here _ _ _ _ c.self.invariant.space c.in-Small.at.block c.in-Small.at.offset c.in-Small.at.offset_in_range there c.object_from-object.result read c.step_at-step.result stands c.args.generation le))

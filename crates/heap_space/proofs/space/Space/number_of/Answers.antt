@@ -20,14 +20,14 @@ pub bounds-bases-number : goal.bounds-bases-number
 bounds-bases-number g c =
     let young = rw (← c.self.view_is, c.in-Small.is) at c.requires.young in
     let bases = rw (← c.self.view_is) at c.requires.bases in
-    (base_at _ _ _ _ c.self.invariant.space c.args.g c.args.bases.now c.in-Small.at.block c.in-Small.at.offset bases c.in-Small.at.offset_in_range young).0
+    (base_at _ _ _ _ c.self.invariant.space c.args.generation c.args.bases.now c.in-Small.at.block c.in-Small.at.offset bases c.in-Small.at.offset_in_range young).0
 
 pub overflow_cast-result : goal.overflow_cast-result
 overflow_cast-result g c =
     let young = rw (← c.self.view_is, c.in-Small.is) at c.requires.young in
     let bases = rw (← c.self.view_is) at c.requires.bases in
     let ordinal = rw c.deref.ensures.value at c.ordinal_at.ensures in
-    let few = number_few _ _ _ _ c.self.invariant.space c.args.g c.in-Small.at.block c.in-Small.at.offset c.in-Small.at.offset_in_range young c.args.bases.now bases c.ordinal_at.result ordinal in
+    let few = number_few _ _ _ _ c.self.invariant.space c.args.generation c.in-Small.at.block c.in-Small.at.offset c.in-Small.at.offset_in_range young c.args.bases.now bases c.ordinal_at.result ordinal in
     omega (arith, few)
 
 pub overflow_add-result : goal.overflow_add-result
@@ -35,7 +35,7 @@ overflow_add-result g c =
     let young = rw (← c.self.view_is, c.in-Small.is) at c.requires.young in
     let bases = rw (← c.self.view_is) at c.requires.bases in
     let ordinal = rw c.deref.ensures.value at c.ordinal_at.ensures in
-    let few = number_few _ _ _ _ c.self.invariant.space c.args.g c.in-Small.at.block c.in-Small.at.offset c.in-Small.at.offset_in_range young c.args.bases.now bases c.ordinal_at.result ordinal in
+    let few = number_few _ _ _ _ c.self.invariant.space c.args.generation c.in-Small.at.block c.in-Small.at.offset c.in-Small.at.offset_in_range young c.args.bases.now bases c.ordinal_at.result ordinal in
     omega (arith, few)
 
 pub returns : goal.returns
@@ -43,4 +43,4 @@ returns g c =
     let young = rw (← c.self.view_is, c.in-Small.is) at c.requires.young in
     let bases = rw (← c.self.view_is) at c.requires.bases in
     let ordinal = rw c.deref.ensures.value at c.ordinal_at.ensures in
-    rw (← c.self.view_is, c.in-Small.is) (number_is _ _ _ _ c.self.invariant.space c.args.g c.in-Small.at.block c.in-Small.at.offset c.in-Small.at.offset_in_range young c.args.bases.now bases c.ordinal_at.result ordinal)
+    rw (← c.self.view_is, c.in-Small.is) (number_is _ _ _ _ c.self.invariant.space c.args.generation c.in-Small.at.block c.in-Small.at.offset c.in-Small.at.offset_in_range young c.args.bases.now bases c.ordinal_at.result ordinal)

@@ -74,10 +74,10 @@ add_blocks-requires g c =
 pub exchange-requires : goal.exchange-requires
 exchange-requires g c =
     let can = rw (← c.self.view_is) at c.requires in
-    let goes : Goes (nursery_count c.self.inside.config) c.args.g c.self.inside.table.items c.in_ok-old.old.items = goes_flagged _ _ _ _ _ c.self.invariant.flags (λ n. rw c.nursery_blocks-count.ensures.value at (c.in_ok-old.ensures.numbers n)) in
+    let goes : Goes (nursery_count c.self.inside.config) c.args.generation c.self.inside.table.items c.in_ok-old.old.items = goes_flagged _ _ _ _ _ c.self.invariant.flags (λ n. rw c.nursery_blocks-count.ensures.value at (c.in_ok-old.ensures.numbers n)) in
     let gone = c.in_ok-old.old.items in
     let there : (n : ℕ) → has c.deref-4.result.now n ≡ true → (nursery_count c.self.inside.config ≤ n) × ((block : BlockValue) × (slot_at c.self.inside.table.items n ≡ Some block)) =
-    λ n h. gone_there c.self.inside.config c.self.inside.table.items c.args.g gone goes n (rw c.deref-4.ensures.value at h) in
+    λ n h. gone_there c.self.inside.config c.self.inside.table.items c.args.generation gone goes n (rw c.deref-4.ensures.value at h) in
     record {
       count = omega (arith, c.self.invariant.space.set_aside, c.in_ok-grow.ensures.no_shorter, ap length c.deref_mut.ensures.value, c.nursery_blocks-count.ensures.value);
       in_table = λ n h. let at = there n h in omega (arith, in_list c.self.inside.table.items n at.1.0 at.1.1, c.in_ok-grow.ensures.no_shorter, ap length c.deref_mut.ensures.value);
@@ -94,7 +94,7 @@ exchange-requires g c =
 pub invariant_of-self-2 : goal.invariant_of-self-2
 invariant_of-self-2 g c =
     let can = rw (← c.self.view_is) at c.requires in
-    let goes : Goes (nursery_count c.self.inside.config) c.args.g c.self.inside.table.items c.in_ok-old.old.items = goes_flagged _ _ _ _ _ c.self.invariant.flags (λ n. rw c.nursery_blocks-count.ensures.value at (c.in_ok-old.ensures.numbers n)) in
+    let goes : Goes (nursery_count c.self.inside.config) c.args.generation c.self.inside.table.items c.in_ok-old.old.items = goes_flagged _ _ _ _ _ c.self.invariant.flags (λ n. rw c.nursery_blocks-count.ensures.value at (c.in_ok-old.ensures.numbers n)) in
     let short = grown_short _ _ _ _ c.end_of-end.result (length c.grow.new.table.items) c.self.invariant.space (c.end_of-end.ensures.least c.self.inside.config.blocks (rw c.deref.ensures.value (free_below _ _ _ _ c.args.blocks.items c.self.invariant.space can))) c.in_ok-grow.ensures.no_longer in
     let same_len : length c.exchange.new.table ≡ length c.grow.new.table.items = omega (arith, c.exchange.auto.table, ap length c.deref_mut.ensures.value) in
     let whole = with_whole c.grow.new.table.len c.exchange.new.table c.grow.new.table.items (omega (arith, same_len, c.grow.new.table.ok.0)) (omega (arith, c.grow.new.table.ok.0)) in
@@ -102,7 +102,7 @@ invariant_of-self-2 g c =
     let same_many : length c.reset_all.new.nurseries ≡ length c.self.inside.nurseries.items = ap length reset ∙ length-map c.self.inside.nurseries.items from_first in
     let whole_nurseries = with_whole c.self.inside.nurseries.len c.reset_all.new.nurseries c.self.inside.nurseries.items (omega (arith, same_many, c.self.inside.nurseries.ok.0)) (omega (arith, c.self.inside.nurseries.ok.0)) in
     rw (whole, whole_nurseries, reset) (record {
-      space = replaced_sound c.self.inside.config c.self.inside.table.items c.exchange.new.table c.self.inside.nurseries.items c.self.inside.pool c.exchange.new.pool c.args.g c.in_ok-old.old.items c.args.blocks.items c.self.invariant.space can goes (omega (arith, short, same_len)) (omega (arith, c.in_ok-grow.ensures.no_shorter, same_len))
+      space = replaced_sound c.self.inside.config c.self.inside.table.items c.exchange.new.table c.self.inside.nurseries.items c.self.inside.pool c.exchange.new.pool c.args.generation c.in_ok-old.old.items c.args.blocks.items c.self.invariant.space can goes (omega (arith, short, same_len)) (omega (arith, c.in_ok-grow.ensures.no_shorter, same_len))
           (λ n. rw (c.deref_mut.ensures.value, c.deref-4.ensures.value, c.nursery_blocks-count.ensures.value, c.in_ok-grow.ensures.same n) at (c.exchange.ensures.table n))
           (λ n. rw c.deref-4.ensures.value at (c.exchange.ensures.free n))
           c.exchange.ensures.limit;
@@ -117,14 +117,14 @@ invariant_of-self-2 g c =
 pub returns-clause-ok : goal.returns-clause-ok
 returns-clause-ok g c =
     let can = rw (← c.self.view_is) at c.requires in
-    let goes : Goes (nursery_count c.self.inside.config) c.args.g c.self.inside.table.items c.in_ok-old.old.items = goes_flagged _ _ _ _ _ c.self.invariant.flags (λ n. rw c.nursery_blocks-count.ensures.value at (c.in_ok-old.ensures.numbers n)) in
+    let goes : Goes (nursery_count c.self.inside.config) c.args.generation c.self.inside.table.items c.in_ok-old.old.items = goes_flagged _ _ _ _ _ c.self.invariant.flags (λ n. rw c.nursery_blocks-count.ensures.value at (c.in_ok-old.ensures.numbers n)) in
     let short = grown_short _ _ _ _ c.end_of-end.result (length c.grow.new.table.items) c.self.invariant.space (c.end_of-end.ensures.least c.self.inside.config.blocks (rw c.deref.ensures.value (free_below _ _ _ _ c.args.blocks.items c.self.invariant.space can))) c.in_ok-grow.ensures.no_longer in
     let same_len : length c.exchange.new.table ≡ length c.grow.new.table.items = omega (arith, c.exchange.auto.table, ap length c.deref_mut.ensures.value) in
     let whole = with_whole c.grow.new.table.len c.exchange.new.table c.grow.new.table.items (omega (arith, same_len, c.grow.new.table.ok.0)) (omega (arith, c.grow.new.table.ok.0)) in
     let reset = c.reset_all.ensures ∙ ap (map from_first) c.deref_mut-2.ensures.value in
     let same_many : length c.reset_all.new.nurseries ≡ length c.self.inside.nurseries.items = ap length reset ∙ length-map c.self.inside.nurseries.items from_first in
     let whole_nurseries = with_whole c.self.inside.nurseries.len c.reset_all.new.nurseries c.self.inside.nurseries.items (omega (arith, same_many, c.self.inside.nurseries.ok.0)) (omega (arith, c.self.inside.nurseries.ok.0)) in
-    rw (← c.self.view_is, whole, whole_nurseries, reset) (is_replaced c.self.inside.config c.self.inside.table.items c.exchange.new.table c.self.inside.nurseries.items c.self.inside.pool c.exchange.new.pool c.args.g c.in_ok-old.old.items c.args.blocks.items c.self.invariant.space can goes (omega (arith, short, same_len)) (omega (arith, c.in_ok-grow.ensures.no_shorter, same_len))
+    rw (← c.self.view_is, whole, whole_nurseries, reset) (is_replaced c.self.inside.config c.self.inside.table.items c.exchange.new.table c.self.inside.nurseries.items c.self.inside.pool c.exchange.new.pool c.args.generation c.in_ok-old.old.items c.args.blocks.items c.self.invariant.space can goes (omega (arith, short, same_len)) (omega (arith, c.in_ok-grow.ensures.no_shorter, same_len))
     (λ n. rw (c.deref_mut.ensures.value, c.deref-4.ensures.value, c.nursery_blocks-count.ensures.value, c.in_ok-grow.ensures.same n) at (c.exchange.ensures.table n))
     (λ n. rw c.deref-4.ensures.value at (c.exchange.ensures.free n))
     c.exchange.ensures.limit)

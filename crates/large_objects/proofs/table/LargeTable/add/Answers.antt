@@ -6,8 +6,8 @@ use Rattle.large_objects.proofs.table.LargeTable.add.Goals as goal
 
 pub returns-clause-added : goal.returns-clause-added
 returns-clause-added g c =
-    let count = same_count c.args.p c.args.q c.args.block_words in
-    let stored = c.new.ensures ∙ made_of c.args.p c.args.q _ c.args.block_words c.args.pool.now.free c.in-Ok-zeros.words.items c.in_ok-blocks.blocks.items c.in-Ok-zeros.ensures c.in_ok-blocks.ensures.granted count in
+    let count = same_count c.args.pointers c.args.plain_words c.args.block_words in
+    let stored = c.new.ensures ∙ made_of c.args.pointers c.args.plain_words _ c.args.block_words c.args.pool.now.free c.in-Ok-zeros.words.items c.in_ok-blocks.blocks.items c.in-Ok-zeros.ensures c.in_ok-blocks.ensures.granted count in
     let old = ap (λ (v : LargeValue). v.slots) c.self.view_is in
     is_added c.args.self.now _ c.make_room.new.slab.slots c.insert_reserved-key.result c.in-Ok.number.number c.new.result _
     (c.in-Ok.ensures.slots ∙ old)
@@ -19,7 +19,7 @@ returns-clause-added g c =
 
 pub returns-clause-pool_blocks : goal.returns-clause-pool_blocks
 returns-clause-pool_blocks g c =
-    let count = same_count c.args.p c.args.q c.args.block_words in
+    let count = same_count c.args.pointers c.args.plain_words c.args.block_words in
     let stored = c.new.ensures in
     let old = ap (λ (v : LargeValue). v.slots) c.self.view_is in
     let added = is_added c.args.self.now _ c.make_room.new.slab.slots c.insert_reserved-key.result c.insert_reserved-key.result c.new.result _
@@ -32,7 +32,7 @@ returns-clause-pool_blocks g c =
     add_blocks c.args.self.now _ c.args.pool.now c.grant.new.self c.insert_reserved-key.result _ c.requires.blocks added
     record {
       limit = ap (λ (p : PoolValue). p.limit) c.in_ok-blocks.ensures.rest;
-      some = enough c.args.p c.args.q _ c.args.block_words c.args.pool.now.free c.in_ok-blocks.blocks.items c.in_ok-blocks.ensures.granted count (omega (arith, c.requires.words_from)) (omega (arith, c.if-free_count-count.false, c.free_count.ensures.value));
+      some = enough c.args.pointers c.args.plain_words _ c.args.block_words c.args.pool.now.free c.in_ok-blocks.blocks.items c.in_ok-blocks.ensures.granted count (omega (arith, c.requires.words_from)) (omega (arith, c.if-free_count-count.false, c.free_count.ensures.value));
       rising = c.in_ok-blocks.ensures.rising;
       in_limit = c.in_ok-blocks.ensures.in_limit;
       members = c.in_ok-blocks.ensures.members;

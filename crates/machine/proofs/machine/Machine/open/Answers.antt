@@ -27,7 +27,7 @@ invariant_of-result g c =
 pub returns-clause-ok : goal.returns-clause-ok
 returns-clause-ok g c =
     let e = c.in_ok-workers.ensures in
-    opens c.args.heap.now c.args.g c.args.n c.in_ok-collection.collection c.in_ok-workers.workers e.heap e.collection e.workers (ready g c) c.in_ok-collection.ensures.ok.generation e.first
+    opens c.args.heap.now c.args.generation c.args.n c.in_ok-collection.collection c.in_ok-workers.workers e.heap e.collection e.workers (ready g c) c.in_ok-collection.ensures.ok.generation e.first
 
 pub returns-clause-config : goal.returns-clause-config
 returns-clause-config g c = let f = few g c in (

@@ -6,5 +6,5 @@ use Rattle.steps.proofs.destinations.Destinations.new.Given as goal
 abbrev pub invariant-loop-number : goal.invariant-loop-number
 invariant-loop-number l = record {
   len : length l.places.items ≡ l.number;
-  places : map step_pair l.places.items ≡ take l.number (destination_list l.config.shape l.g);
+  places : map step_pair l.places.items ≡ take l.number (destination_list l.config.shape l.generation);
 }
