@@ -1,12 +1,14 @@
 -- What the calls on nodes do to the heap that they stand in.
-use Rattle.std.specs.Prelude.{◌≡◌, ℕ, ◌⊎◌, List, Option, Some, None, nat_lt, if◌then◌else◌, slice_get, slice_set, option_and_then}
-use Rattle.model.specs.Graph.{Graph, without_root}
+use Rattle.std.specs.Prelude.{◌≡◌, ◌≢◌, ℕ, ◌⊎◌, List, Option, Some, None, IsSome, IsSomeAnd, nat_lt, if◌then◌else◌, slice_get, slice_set, option_and_then}
+use Rattle.model.specs.Graph.{Graph, root_at, without_root}
 use Rattle.model.specs.Config.{Config}
 use Rattle.heap.specs.HeapValue.{HeapValue}
 use Rattle.heap.specs.ReportValue.{WorkerLists}
-use Rattle.heap.specs.Commands.{Allocates, Changes, Stores, rooted_object}
+use Rattle.heap.specs.Commands.{Allocates, Changes, Stores, rooted_object, pointer_of}
 use Rattle.heap_data.specs.declared.report.Delivery.{Delivery}
 use Rattle.collector.specs.Collects.{CollectsAlone}
+use Rattle.combinators.specs.declared.nodes.Trouble.{Trouble}
+use Rattle.combinators.specs.declared.nodes.Trouble.TheVariants.{HeapFull, NoMemory}
 
 -- the sizes of the heap that nodes stand in
 abbrev pub node_sizes : Config
@@ -29,10 +31,26 @@ pub record WasCollected (old new : HeapValue) : Type 0 where
   pub deliveries : List Delivery
   pub collects : CollectsAlone old generation kept freed workers deliveries new
 
+-- the heap is as it was, or as a collection left it
+abbrev pub MayBeCollected : HeapValue → HeapValue → Type 0
+MayBeCollected old new = (new ≡ old) ⊎ WasCollected old new
+
+-- the root's node has a pointer i, and it leads to a node
+abbrev pub HasChild : Graph → ℕ → ℕ → Type 0
+HasChild graph root i = IsSomeAnd (pointer_of graph root i) IsSome
+
+-- roots of a function and of an argument, which aren't the same root
+abbrev pub AreParts : Graph → ℕ → ℕ → Type 0
+AreParts graph function argument = (function ≢ argument) × IsSome (root_at graph function) × IsSome (root_at graph argument)
+
+-- why no new node was made: there is no room, or no memory
+abbrev pub IsWant : Trouble → Type 0
+IsWant trouble = (trouble ≡ HeapFull) ⊎ (trouble ≡ NoMemory)
+
 -- a new object, with a new root, in the heap as it was or as a collection left it
 pub record AddsNode (old : HeapValue) (pointers plain root : ℕ) (new : HeapValue) : Type 0 where
   pub heap : HeapValue
-  pub room : (heap ≡ old) ⊎ WasCollected old heap
+  pub room : MayBeCollected old heap
   pub allocates : Allocates heap 0 pointers plain root new
 
 -- a new node without pointers, whose word is the letter

@@ -1,9 +1,9 @@
 //! Nodes in a heap: made, read and changed by their roots, and collected where a nursery is full.
-ghost use Rattle.std.specs.Prelude.{◌≡◌, ◌↔◌, Some, Err, IsSome, IsOk, IfOk, OnOk, OnErr};
+ghost use Rattle.std.specs.Prelude.{◌≡◌, ◌≢◌, ◌↔◌, ◌⊎◌, Some, Err, IsSome, IsTrue, IsOk, IfOk, IfErr, OnOk, OnErr};
 ghost use Rattle.model.specs.Graph.{root_at, without_root};
 ghost use Rattle.heap.specs.HeapValue.{empty_heap};
-ghost use Rattle.heap.specs.Commands.{Loads, Stores};
-ghost use Rattle.combinators.specs.Nodes.{node_sizes, letter_of, WasCollected, AddsNode, AddsSymbol, AddsApplication};
+ghost use Rattle.heap.specs.Commands.{Loads, Stores, HasPointer, MustNote};
+ghost use Rattle.combinators.specs.Nodes.{node_sizes, letter_of, WasCollected, MayBeCollected, HasChild, AreParts, IsWant, AddsNode, AddsSymbol, AddsApplication};
 
 use collector::{CollectError, collect_one};
 use heap::{AllocateError, Config, Heap, LoadError, MakeError, RootId, Sizes, StoreError};
@@ -27,7 +27,10 @@ pub(crate) enum Trouble {
 }
 
 /// No memory, or no room in the heap.
-fn trouble_of(error: AllocateError) -> Trouble {
+fn trouble_of(error: AllocateError) -> Trouble
+    ensures memory { (result ≡ Trouble.NoMemory) ↔ (error ≡ AllocateError.NoMemory) }
+    ensures want { IsWant result }
+{
     match error {
         AllocateError::NoMemory => Trouble::NoMemory,
         _ => Trouble::HeapFull,
@@ -58,7 +61,8 @@ const YOUNG_COLLECTIONS: u64 = 8;
 impl Nodes {
     /// No node yet.
     pub(crate) fn new(alloc: Global) -> Result<Self, Trouble>
-        ensures { IfOk result (λ nodes. nodes ≡ empty_heap node_sizes) }
+        ensures ok { IfOk result (λ nodes. nodes ≡ empty_heap node_sizes) }
+        ensures err { IfErr result (λ e. e ≡ Trouble.NoMemory) }
     {
         let sizes = Sizes {
             block_words: 64,
@@ -69,14 +73,14 @@ impl Nodes {
             steps: 1,
         };
         let Ok(config) = Config::new(sizes) else {
-            return Err(Trouble::HeapFull);
+            unreachable!();
         };
         match Heap::new(alloc, config) {
             Ok(heap) => Ok(Nodes {
                 heap,
                 collections: 0,
             }),
-            Err(MakeError::HeapFull) => Err(Trouble::HeapFull),
+            Err(MakeError::HeapFull) => unreachable!(),
             Err(MakeError::NoMemory) => Err(Trouble::NoMemory),
         }
     }
@@ -84,6 +88,7 @@ impl Nodes {
     /// Whatever no root leads to gives its room back.
     fn collect(&mut self, alloc: Global) -> Result<(), Trouble>
         ensures ok { OnOk result (WasCollected self.old self.new) }
+        ensures want { IfErr result IsWant }
         ensures err { OnErr result (self.new ≡ self.old) }
     {
         self.collections = self.collections.saturating_add(1);
@@ -101,7 +106,9 @@ impl Nodes {
 
     /// A new object. Where the nursery has no room for it the heap is collected first.
     fn allocate(&mut self, alloc: Global, pointers: u64, words: u64) -> Result<RootId, Trouble>
-        ensures { IfOk result (λ node. AddsNode self.old pointers words node.number self.new) }
+        ensures ok { IfOk result (λ node. AddsNode self.old pointers words node.number self.new) }
+        ensures want { IfErr result IsWant }
+        ensures err { OnErr result (MayBeCollected self.old self.new) }
     {
         match self.heap.allocate(0, pointers, words) {
             Ok(node) => return Ok(node),
@@ -114,26 +121,43 @@ impl Nodes {
         }
     }
 
-    /// A node for a letter.
+    /// A node for a letter. An error says that there is no room, or no memory; the heap may have been collected.
     pub(crate) fn symbol(&mut self, alloc: Global, letter: u8) -> Result<RootId, Trouble>
-        ensures { IfOk result (λ node. AddsSymbol self.old letter node.number self.new) }
+        ensures ok { IfOk result (λ node. AddsSymbol self.old letter node.number self.new) }
+        ensures want { IfErr result IsWant }
+        ensures err { OnErr result (MayBeCollected self.old self.new) }
     {
         let node = self.allocate(alloc, 0, 1)?;
         let Ok(()) = self.heap.put(node, 0, letter as u64) else {
-            return Err(Trouble::BadNode);
+            unreachable!();
         };
         Ok(node)
     }
 
-    /// A function with its argument, whose roots are given back.
+    /// Whether it is the root of a node.
+    fn is_node(&self, node: RootId) -> bool
+        ensures { IsTrue result ↔ IsSome (root_at self.now.graph node.number) }
+    {
+        self.heap.target(node).is_some()
+    }
+
+    /// A function with its argument, whose roots are given back. `BadNode` says that one of them is no root, or both are
+    /// the same; then nothing changes. Another error says that there is no room, or no memory; the heap may have been
+    /// collected.
     pub(crate) fn application(
         &mut self,
         alloc: Global,
         function: RootId,
         argument: RootId,
     ) -> Result<RootId, Trouble>
-        ensures { IfOk result (λ node. AddsApplication self.old function.number argument.number node.number self.new) }
+        ensures ok { IfOk result (λ node. AddsApplication self.old function.number argument.number node.number self.new) }
+        ensures bad_node { (result ≡ Err Trouble.BadNode) ↔ ¬ (AreParts self.old.graph function.number argument.number) }
+        ensures same { result ≡ Err Trouble.BadNode → self.new ≡ self.old }
+        ensures err { OnErr result (MayBeCollected self.old self.new) }
     {
+        if function == argument || !self.is_node(function) || !self.is_node(argument) {
+            return Err(Trouble::BadNode);
+        }
         let node = self.allocate(alloc, 2, 0)?;
         self.set_function(node, function)?;
         self.set_argument(node, argument)?;
@@ -152,9 +176,11 @@ impl Nodes {
         }
     }
 
-    /// A new root to what a pointer leads to.
+    /// A new root to what a pointer leads to. `BadNode` says that there is no such root or pointer, or that it is nil.
     fn load(&mut self, node: RootId, field: u64) -> Result<RootId, Trouble>
         ensures ok { IfOk result (λ target. Loads self.old node.number field (Some target.number) self.new) }
+        ensures bad_node { (result ≡ Err Trouble.BadNode) ↔ ¬ (HasChild self.old.graph node.number field) }
+        ensures kinds { IfErr result (λ e. (e ≡ Trouble.BadNode) ⊎ (e ≡ Trouble.NoMemory)) }
         ensures err { OnErr result (self.new ≡ self.old) }
     {
         match self.heap.load(node, field) {
@@ -164,25 +190,32 @@ impl Nodes {
         }
     }
 
-    /// A new root to the function of an application.
+    /// A new root to the function of an application. `BadNode` says that there is none; the heap is as before.
     pub(crate) fn function(&mut self, node: RootId) -> Result<RootId, Trouble>
         ensures ok { IfOk result (λ function. Loads self.old node.number 0 (Some function.number) self.new) }
+        ensures bad_node { (result ≡ Err Trouble.BadNode) ↔ ¬ (HasChild self.old.graph node.number 0) }
+        ensures kinds { IfErr result (λ e. (e ≡ Trouble.BadNode) ⊎ (e ≡ Trouble.NoMemory)) }
         ensures err { OnErr result (self.new ≡ self.old) }
     {
         self.load(node, 0)
     }
 
-    /// A new root to the argument of an application.
+    /// A new root to the argument of an application. `BadNode` says that there is none; the heap is as before.
     pub(crate) fn argument(&mut self, node: RootId) -> Result<RootId, Trouble>
         ensures ok { IfOk result (λ argument. Loads self.old node.number 1 (Some argument.number) self.new) }
+        ensures bad_node { (result ≡ Err Trouble.BadNode) ↔ ¬ (HasChild self.old.graph node.number 1) }
+        ensures kinds { IfErr result (λ e. (e ≡ Trouble.BadNode) ⊎ (e ≡ Trouble.NoMemory)) }
         ensures err { OnErr result (self.new ≡ self.old) }
     {
         self.load(node, 1)
     }
 
-    /// A pointer leads where the value's root does.
+    /// A pointer leads where the value's root does. `BadNode` says that there is no such root, or no such pointer.
     fn store(&mut self, node: RootId, field: u64, value: RootId) -> Result<(), Trouble>
         ensures ok { OnOk result (Stores self.old node.number field (Some value.number) self.new) }
+        ensures bad_node { (result ≡ Err Trouble.BadNode) ↔ ¬ (HasPointer self.old.graph node.number field × IsSome (root_at self.old.graph value.number)) }
+        ensures memory { result ≡ Err Trouble.NoMemory → MustNote self.old node.number (Some value.number) }
+        ensures kinds { IfErr result (λ e. (e ≡ Trouble.BadNode) ⊎ (e ≡ Trouble.NoMemory)) }
         ensures err { OnErr result (self.new ≡ self.old) }
     {
         match self.heap.store(node, field, Some(value)) {
@@ -192,17 +225,25 @@ impl Nodes {
         }
     }
 
-    /// An application has another function from now on.
+    /// An application has another function from now on. `BadNode` says that there is no such root, or that the node is no
+    /// application; the heap is as before.
     pub(crate) fn set_function(&mut self, node: RootId, value: RootId) -> Result<(), Trouble>
         ensures ok { OnOk result (Stores self.old node.number 0 (Some value.number) self.new) }
+        ensures bad_node { (result ≡ Err Trouble.BadNode) ↔ ¬ (HasPointer self.old.graph node.number 0 × IsSome (root_at self.old.graph value.number)) }
+        ensures memory { result ≡ Err Trouble.NoMemory → MustNote self.old node.number (Some value.number) }
+        ensures kinds { IfErr result (λ e. (e ≡ Trouble.BadNode) ⊎ (e ≡ Trouble.NoMemory)) }
         ensures err { OnErr result (self.new ≡ self.old) }
     {
         self.store(node, 0, value)
     }
 
-    /// An application has another argument from now on.
+    /// An application has another argument from now on. `BadNode` says that there is no such root, or that the node is no
+    /// application; the heap is as before.
     pub(crate) fn set_argument(&mut self, node: RootId, value: RootId) -> Result<(), Trouble>
         ensures ok { OnOk result (Stores self.old node.number 1 (Some value.number) self.new) }
+        ensures bad_node { (result ≡ Err Trouble.BadNode) ↔ ¬ (HasPointer self.old.graph node.number 1 × IsSome (root_at self.old.graph value.number)) }
+        ensures memory { result ≡ Err Trouble.NoMemory → MustNote self.old node.number (Some value.number) }
+        ensures kinds { IfErr result (λ e. (e ≡ Trouble.BadNode) ⊎ (e ≡ Trouble.NoMemory)) }
         ensures err { OnErr result (self.new ≡ self.old) }
     {
         self.store(node, 1, value)
@@ -211,6 +252,7 @@ impl Nodes {
     /// The root is given up. Its node stays as long as others lead to it.
     pub(crate) fn release(&mut self, node: RootId) -> Result<(), Trouble>
         ensures known { IsOk result ↔ IsSome (root_at self.old.graph node.number) }
+        ensures bad_node { IfErr result (λ e. e ≡ Trouble.BadNode) }
         ensures ok { OnOk result (self.new ≡ record self.old { graph = without_root self.old.graph node.number }) }
         ensures err { OnErr result (self.new ≡ self.old) }
     {

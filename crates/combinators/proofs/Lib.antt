@@ -1,0 +1,2 @@
+-- Lemmas of the nodes.
+mod NewNodes
