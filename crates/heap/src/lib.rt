@@ -3,6 +3,7 @@
 
 mod barrier;
 mod counts;
+mod fields;
 mod found;
 mod heap;
 mod opening;
