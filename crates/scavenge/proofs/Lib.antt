@@ -7,4 +7,5 @@ mod Renewing
 mod Copying
 mod Proposing
 mod Looking
+mod Evacuating
 mod Begun

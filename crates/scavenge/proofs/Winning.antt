@@ -16,11 +16,8 @@ use Rattle.workers.specs.WorkerSteps.{finish_slot, race_of, after_race}
 use Rattle.workers.proofs.Lists.{at-updated_same, at-updated_other, get-append, get-lt}
 use Rattle.to_space.specs.Named.{named, named_copies, named_copy}
 use Rattle.scavenge.specs.declared.proposed.Proposed.{Proposed}
-use Rattle.scavenge.specs.Shown.{WorkspaceValue, IsNoted, AreNoted, HasField, CanFinish, CanWrite, proposal_of, proposal_at, lost_to}
-use Rattle.heap.specs.HeapValue.{HeapValue}
-use Rattle.heap.specs.CollectionValue.{CollectionValue}
-use Rattle.cells.specs.declared.outcome.Outcome.{Outcome}
-use Rattle.scavenge.specs.Told.{IsProposed, Ends, name_of}
+use Rattle.scavenge.specs.Shown.{WorkspaceValue, IsNoted, AreNoted, HasField, CanFinish, CanWrite, proposal_of, proposal_at, copied_of, unnoted, lost_to}
+use Rattle.scavenge.specs.Told.{IsProposed, IsBid, IsCopied, IsClaimed, name_of}
 use Rattle.scavenge.proofs.Fields.{Last, last_there}
 
 named_push : (number offset : ℕ) (origins : List ℕ) (raws : List Raw) (o : ℕ) (raw : Raw) → length raws ≡ length origins + 1 → slice_get raws (length origins) ≡ Some raw
@@ -115,9 +112,28 @@ lost_reserved {V = V} same large won first le we =
     ∙ ap (λ z. (let x : WorkspaceValue = record V { worker = after_race (record V.worker { won = z }) (Some (lost_to first V.worker.proposal)) } in x)) we
     ∙ ap (λ (v : WorkspaceValue). (let x : WorkspaceValue = record v { worker = after_race v.worker (Some (lost_to first v.worker.proposal)) } in x)) same
 
-pub ends_as : {heap : HeapValue} {c : CollectionValue} {gives : ℕ → Place → Outcome → Type 0} {old new : ℕ → Option Place} {old_won new_won : List (ℕ × Place)} {name name' : ℕ} {place : Place} {o o' : Outcome} → name ≡ name' → o ≡ o' → Ends heap c gives old new old_won new_won name place o → Ends heap c gives old new old_won new_won name' place o'
-ends_as {heap = heap} {c = c} {gives = gives} {old = old} {new = new} {old_won = old_won} {new_won = new_won} {name = name} {name' = name'} {place = place} {o = o} {o' = o'} p q e =
-    subst (λ x. Ends heap c gives old new old_won new_won x place o') p (subst (λ x. Ends heap c gives old new old_won new_won name place x) q e)
+-- what a copy is raced for with, and a large object
+pub bid_copy : (o : Option Proposal) (claim : Place) (p : Proposed) → IsCopied o → IsProposed o p → IsBid claim o p.place
+bid_copy None claim p k h = absurd h
+bid_copy (Some (Copied copy d)) claim p k h = sym h.1
+bid_copy (Some (Claimed n)) claim p k h = absurd k
+
+pub bid_large : (o : Option Proposal) (claim bid : Place) → IsClaimed o → bid ≡ claim → IsBid claim o bid
+bid_large None claim bid k e = absurd k
+bid_large (Some (Copied copy d)) claim bid k e = absurd k
+bid_large (Some (Claimed n)) claim bid k e = e
+
+-- a large object is proposed for no destination
+pub claimed_none : (slots : List (Option BlockValue)) (p : Proposed) → IsClaimed (proposal_of slots (Some p)) → p.destination ≡ None
+claimed_none slots p k = go p.destination k
+  where
+    no : (name place d : ℕ) (o : Option Raw) → IsClaimed (copied_of name place d o) → ⊥
+    no name place d None h = h
+    no name place d (Some raw) h = h
+
+    go : (to : Option ℕ) → IsClaimed (proposal_at slots p to) → to ≡ None
+    go None h = refl
+    go (Some d) h = absurd (no (place_word p.name) (place_word p.place) d (unnoted (option_and_then (λ b. b) (slice_get slots d))) h)
 
 -- what is proposed is shown
 pub shown_of : {V N : WorkspaceValue} → V ≡ N → (slots : List (Option BlockValue)) (aside done : List BlockValue) (held : Option BlockValue) (o : Option Proposed) (p : Proposed) → V.worker.proposal ≡ proposal_of slots o → o ≡ Some p → AreNoted slots aside done held o → IsProposed N.worker.proposal p

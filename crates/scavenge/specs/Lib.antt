@@ -2,3 +2,4 @@
 pub mod Shown
 pub mod Told
 pub mod Slots
+pub mod Evacuates

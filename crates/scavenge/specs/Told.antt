@@ -57,6 +57,28 @@ abbrev pub name_of : Option Proposal → ℕ
 name_of None = 0
 name_of (Some p) = proposed_name p
 
+-- what is proposed is a copy
+abbrev pub IsCopied : Option Proposal → Type 0
+IsCopied None = ⊥
+IsCopied (Some (Copied copy d)) = Unit {0}
+IsCopied (Some (Claimed name)) = ⊥
+
+-- what is proposed is a large object
+abbrev pub IsClaimed : Option Proposal → Type 0
+IsClaimed None = ⊥
+IsClaimed (Some (Copied copy d)) = ⊥
+IsClaimed (Some (Claimed name)) = Unit {0}
+
+-- a worker raced for the object with this number: the cells said how it ended, and the worker went on so
+pub record RacesAt (number : ℕ) (gives : ℕ → Place → Outcome → Type 0) (old_known new_known : ℕ → Option Place) (old_won new_won : List (ℕ × Place)) (old new : WorkspaceValue) : Type 0 where
+  pub outcome : Outcome
+  pub bid : Place
+  pub fits : IsBid old.claim old.worker.proposal bid
+  pub given : gives number bid outcome
+  pub learns : Learns old_known new_known number (Some (place_after outcome bid))
+  pub won : RaceEnds (old_known number) old_won new_won number bid outcome
+  pub worker : new ≡ record old { worker = after_race old.worker (lost_of old.worker.proposal outcome) }
+
 -- a worker raced: the cells said how it ended, and the worker went on so
 pub record Races (heap : HeapValue) (c : CollectionValue) (gives : ℕ → Place → Outcome → Type 0) (old_known new_known : ℕ → Option Place) (old_won new_won : List (ℕ × Place)) (old new : WorkspaceValue) : Type 0 where
   pub outcome : Outcome

@@ -2,9 +2,9 @@
 #![tactic(auto)]
 
 mod bound;
+mod evacuate;
 mod hand;
 mod look;
-mod names;
 mod opening;
 mod proposed;
 mod racing;
@@ -12,6 +12,7 @@ mod slots;
 mod workspace;
 
 pub use bound::space_bound;
+pub use evacuate::Evacuated;
 pub use look::LookError;
 pub use proposed::Proposed;
 pub use workspace::{Parts, Workspace};

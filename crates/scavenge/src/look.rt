@@ -54,7 +54,7 @@ impl From<AllocError> for LookError {
 
 /// Where an object stands whose cell shows this place: a large object at its own.
 #[inline(always)]
-fn standing<A: Allocator + Clone>(
+pub(crate) fn standing<A: Allocator + Clone>(
     heap: &Heap<A>,
     name: Place,
     object: ObjectRef<'_>,
@@ -71,7 +71,8 @@ fn standing<A: Allocator + Clone>(
 
 impl<A: Allocator + Clone> Workspace<A> {
     /// What the current slot holds, where there is one.
-    fn slot(&self, heap: &Heap<A>) -> Option<Option<Place>>
+    #[inline(always)]
+    pub(crate) fn slot(&self, heap: &Heap<A>) -> Option<Option<Place>>
         requires closed { IsClosed heap.now.graph }
         requires places { NamesArePlaces heap.now.graph }
         requires proposal { self.now.worker.proposal ≡ None }
@@ -150,7 +151,7 @@ impl<A: Allocator + Clone> Workspace<A> {
 
     /// Puts a copy at the end of the block for its destination, where it fits, and proposes it.
     #[inline(always)]
-    fn copy(&mut self, heap: &Heap<A>, name: Place, object: ObjectRef<'_>, d: usize)
+    pub(crate) fn copy(&mut self, heap: &Heap<A>, name: Place, object: ObjectRef<'_>, d: usize)
         requires proposal { self.old.worker.proposal ≡ None }
         requires config { self.old.config ≡ heap.now.config }
         requires fits { fits_in (objects_of heap.now) (place_word name) (allocation_at self.old.worker d) ≡ true }
@@ -214,7 +215,7 @@ impl<A: Allocator + Clone> Workspace<A> {
 
     /// What stands at the current slot's target, where an object does.
     #[inline(always)]
-    fn target<'a>(
+    pub(crate) fn target<'a>(
         &self,
         heap: &'a Heap<A>,
         collection: &Collection<A>,

@@ -204,7 +204,8 @@ impl<A: Allocator> Workspace<A> {
 
     /// The current object is scanned, where it is one of a block in hand that has another unscanned behind it: tells whether
     /// it is. An error says that memory ran out, and changes nothing.
-    fn scan_on(&mut self) -> Result<bool, AllocError>
+    #[inline(always)]
+    pub fn scan_on(&mut self) -> Result<bool, AllocError>
         requires proposal { self.old.worker.proposal ≡ None }
         requires hand { CanPass self.old.worker self.old.worker.hand }
         ensures some { result ≡ Ok true → self.new ≡ record self.old { worker = after_scan self.old.worker } }

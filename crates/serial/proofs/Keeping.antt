@@ -77,3 +77,9 @@ scan_won w = hand (log_scan w (current_object w)) w.hand ∙ log (current_object
 pub either : {X E : Type 0} (v : SerialValue) (r : Result X E) (new next : WorkspaceValue) → IsSerial v → OnOk r (new ≡ next) → OnErr r (new ≡ v.workspace) → (new ≡ next → IsSerial (record v { workspace = new })) → IsSerial (record v { workspace = new })
 either v (Ok x) new next k ok err f = f ok
 either v (Err e) new next k ok err f = subst (λ (w : WorkspaceValue). IsSerial (record v { workspace = w })) (sym err) k
+
+-- the call did something, or changed nothing
+pub either_or : {E : Type 0} (v : SerialValue) (r : Result Bool E) (new next : WorkspaceValue) → IsSerial v → (r ≡ Ok true → new ≡ next) → (r ≡ Ok false → new ≡ v.workspace) → OnErr r (new ≡ v.workspace) → (new ≡ next → IsSerial (record v { workspace = new })) → IsSerial (record v { workspace = new })
+either_or v (Ok true) new next k some none err f = f (some refl)
+either_or v (Ok false) new next k some none err f = subst (λ (w : WorkspaceValue). IsSerial (record v { workspace = w })) (sym (none refl)) k
+either_or v (Err e) new next k some none err f = subst (λ (w : WorkspaceValue). IsSerial (record v { workspace = w })) (sym err) k

@@ -4,6 +4,7 @@ pub mod Drawn
 pub mod Keeping
 pub mod LaneSteps
 pub mod Looked
+mod Evacuation
 pub mod OpenBlocks
 pub mod Raced
 pub mod Readiness

@@ -187,7 +187,7 @@ module _ (v : SerialValue) (k : IsSerial v) where
 
     module _ (cells : PlainCellsValue) (same_cells : cells ≡ v.cells) (draws : SeatValue) (new : WorkspaceValue) (fits : IsFit cells pass) (seat : IsSeatOf v.claims.source draws)
         (fresh : (n : ℕ) → draws.drawn ≡ v.draws.drawn ++ n ∷ [] → Contains v.claims.source.free n × (Contains v.draws.drawn n → ⊥)) where
-      stands : new ≡ v.workspace → IsSerial (turned v cells pass draws new)
+      pub stands : new ≡ v.workspace → IsSerial (turned v cells pass draws new)
       stands same =
           subst (λ (cs : PlainCellsValue). IsSerial (turned v cs pass draws new)) (sym same_cells)
           (subst (λ (w : WorkspaceValue). IsSerial (turned v v.cells pass draws w)) (sym same) (stood pass draws (subst (λ (cs : PlainCellsValue). IsFit cs pass) same_cells fits) seat))
@@ -204,6 +204,9 @@ module _ (v : SerialValue) (k : IsSerial v) where
     -- the slot in the heap and the collection that are passed is the worker's
     same_slot : Slot heap c ≡ Slot v.heap v.collection
     same_slot = ap (λ h. Slot h c) same_heap ∙ ap (Slot v.heap) same_collection
+
+    pub slot_here : Slot heap c ≡ current_slot (setting_in v) worker
+    slot_here = same_slot
 
     pub can_look : worker.proposal ≡ None → IsSome (Slot heap c) → CanLook (setting_in v) worker
     can_look none some = record { no_proposal = none; slot = subst IsSome same_slot some }

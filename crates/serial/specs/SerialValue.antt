@@ -1,5 +1,5 @@
 -- A collection by one worker, as its calls see it, and as a system of workers.
-use Rattle.std.specs.Prelude.{◌≡◌, ℕ, zero, suc, true, false, List, [], ◌∷◌, ◌++◌, map, length, drop, refl}
+use Rattle.std.specs.Prelude.{◌≡◌, ℕ, zero, suc, true, false, List, [], ◌∷◌, ◌++◌, map, length, drop, IsSome, refl}
 use Rattle.std.specs.Coded.{Coded, code_by, coded×, coded_ℕ}
 use Rattle.model.specs.Destination.{Shape, dest_count}
 use Rattle.block_pool.specs.BlockValue.{BlockValue}
@@ -13,7 +13,7 @@ use Rattle.plain_queues.specs.PlainValue.{PlainLane, lane_at}
 use Rattle.plain_queues.specs.PlainValue.{PlainValue as PlainQueuesValue}
 use Rattle.copies.specs.Handed.{CopiesKeyValue}
 use Rattle.workers.specs.Setting.{Setting, setting_of}
-use Rattle.workers.specs.System.{System, Event, cell_of, without_number}
+use Rattle.workers.specs.System.{System, Event, Look, Race, cell_of, without_number}
 use Rattle.workers.specs.WorkerSteps.{cell_wanted, draw_wanted}
 use Rattle.workers.specs.Steps.{Step}
 use Rattle.to_space.specs.Named.{named}
@@ -88,6 +88,13 @@ pub record Goes (event : Event) (old new : SerialValue) : Type 0 where
   pub heap : new.heap ≡ old.heap
   pub collection : new.collection ≡ old.collection
   pub step : Step (setting_in old) (system_of old) event (system_of new)
+
+-- a look came, and at once the race for what it proposed
+pub record LooksThenRaces (old new : SerialValue) : Type 0 where
+  pub between : SerialValue
+  pub looks : Goes (Look 0) old between
+  pub proposed : IsSome between.workspace.worker.proposal
+  pub races : Goes (Race 0) between new
 
 -- nothing came, and the system is as it was
 pub record Stays (old new : SerialValue) : Type 0 where

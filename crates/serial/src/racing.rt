@@ -2,11 +2,12 @@
 ghost use Rattle.std.specs.Prelude.{◌≡◌, ◌↔◌, true, false, None, Ok, Err, IsSome, OnOk, OnErr};
 ghost use Rattle.workers.specs.WorkerSteps.{current_slot};
 ghost use Rattle.workers.specs.System.{Look, Race};
-ghost use Rattle.serial.specs.SerialValue.{Goes, Stays, WantsDraw, setting_in};
+ghost use Rattle.scavenge.specs.declared.evacuate.Evacuated.TheVariants.{Left, NoSlot, Looked, Raced};
+ghost use Rattle.serial.specs.SerialValue.{Goes, Stays, LooksThenRaces, WantsDraw, setting_in};
 
 use crate::serial::SerialCollection;
 use heap::{Collection, Heap};
-use scavenge::LookError;
+use scavenge::{Evacuated, LookError};
 use std::alloc::{AllocError, Allocator};
 
 impl<A: Allocator + Clone> SerialCollection<A> {
@@ -48,5 +49,24 @@ impl<A: Allocator + Clone> SerialCollection<A> {
     {
         self.workspace
             .race(heap, collection, &mut self.cells, &mut self.pass)
+    }
+
+    /// Looks at the current slot, where no block is wanted for it, and races at once for a copy that this proposes. What it
+    /// leaves is left to `look`.
+    #[inline(always)]
+    pub fn evacuate(&mut self, heap: &Heap<A>, collection: &Collection<A>) -> Evacuated
+        requires heap { heap.now ≡ self.old.heap }
+        requires collection { collection.now ≡ self.old.collection }
+        requires proposal { self.old.workspace.worker.proposal ≡ None }
+        ensures left { result ≡ Left → Stays self.old self.new }
+        ensures none { result ≡ NoSlot → Stays self.old self.new }
+        ensures no_slot { result ≡ NoSlot → current_slot (setting_in self.new) self.new.workspace.worker ≡ None }
+        ensures looked_slot { result ≡ Looked → IsSome (current_slot (setting_in self.old) self.old.workspace.worker) }
+        ensures looked { result ≡ Looked → Goes (Look 0) self.old self.new }
+        ensures raced_slot { result ≡ Raced → IsSome (current_slot (setting_in self.old) self.old.workspace.worker) }
+        ensures raced { result ≡ Raced → LooksThenRaces self.old self.new }
+    {
+        self.workspace
+            .evacuate(heap, collection, &mut self.cells, &mut self.pass)
     }
 }

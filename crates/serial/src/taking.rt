@@ -1,5 +1,5 @@
 //! What the worker takes in hand, and scans.
-ghost use Rattle.std.specs.Prelude.{◌≡◌, ◌≢◌, [], true, OnOk, OnErr};
+ghost use Rattle.std.specs.Prelude.{◌≡◌, ◌≢◌, [], true, false, Ok, OnOk, OnErr};
 ghost use Rattle.workers.specs.WorkerSteps.{CanScan, IsFree, has_open_work};
 ghost use Rattle.workers.specs.System.{Own, OwnLarge, Scan};
 ghost use Rattle.serial.specs.SerialValue.{Goes, setting_in};
@@ -33,5 +33,17 @@ impl<A: Allocator> SerialCollection<A> {
         ensures err { OnErr result (self.new ≡ self.old) }
     {
         self.workspace.scan()
+    }
+
+    /// The current object is scanned, where it is one of a block in hand that has another unscanned behind it: tells whether
+    /// it is. An error says that memory ran out, and changes nothing.
+    #[inline(always)]
+    pub fn scan_on(&mut self) -> Result<bool, AllocError>
+        requires can { CanScan (setting_in self.old) self.old.workspace.worker }
+        ensures some { result ≡ Ok true → Goes (Scan 0) self.old self.new }
+        ensures none { result ≡ Ok false → self.new ≡ self.old }
+        ensures err { OnErr result (self.new ≡ self.old) }
+    {
+        self.workspace.scan_on()
     }
 }

@@ -1,5 +1,6 @@
 -- What lasts from event to event, and what each makes less.
-use Rattle.std.proofs.Common.{◌≡◌, ℕ, ◌+◌, ◌<◌, ◌≤◌, Bool, true, cond, nat_eq, List, [], ◌∷◌, map, Option, Some, None, refl, sym, ap, subst, ◌∙◌, arith}
+use Rattle.std.proofs.Common.{◌≡◌, ◌≢◌, ℕ, ◌+◌, ◌<◌, ◌≤◌, Bool, true, false, cond, nat_eq, List, [], ◌∷◌, map, Option, Some, None, Result, Ok, Err, refl, sym, ap, subst, ◌∙◌, arith}
+use Rattle.std.specs.Prelude.{IsSome, OnErr}
 use Rattle.claims.specs.Drawn.{times_in}
 use Rattle.claims.proofs.ClaimLemmas.{IsDistinct-rising, times-distinct}
 use Rattle.heap_data.specs.HeapValue.{HeapValue}
@@ -17,10 +18,11 @@ use Rattle.workers.specs.Measure.{measure, young_names_of, IsWake}
 use Rattle.workers.specs.Finish.{Stepped, IsReached}
 use Rattle.workers.proofs.OneMore.{stepped_more, stepped_run}
 use Rattle.workers.proofs.Reached.{reached_falls, young_covers}
-use Rattle.serial.specs.SerialValue.{SerialValue, Goes, Stays, WantsDraw, system_of, setting_in, targets_in, destinations_in}
+use Rattle.serial.specs.SerialValue.{SerialValue, Goes, Stays, LooksThenRaces, WantsDraw, system_of, setting_in, targets_in, destinations_in}
 use Rattle.serial.specs.IsSerial.{IsReadyToCollect}
 use Rattle.serial.proofs.Readiness.{room_of}
-use Rattle.serial_steps.specs.Stepping.{IsOf, GoesOn, IsFull, HasStepped}
+use Rattle.serial_steps.proofs.Order.{next_look, next_race, next_scan}
+use Rattle.serial_steps.specs.Stepping.{IsOf, GoesOn, IsDone, IsFull, HasStepped, left_to_do}
 
 same_times : (n : ℕ) (xs : List ℕ) → times n xs ≡ times_in n xs
 same_times n [] = refl
@@ -109,10 +111,6 @@ no_wake setting w queue = race w.proposal
 some_same : {X : Type 0} {x y : X} → Some x ≡ Some y → x ≡ y
 some_same {x = x} {y = y} e = cc
 
--- how much is left to do
-abbrev pub left_to_do : SerialValue → ℕ
-left_to_do v = measure (setting_in v) (young_names_of v.heap.graph v.collection.generation) (system_of v)
-
 pub less_left : (old new : SerialValue) → IsReadyToCollect old.heap old.collection → HasStepped old → GoesOn old new → left_to_do new < left_to_do old
 less_left old new ready h g =
     subst (λ heap. Left heap new.collection (system_of new) < left_to_do old) (sym g.goes.heap) (subst (λ c. Left old.heap c (system_of new) < left_to_do old) (sym g.goes.collection)
@@ -122,3 +120,52 @@ less_left old new ready h g =
   where
     Left : HeapValue → CollectionValue → System → ℕ
     Left heap c s = measure (setting_of heap.graph c.generation heap.config.shape heap.config.block_words 1) (young_names_of heap.graph c.generation) s
+
+-- one event more, and less is left
+pub went : (old new : SerialValue) → IsReadyToCollect old.heap old.collection → HasStepped old → GoesOn old new → HasStepped new × (left_to_do new < left_to_do old)
+went old new ready h g = (one_more old new h g, less_left old new ready h g)
+
+pub went_look : (old new : SerialValue) → IsReadyToCollect old.heap old.collection → HasStepped old → old.workspace.worker.proposal ≡ None → IsSome (current_slot (setting_in old) old.workspace.worker) → Goes (Look 0) old new → HasStepped new × (left_to_do new < left_to_do old)
+went_look old new ready h none slot g = went old new ready h (record { event = Look 0; is_next = ap Some (next_look (setting_in old) old.workspace.worker _ none slot); goes = g })
+
+pub went_scan : (old new : SerialValue) → IsReadyToCollect old.heap old.collection → HasStepped old → old.workspace.worker.proposal ≡ None → current_slot (setting_in old) old.workspace.worker ≡ None → old.workspace.worker.hand ≢ Nothing → Goes (Scan 0) old new → HasStepped new × (left_to_do new < left_to_do old)
+went_scan old new ready h none no_slot hand g = went old new ready h (record { event = Scan 0; is_next = ap Some (next_scan (setting_in old) old.workspace.worker _ none no_slot hand); goes = g })
+
+-- the heap and the collection last
+pub ready_still : (old new : SerialValue) → new.heap ≡ old.heap → new.collection ≡ old.collection → IsReadyToCollect old.heap old.collection → IsReadyToCollect new.heap new.collection
+ready_still old new h d ready = subst (λ heap. IsReadyToCollect heap new.collection) (sym h) (subst (IsReadyToCollect old.heap) (sym d) ready)
+
+pub went_twice : (old new : SerialValue) → IsReadyToCollect old.heap old.collection → HasStepped old → old.workspace.worker.proposal ≡ None → IsSome (current_slot (setting_in old) old.workspace.worker) → LooksThenRaces old new → HasStepped new × (left_to_do new < left_to_do old)
+went_twice old new ready h none slot g =
+    let a = went_look old g.between ready h none slot g.looks in
+    let b = went g.between new (ready_still old g.between g.looks.heap g.looks.collection ready) a.0 (record { event = Race 0; is_next = ap Some (next_race (setting_in g.between) g.between.workspace.worker _ g.proposed); goes = g.races }) in
+    (b.0, omega (arith, a.1, b.1))
+
+-- nothing came
+pub worker_still : (old new : SerialValue) → Stays old new → new.workspace.worker ≡ old.workspace.worker
+worker_still old new g = only (ap (λ (s : System). s.workers) g.system)
+
+pub left_still : (old new : SerialValue) → Stays old new → left_to_do new ≡ left_to_do old
+left_still old new g = ap (λ heap. Left heap new.collection (system_of new)) g.heap ∙ ap (λ c. Left old.heap c (system_of new)) g.collection ∙ ap (Left old.heap old.collection) g.system
+  where
+    Left : HeapValue → CollectionValue → System → ℕ
+    Left heap c s = measure (setting_of heap.graph c.generation heap.config.shape heap.config.block_words 1) (young_names_of heap.graph c.generation) s
+
+-- a scan after nothing
+pub went_still_scan : (old between new : SerialValue) → IsReadyToCollect old.heap old.collection → HasStepped old → Stays old between → old.workspace.worker.proposal ≡ None → current_slot (setting_in between) between.workspace.worker ≡ None → between.workspace.worker.hand ≢ Nothing → Goes (Scan 0) between new
+    → HasStepped new × (left_to_do new < left_to_do old)
+went_still_scan old between new ready h s none no_slot hand g =
+    let a = went_scan between new (ready_still old between s.heap s.collection ready) (none_more old between h s) (ap (λ (w : Worker). w.proposal) (worker_still old between s) ∙ none) no_slot hand g in
+    let l = left_still old between s in
+    (a.0, omega (arith, a.1, l))
+
+-- the call's answer: something came, or nothing
+pub stepped_or : {E : Type 0} (r : Result Bool E) (between new : SerialValue) → (r ≡ Ok true → HasStepped new) → (r ≡ Ok false → new ≡ between) → OnErr r (new ≡ between) → HasStepped between → HasStepped new
+stepped_or (Ok true) between new some none err h = some refl
+stepped_or (Ok false) between new some none err h = subst HasStepped (sym (none refl)) h
+stepped_or (Err e) between new some none err h = subst HasStepped (sym err) h
+
+pub stepped_on : {E : Type 0} (r : Result Bool E) (between new : SerialValue) → (r ≡ Ok true → GoesOn between new) → (r ≡ Ok false → IsDone between × (new ≡ between)) → OnErr r (Stays between new) → HasStepped between → HasStepped new
+stepped_on (Ok true) between new some none err h = one_more between new h (some refl)
+stepped_on (Ok false) between new some none err h = subst HasStepped (sym (none refl).1) h
+stepped_on (Err e) between new some none err h = none_more between new h err

@@ -1,2 +1,2 @@
-pub mod Going
 mod Order
+pub mod Going

@@ -7,6 +7,7 @@ use Rattle.workers.specs.WorkerSteps.{IsOutOfWork, current_slot}
 use Rattle.workers.specs.System.{Event, opening}
 use Rattle.workers.specs.Lawful.{next_alone}
 use Rattle.workers.specs.Finish.{Stepped}
+use Rattle.workers.specs.Measure.{measure, young_names_of}
 use Rattle.serial.specs.SerialValue.{SerialValue, Goes, WantsDraw, lane_of, waiting_in, setting_in, system_of, targets_in, destinations_in}
 
 -- the collection is one of this heap
@@ -40,3 +41,7 @@ pub record IsFull (old new : SerialValue) : Type 0 where
 pub record HasStepped (v : SerialValue) : Type 0 where
   pub count : ℕ
   pub run : Stepped (setting_in v) (next_alone (setting_in v)) (opening (destinations_in v) 1 (targets_in v) v.heap.free) count (system_of v)
+
+-- how much is left to do: each event makes it less
+abbrev pub left_to_do : SerialValue → ℕ
+left_to_do v = measure (setting_in v) (young_names_of v.heap.graph v.collection.generation) (system_of v)

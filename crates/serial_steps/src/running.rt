@@ -1,13 +1,83 @@
 //! One event after another.
-ghost use Rattle.std.specs.Prelude.{◌≡◌, Err, OnOk, OnErr};
+ghost use Rattle.std.specs.Prelude.{◌≡◌, ◌<◌, ◌≤◌, true, false, Ok, Err, OnOk, OnErr};
 ghost use Rattle.serial.specs.IsSerial.{IsReadyToCollect};
-ghost use Rattle.serial_steps.specs.Stepping.{IsOf, IsDone, IsFull, HasStepped};
+ghost use Rattle.serial_steps.specs.Stepping.{IsOf, IsDone, IsFull, HasStepped, left_to_do};
 
 use crate::events::step;
 use heap::{Collection, Heap};
-use scavenge::LookError;
+use scavenge::{Evacuated, LookError};
 use serial::SerialCollection;
-use std::alloc::Allocator;
+use std::alloc::{AllocError, Allocator};
+
+/// The next events, where they want neither a block nor the queue: a look with the race for what it proposes, or a scan.
+/// Tells whether there were some.
+#[inline(always)]
+fn advance<A: Allocator + Clone>(
+    heap: &Heap<A>,
+    collection: &Collection<A>,
+    serial: &mut SerialCollection<A>,
+) -> Result<bool, AllocError>
+    requires ready { IsReadyToCollect heap.now collection.now }
+    requires same { IsOf heap.now collection.now serial.old }
+    requires stepped { HasStepped serial.old }
+    ensures same { IsOf heap.now collection.now serial.new }
+    ensures stepped { HasStepped serial.new }
+    ensures some { result ≡ Ok true → left_to_do serial.new < left_to_do serial.old }
+    ensures none { result ≡ Ok false → left_to_do serial.new ≤ left_to_do serial.old }
+    ensures err { OnErr result (left_to_do serial.new ≤ left_to_do serial.old) }
+{
+    if serial.has_proposal() {
+        return Ok(false);
+    }
+    match serial.evacuate(heap, collection) {
+        Evacuated::Left => Ok(false),
+        Evacuated::NoSlot => {
+            if serial.has_hand() {
+                serial.scan_on()
+            } else {
+                Ok(false)
+            }
+        }
+        Evacuated::Looked | Evacuated::Raced => Ok(true),
+    }
+}
+
+/// Goes on while the next events want neither a block nor the queue.
+fn run_on<A: Allocator + Clone>(
+    heap: &Heap<A>,
+    collection: &Collection<A>,
+    serial: &mut SerialCollection<A>,
+) -> Result<(), AllocError>
+    requires ready { IsReadyToCollect heap.now collection.now }
+    requires same { IsOf heap.now collection.now serial.old }
+    requires stepped { HasStepped serial.old }
+    ensures same { IsOf heap.now collection.now serial.new }
+    ensures stepped { HasStepped serial.new }
+    ensures less { left_to_do serial.new ≤ left_to_do serial.old }
+{
+    while advance(heap, collection, serial)? {}
+    Ok(())
+}
+
+/// Goes on so, and then the next event. Tells whether there was one.
+fn go_far<A: Allocator + Clone>(
+    alloc: A,
+    heap: &Heap<A>,
+    collection: &Collection<A>,
+    serial: &mut SerialCollection<A>,
+) -> Result<bool, LookError>
+    requires ready { IsReadyToCollect heap.now collection.now }
+    requires same { IsOf heap.now collection.now serial.old }
+    requires stepped { HasStepped serial.old }
+    ensures same { IsOf heap.now collection.now serial.new }
+    ensures stepped { HasStepped serial.new }
+    ensures some { result ≡ Ok true → left_to_do serial.new < left_to_do serial.old }
+    ensures none { result ≡ Ok false → IsDone serial.new }
+    ensures full { result ≡ Err LookError.HeapFull → IsFull serial.new serial.new }
+{
+    run_on(heap, collection, serial)?;
+    step(alloc, heap, collection, serial)
+}
 
 /// Carries the collection on until nothing is left to do.
 pub fn run_to_end<A: Allocator + Clone>(
@@ -24,6 +94,6 @@ pub fn run_to_end<A: Allocator + Clone>(
     ensures ok { OnOk result (IsDone serial.new) }
     ensures full { result ≡ Err LookError.HeapFull → IsFull serial.new serial.new }
 {
-    while step(alloc.clone()?, heap, collection, serial)? {}
+    while go_far(alloc.clone()?, heap, collection, serial)? {}
     Ok(())
 }

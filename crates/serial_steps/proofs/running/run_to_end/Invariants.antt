@@ -1,6 +1,5 @@
 use Rattle.std.proofs.Common.{◌≡◌}
-use Rattle.serial_steps.specs.Stepping.{IsOf, HasStepped}
-use Rattle.serial_steps.proofs.Going.{left_to_do}
+use Rattle.serial_steps.specs.Stepping.{IsOf, HasStepped, left_to_do}
 use Rattle.serial_steps.proofs.running.run_to_end.Given as goal
 
 abbrev pub invariant-loop-alloc : goal.invariant-loop-alloc

@@ -1,0 +1,19 @@
+use Rattle.std.proofs.Common.{◌≡◌, Result, Ok, Err, sym, subst}
+use Rattle.std.specs.Prelude.{OnOk, OnErr}
+use Rattle.workers.specs.WorkerSteps.{CanScan, after_scan}
+use Rattle.workers.specs.WorkerRun.{Scanned}
+use Rattle.scavenge.specs.Shown.{WorkspaceValue}
+use Rattle.serial.specs.SerialValue.{SerialValue, setting_in}
+use Rattle.serial.specs.IsSerial.{IsSerial}
+use Rattle.serial.proofs.Keeping.{acted_alone, scan_won, either_or}
+use Rattle.serial.proofs.Readiness.{ready_of}
+use Rattle.serial.proofs.serial.SerialCollection.scan_on.Goals as goal
+
+pub scan_on-requires-clause-hand : goal.scan_on-requires-clause-hand
+scan_on-requires-clause-hand g c =
+    (ready_of _ c.self.invariant).scan (subst (λ (v : SerialValue). CanScan (setting_in v) v.workspace.worker) (sym c.self.view_is) c.requires.can)
+
+pub invariant_of-self : goal.invariant_of-self
+invariant_of-self g c =
+    either_or _ c.scan_on.result c.scan_on.new.self (record c.self.inside.workspace { worker = after_scan c.self.inside.workspace.worker }) c.self.invariant c.scan_on.ensures.some c.scan_on.ensures.none c.scan_on.ensures.err
+    (λ is. acted_alone _ Scanned c.scan_on.new.self c.self.invariant (subst (λ (v : SerialValue). CanScan (setting_in v) v.workspace.worker) (sym c.self.view_is) c.requires.can) is (scan_won c.self.inside.workspace.worker) (λ h t. t))
