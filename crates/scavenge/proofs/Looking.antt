@@ -12,10 +12,10 @@ use Rattle.heap.specs.HeapValue.{HeapValue}
 use Rattle.heap.specs.CollectionValue.{CollectionValue}
 use Rattle.workers.specs.Setting.{is_collected}
 use Rattle.workers.specs.Worker.{Worker}
-use Rattle.workers.specs.WorkerSteps.{current_slot, cell_wanted, collected_target, draw_at, after_look, look_slot, look_at, finish_slot, draws_for}
+use Rattle.workers.specs.WorkerSteps.{current_slot, cell_wanted, collected_target, draw_at, after_look, look_slot, look_at, finish_slot}
 use Rattle.scavenge.specs.Shown.{WorkspaceValue}
 use Rattle.scavenge.specs.Told.{Tells}
-use Rattle.scavenge.specs.Slots.{seen, objects_of, Looks, WantsBlock, Proposes, IsTold, cell_of, seat_after}
+use Rattle.scavenge.specs.Slots.{seen, objects_of, Looks, Proposes, IsTold, cell_of, seat_after}
 
 pub on_ok : {A E P Q : Type 0} (r : Result A E) → (P → Q) → OnOk r P → OnOk r Q
 on_ok (Ok x) f p = f p

@@ -16,6 +16,7 @@ use Rattle.workers.specs.Worker.{Proposal}
 use Rattle.workers.specs.Joined.{OnSome}
 use Rattle.to_space.specs.Fronts.{slot_at}
 use Rattle.scavenge.specs.Shown.{WorkspaceValue, IsNoted, IsUnscanned, CanPass, slots_of}
+use Rattle.scavenge.specs.Evacuates.{has_another}
 use Rattle.scavenge.proofs.Fields.{slots-get}
 
 named-length : (number offset : ℕ) (origins : List ℕ) (raws : List Raw) → length raws ≡ length origins → length (named_copies number offset origins raws) ≡ length raws
@@ -23,6 +24,10 @@ named-length number offset [] [] e = refl
 named-length number offset [] (r ∷ raws) e = absurd (omega arith)
 named-length number offset (o ∷ origins) [] e = refl
 named-length number offset (o ∷ origins) (r ∷ raws) e = ap suc (named-length number (offset + raw_size r) origins raws (omega arith))
+
+-- what is behind the first unscanned is seen alike
+pub another_named : (shape : Shape) (b : BlockValue) → IsNoted 0 b → has_another (Holding (named shape b)) ≡ nat_lt (b.front + 1) (length b.objects)
+another_named shape b n = ap (nat_lt (b.front + 1)) (named-length b.number 0 b.origins b.objects (omega (arith, n.count)))
 
 -- the copy at an ordinal, and its place
 pub record Standing (cs : List Copy) (k place : ℕ) : Type 0 where

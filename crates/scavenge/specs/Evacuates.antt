@@ -1,16 +1,41 @@
 -- What a worker does that looks and races at once.
-use Rattle.std.specs.Prelude.{◌≡◌, ℕ, List, Option, Some, IsSome}
+use Rattle.std.specs.Prelude.{◌≡◌, ◌≢◌, ℕ, ◌+◌, Bool, true, false, List, [], length, nat_lt, Option, Some, None, IsSome, ◌⊎◌}
 use Rattle.layout.specs.declared.place.Place.{Place}
 use Rattle.block_pool.specs.ClaimsValue.{SeatValue}
 use Rattle.cells.specs.declared.outcome.Outcome.{Outcome}
 use Rattle.heap.specs.HeapValue.{HeapValue}
 use Rattle.heap.specs.CollectionValue.{CollectionValue}
 use Rattle.workers.specs.Block.{Block}
-use Rattle.workers.specs.Setting.{Setting, copy_into}
-use Rattle.workers.specs.Worker.{Copied, allocation_at}
+use Rattle.workers.specs.Setting.{Setting, copy_into, is_large_name}
+use Rattle.workers.specs.Worker.{Worker, Copied, Hand, Nothing, Open, Holding, HoldingLarge, allocation_at}
+use Rattle.workers.specs.WorkerSteps.{current_slot, draws_for}
 use Rattle.scavenge.specs.Shown.{WorkspaceValue}
-use Rattle.scavenge.specs.Slots.{Proposes, Looks}
-use Rattle.scavenge.specs.Told.{Races}
+use Rattle.scavenge.specs.Slots.{seen, objects_of, Proposes, Looks}
+use Rattle.scavenge.specs.Told.{IsNumberOf, Races}
+
+-- a copy of the object can't go where the last copies stand: it is large, or a block is wanted for it
+abbrev pub WantsMore : Setting → Worker → ℕ → Type 0
+WantsMore setting w name = (is_large_name setting name ≡ true) ⊎ (draws_for setting w name ≡ true)
+
+-- the current slot's object has no copy yet, and its copy can't go there
+pub record IsUncopied (heap : HeapValue) (c : CollectionValue) (gives : ℕ → Option Place → Type 0) (w : Worker) : Type 0 where
+  pub name : ℕ
+  pub number : ℕ
+  pub slot : current_slot (seen heap c) w ≡ Some (Some name)
+  pub of : IsNumberOf heap c name number
+  pub given : gives number None
+  pub wants : WantsMore (objects_of heap) w name
+
+-- a slot that is left to a look: one of the start list, or of an object that needs more
+abbrev pub IsLeft : HeapValue → CollectionValue → (ℕ → Option Place → Type 0) → Worker → Type 0
+IsLeft heap c gives w = (w.starts ≢ []) ⊎ IsUncopied heap c gives w
+
+-- whether a block is in hand in which another object is unscanned behind the first one
+abbrev pub has_another : Hand → Bool
+has_another Nothing = false
+has_another (Open d) = false
+has_another (Holding block) = nat_lt (block.front + 1) (length block.copies)
+has_another (HoldingLarge name) = false
 
 -- a copy of the object with this name was proposed, at the end of the block that stood there: none was drawn
 pub record ProposesThere (setting : Setting) (name : ℕ) (old new : WorkspaceValue) : Type 0 where

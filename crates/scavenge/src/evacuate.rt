@@ -12,7 +12,7 @@ ghost use Rattle.heap.specs.NamesArePlaces.{NamesArePlaces};
 ghost use Rattle.workers.specs.WorkerSteps.{current_slot};
 ghost use Rattle.scavenge.specs.Shown.{CanFinish};
 ghost use Rattle.scavenge.specs.Slots.{seen, objects_of, IsUntouched, HasRoomFor, Looks};
-ghost use Rattle.scavenge.specs.Evacuates.{ProposesThere, LooksAndRaces};
+ghost use Rattle.scavenge.specs.Evacuates.{WantsMore, IsLeft, ProposesThere, LooksAndRaces};
 ghost use Rattle.scavenge.specs.declared.evacuate.Evacuated.TheVariants.{Left, NoSlot, Looked, Raced};
 
 use crate::look::standing;
@@ -47,6 +47,7 @@ impl<A: Allocator + Clone> Workspace<A> {
         requires stands { Some (step_pair found.at) ≡ option_map stands_at (object_at heap.now.graph (place_word name)) }
         ensures proposed { result ≡ true → ProposesThere (objects_of heap.now) (place_word name) self.old self.new }
         ensures none { result ≡ false → self.new ≡ self.old }
+        ensures wants { result ≡ false → WantsMore (objects_of heap.now) self.old.worker (place_word name) }
     {
         let size = found.object.size() as usize;
         if size > self.config.block_words() / 4 {
@@ -61,8 +62,9 @@ impl<A: Allocator + Clone> Workspace<A> {
         true
     }
 
-    /// Looks at the current slot, where there is one and no block is wanted for it. Where its object has no copy yet and is
-    /// small, a copy is made and raced for at once. Otherwise this is what `look` does, and what it leaves is left to `look`.
+    /// Looks at the current slot of what is in hand, where no block is wanted for it: what `look` does, and where a small object
+    /// has no copy yet, the race for its copy at once. It leaves to `look` the start list, large objects, and copies that don't
+    /// fit where the last ones stand.
     #[inline(always)]
     pub fn evacuate<C: Cells>(
         &mut self,
@@ -90,6 +92,7 @@ impl<A: Allocator + Clone> Workspace<A> {
         ensures cells { result ≢ Raced → cells.new ≡ cells.old }
         ensures won { result ≢ Raced → C.won pass.new ≡ C.won pass.old }
         ensures left { result ≡ Left → self.new ≡ self.old }
+        ensures left_why { result ≡ Left → IsLeft heap.now collection.now (C.look_gives cells.old) self.old.worker }
         ensures none { result ≡ NoSlot → self.new ≡ self.old }
         ensures no_slot { result ≡ NoSlot → current_slot (seen heap.now collection.now) self.old.worker ≡ None }
         ensures looked_slot { result ≡ Looked → IsSome (current_slot (seen heap.now collection.now) self.old.worker) }
@@ -97,6 +100,9 @@ impl<A: Allocator + Clone> Workspace<A> {
         ensures looked { result ≡ Looked → (seat : SeatValue) → Looks heap.now collection.now (C.look_gives cells.old) (C.known pass.old) (C.known pass.new) seat seat self.old self.new }
         ensures raced { result ≡ Raced → LooksAndRaces heap.now collection.now (C.fits cells.old) C.known C.won (C.look_gives cells.old) (λ number at outcome. C.race_gives cells.old number at outcome cells.new) pass.old pass.new self.old self.new }
     {
+        if !self.is_started() {
+            return Evacuated::Left;
+        }
         let Some(target) = self.slot(heap) else {
             return Evacuated::NoSlot;
         };
@@ -104,9 +110,7 @@ impl<A: Allocator + Clone> Workspace<A> {
             self.finish(None);
             return Evacuated::Looked;
         };
-        let Some(found) = self.target(heap, collection, name) else {
-            return Evacuated::Left;
-        };
+        let found = heap.find_there(collection, name);
         let Some(number) = found.number else {
             self.finish(Some(name));
             return Evacuated::Looked;

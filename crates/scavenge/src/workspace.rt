@@ -12,6 +12,7 @@ ghost use Rattle.layout.specs.Place.{place_word, IsLargeAt};
 ghost use Rattle.to_space.specs.Named.{named, IsWhole};
 ghost use Rattle.to_space.specs.Fronts.{slot_at};
 ghost use Rattle.scavenge.specs.Shown.{Begins, CanFinish, CanPass, pair_of};
+ghost use Rattle.scavenge.specs.Evacuates.{has_another};
 
 use crate::hand::Hand;
 use crate::opening::{destination_count, every_target};
@@ -210,6 +211,7 @@ impl<A: Allocator> Workspace<A> {
         requires hand { CanPass self.old.worker self.old.worker.hand }
         ensures some { result ≡ Ok true → self.new ≡ record self.old { worker = after_scan self.old.worker } }
         ensures none { result ≡ Ok false → self.new ≡ self.old }
+        ensures which { IfOk result (λ some. some ≡ has_another self.old.worker.hand) }
         ensures err { OnErr result (self.new ≡ self.old) }
     {
         self.scanned.reserve(1)?;

@@ -1,18 +1,13 @@
 -- A collection by one worker before its first event.
-use Rattle.std.proofs.Common.{◌≡◌, ℕ, zero, suc, ◌+◌, ◌<◌, ◌≤◌, List, [], ◌∷◌, length, map, replicate, Option, Some, None, refl, sym, ap, subst, ◌∙◌, arith, nat_eq}
-use Rattle.std.specs.Prelude.{All, slice_index, slice_index_or, slice_get}
-use Rattle.std.specs.List.{IsDistinct, range_with_len}
-use Rattle.std.specs.Option.{option_map}
+use Rattle.std.proofs.Common.{◌≡◌, ℕ, zero, suc, ◌≤◌, [], ◌∷◌, length, map, replicate, Some, None, refl, sym, ap, subst, ◌∙◌, arith}
+use Rattle.std.specs.Prelude.{slice_get}
 use Rattle.std.specs.Ordering.{nat_cmp}
 use Rattle.std.specs.FinMap.{find}
-use Rattle.std.proofs.lemmas.List.Elements.{All-head}
-use Rattle.layout.specs.declared.place.Place.{Place}
 use Rattle.layout.specs.Place.{IsLargeAt}
 use Rattle.block_pool.specs.BlockValue.{BlockValue}
-use Rattle.claims.specs.ClaimsValue.{ClaimsValue, SeatValue, Source, unused}
-use Rattle.plain_cells.specs.Plain.{PlainPassValue, IsFit, place_of, place_held, empty_cells}
+use Rattle.claims.specs.ClaimsValue.{SeatValue, unused}
+use Rattle.plain_cells.specs.Plain.{IsFit, place_held, empty_cells}
 use Rattle.plain_cells.specs.Plain.{PlainValue as PlainCellsValue}
-use Rattle.plain_cells.specs.declared.held.Held.{Held}
 use Rattle.plain_queues.specs.PlainValue.{PlainLane, empty_lane, lane_at, new_pending}
 use Rattle.plain_queues.specs.PlainValue.{PlainValue as PlainQueuesValue}
 use Rattle.heap_data.specs.HeapValue.{HeapValue}
@@ -24,9 +19,8 @@ use Rattle.workers.specs.Worker.{Worker}
 use Rattle.workers.specs.WorkerRun.{WorkerRun, stay, no_history}
 use Rattle.to_space.specs.Named.{named}
 use Rattle.scavenge.specs.Slots.{cell_of}
-use Rattle.scavenge.specs.Shown.{WorkspaceValue}
 use Rattle.serial.specs.SerialValue.{SerialValue, lane_of, waiting_in, positions_below, left_of, system_of, setting_in, targets_in, destinations_in}
-use Rattle.serial.specs.IsSerial.{IsSerial, IsReadyToCollect, AreForwarded, HasWorked}
+use Rattle.serial.specs.IsSerial.{IsSerial, IsReadyToCollect}
 
 none_held : (count number : ℕ) → place_held (replicate count None) number ≡ None
 none_held zero number = refl

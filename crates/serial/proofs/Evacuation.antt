@@ -1,9 +1,8 @@
 -- A worker that looks and races at once takes two events of the system.
-use Rattle.std.proofs.Common.{◌≡◌, ℕ, List, [], ◌∷◌, ◌++◌, length, Option, None, refl, sym, ap, subst, ◌∙◌, arith, length-append, Contains}
+use Rattle.std.proofs.Common.{sym, ◌≡◌, ℕ, [], ◌∷◌, ◌++◌, length, Option, None, refl, ap, arith, length-append, Contains, Some, ⊎_elim, inl, inr, subst, ◌∙◌}
 use Rattle.std.specs.Prelude.{IsSome}
 use Rattle.layout.specs.declared.place.Place.{Place}
 use Rattle.claims.specs.ClaimsValue.{SeatValue}
-use Rattle.cells.specs.declared.outcome.Outcome.{Outcome}
 use Rattle.plain_cells.specs.Plain.{PlainPassValue, IsFit, RacesTo, place_held, known_by}
 use Rattle.plain_cells.specs.Plain.{PlainValue as PlainCellsValue}
 use Rattle.heap_data.specs.HeapValue.{HeapValue}
@@ -11,14 +10,16 @@ use Rattle.heap_data.specs.CollectionValue.{CollectionValue}
 use Rattle.workers.specs.WorkerSteps.{current_slot}
 use Rattle.workers.specs.System.{Look}
 use Rattle.scavenge.specs.Shown.{WorkspaceValue}
-use Rattle.scavenge.specs.Slots.{seen, Looks}
-use Rattle.scavenge.specs.Evacuates.{LooksAndRaces}
+use Rattle.scavenge.specs.Slots.{seen, Looks, objects_of, cell_of}
+use Rattle.scavenge.specs.Evacuates.{WantsMore, LooksAndRaces}
+use Rattle.scavenge.specs.Evacuates as evacuates
+use Rattle.scavenge.specs.Told.{IsNumberOf}
 use Rattle.scavenge.specs.declared.evacuate.Evacuated.{Evacuated}
 use Rattle.scavenge.specs.declared.evacuate.Evacuated.TheVariants as evacuated
-use Rattle.serial.specs.SerialValue.{SerialValue, Goes, Stays, LooksThenRaces, system_of}
+use Rattle.serial.specs.SerialValue.{SerialValue, Goes, Stays, LooksThenRaces, system_of, IsLeft, setting_in}
 use Rattle.serial.specs.IsSerial.{IsSerial}
 use Rattle.serial.proofs.Raced.{turned, race_goes}
-use Rattle.serial.proofs.Looked.{look_goes, stands, can_look}
+use Rattle.serial.proofs.Looked.{look_goes, stands, can_look, slot_here}
 
 module _ (v : SerialValue) (k : IsSerial v) (heap : HeapValue) (c : CollectionValue) (same_heap : heap ≡ v.heap) (same_collection : c ≡ v.collection) (none : v.workspace.worker.proposal ≡ None)
     (cells : PlainCellsValue) (pass : PlainPassValue) (new : WorkspaceValue) (fits : IsFit cells pass) (count : length cells.held ≡ length v.cells.held) where
@@ -63,3 +64,16 @@ module _ (v : SerialValue) (k : IsSerial v) (heap : HeapValue) (c : CollectionVa
   evacuated_keeps evacuated.NoSlot left no_slot same looked_slot raced_slot looked raced = still_serial (same (λ e. absurd (cc))) (no_slot refl)
   evacuated_keeps evacuated.Looked left no_slot same looked_slot raced_slot looked raced = (goes_once (same (λ e. absurd (cc))) (looked_slot refl) (looked refl)).0
   evacuated_keeps evacuated.Raced left no_slot same looked_slot raced_slot looked raced = (goes_twice (raced_slot refl) (raced refl)).0
+
+  -- a slot is left for the same cause
+  pub left_why : evacuates.IsLeft heap c Gives v.workspace.worker → IsLeft v
+  left_why l =
+      ⊎_elim (λ starts. inl starts)
+      (λ u. (let of : IsNumberOf v.heap v.collection u.name u.number = subst (λ h. IsNumberOf h v.collection u.name u.number) same_heap (subst (λ d. IsNumberOf heap d u.name u.number) same_collection u.of) in
+      inr (record {
+        name = u.name;
+        slot = sym (slot_here v k heap c same_heap same_collection pass) ∙ u.slot;
+        empty = sym (k.cells.shown u.name u.number of) ∙ ap (cell_of (setting_in v) (Some u.name)) (sym u.given);
+        wants = subst (λ h. WantsMore (objects_of h) v.workspace.worker u.name) same_heap u.wants;
+      })))
+      l

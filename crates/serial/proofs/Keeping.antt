@@ -13,7 +13,7 @@ use Rattle.workers.specs.Joined.{Each}
 use Rattle.workers.specs.Ready.{IsHanded}
 use Rattle.scavenge.specs.Shown.{WorkspaceValue}
 use Rattle.serial.specs.SerialValue.{SerialValue, setting_in, targets_in, destinations_in}
-use Rattle.serial.specs.IsSerial.{IsSerial, AreForwarded, AreDrawn, IsQueued, HasWorked}
+use Rattle.serial.specs.IsSerial.{IsSerial, HasWorked}
 
 -- what was taken in a collection is as workers hand it on
 abbrev pub AreTaken : SerialValue → History → Type 0

@@ -1,6 +1,6 @@
 -- The worker exports a block and takes it back: what lasts, and what the system sees.
-use Rattle.std.proofs.Common.{◌≡◌, ◌≢◌, ℕ, zero, suc, ◌+◌, ◌-◌, ◌<◌, ◌≤◌, Bool, true, false, List, [], ◌∷◌, ◌++◌, length, map, drop, Option, Some, None, refl, sym, ap, subst, ◌∙◌, ⊎_elim, arith, true≢false}
-use Rattle.std.specs.Prelude.{IsSome, slice_get, slice_set, slice_index_or, IsTrue}
+use Rattle.std.proofs.Common.{◌≡◌, ◌≢◌, ℕ, zero, suc, ◌+◌, ◌≤◌, true, false, List, [], ◌∷◌, ◌++◌, length, map, drop, Option, Some, None, refl, sym, ap, subst, ◌∙◌, arith, true≢false}
+use Rattle.std.specs.Prelude.{IsSome, slice_get, slice_set, slice_index_or}
 use Rattle.std.specs.Ordering.{nat_cmp}
 use Rattle.std.specs.FinMap.{find}
 use Rattle.std.proofs.lemmas.List.{map-append, drop-append-le}
@@ -13,11 +13,10 @@ use Rattle.plain_queues.specs.PlainValue.{PlainLane, empty_lane, lane_at, front_
 use Rattle.plain_queues.specs.PlainValue.{PlainValue as PlainQueuesValue}
 use Rattle.copies.specs.Handed.{CopiesKeyValue, IsHandedFor}
 use Rattle.workers.specs.Block.{Block, has_unscanned}
-use Rattle.workers.specs.Worker.{Worker, Holding}
+use Rattle.workers.specs.Worker.{Worker}
 use Rattle.workers.specs.WorkerSteps.{IsFree, after_aside, after_take as after_take_of, without_oldest}
-use Rattle.workers.specs.WorkerRun.{History, Exported, Took}
+use Rattle.workers.specs.WorkerRun.{Exported, Took}
 use Rattle.workers.specs.System.{System, Event, Export, Take, opening_worker}
-use Rattle.workers.specs.Steps.{IsAwake}
 use Rattle.workers.specs.Joined.{Each}
 use Rattle.workers.specs.Ready.{IsHanded}
 use Rattle.workers.specs.Kept.{LiveOrOlder}
@@ -26,8 +25,8 @@ use Rattle.workers.proofs.ReadyRuns.{exports_handed}
 use Rattle.workers.proofs.ReadyLemmas.{handed_alike, handed_labelled}
 use Rattle.to_space.specs.Named.{named, IsWhole}
 use Rattle.scavenge.specs.Shown.{WorkspaceValue, Begins}
-use Rattle.serial.specs.SerialValue.{SerialValue, lane_of, waiting_in, positions_below, left_of, system_of, setting_in, targets_in, destinations_in, Goes}
-use Rattle.serial.specs.IsSerial.{IsSerial, AreForwarded, AreDrawn, IsQueued, HasWorked}
+use Rattle.serial.specs.SerialValue.{SerialValue, lane_of, waiting_in, positions_below, system_of, setting_in, targets_in, destinations_in, Goes}
+use Rattle.serial.specs.IsSerial.{IsSerial}
 use Rattle.serial.proofs.Keeping.{worked_on}
 use Rattle.serial.proofs.Readiness.{start_roomy}
 use Rattle.serial.proofs.Starts.{targets_live}

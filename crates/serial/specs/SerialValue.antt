@@ -1,7 +1,7 @@
 -- A collection by one worker, as its calls see it, and as a system of workers.
-use Rattle.std.specs.Prelude.{◌≡◌, ℕ, zero, suc, true, false, List, [], ◌∷◌, ◌++◌, map, length, drop, IsSome, refl}
+use Rattle.std.specs.Prelude.{◌≡◌, ℕ, zero, suc, true, false, List, [], ◌∷◌, ◌++◌, map, length, drop, IsSome, refl, ◌≢◌, ◌⊎◌, Some, None}
 use Rattle.std.specs.Coded.{Coded, code_by, coded×, coded_ℕ}
-use Rattle.model.specs.Destination.{Shape, dest_count}
+use Rattle.model.specs.Destination.{dest_count}
 use Rattle.block_pool.specs.BlockValue.{BlockValue}
 use Rattle.claims.specs.ClaimsValue.{ClaimsValue, SeatValue, claims_code, seat_code}
 use Rattle.heap_data.specs.HeapValue.{HeapValue, heap_code}
@@ -14,10 +14,11 @@ use Rattle.plain_queues.specs.PlainValue.{PlainValue as PlainQueuesValue}
 use Rattle.copies.specs.Handed.{CopiesKeyValue}
 use Rattle.workers.specs.Setting.{Setting, setting_of}
 use Rattle.workers.specs.System.{System, Event, Look, Race, cell_of, without_number}
-use Rattle.workers.specs.WorkerSteps.{cell_wanted, draw_wanted}
+use Rattle.workers.specs.WorkerSteps.{current_slot, cell_wanted, draw_wanted}
 use Rattle.workers.specs.Steps.{Step}
 use Rattle.to_space.specs.Named.{named}
 use Rattle.scavenge.specs.Shown.{WorkspaceValue}
+use Rattle.scavenge.specs.Evacuates.{WantsMore}
 use Rattle.serial.specs.SerialCode.{cells_code, pass_code, queues_code, workspace_code}
 
 -- the heap and the collection of it; the cells, and what the worker knows of them; what it draws blocks from, and what it drew; its queue; its own part
@@ -88,6 +89,17 @@ pub record Goes (event : Event) (old new : SerialValue) : Type 0 where
   pub heap : new.heap ≡ old.heap
   pub collection : new.collection ≡ old.collection
   pub step : Step (setting_in old) (system_of old) event (system_of new)
+
+-- the current slot's object has no copy yet, and its copy can't go where the last ones stand
+pub record IsUncopied (v : SerialValue) : Type 0 where
+  pub name : ℕ
+  pub slot : current_slot (setting_in v) v.workspace.worker ≡ Some (Some name)
+  pub empty : cell_of (system_of v) (Some name) ≡ None
+  pub wants : WantsMore (setting_in v) v.workspace.worker name
+
+-- a slot that is left to a look: one of the start list, or of an object that needs more
+abbrev pub IsLeft : SerialValue → Type 0
+IsLeft v = (v.workspace.worker.starts ≢ []) ⊎ IsUncopied v
 
 -- a look came, and at once the race for what it proposed
 pub record LooksThenRaces (old new : SerialValue) : Type 0 where

@@ -1,7 +1,8 @@
 //! What the worker takes in hand, and scans.
-ghost use Rattle.std.specs.Prelude.{◌≡◌, ◌≢◌, [], true, false, Ok, OnOk, OnErr};
+ghost use Rattle.std.specs.Prelude.{◌≡◌, ◌≢◌, [], true, false, Ok, IfOk, OnOk, OnErr};
 ghost use Rattle.workers.specs.WorkerSteps.{CanScan, IsFree, has_open_work};
 ghost use Rattle.workers.specs.System.{Own, OwnLarge, Scan};
+ghost use Rattle.scavenge.specs.Evacuates.{has_another};
 ghost use Rattle.serial.specs.SerialValue.{Goes, setting_in};
 
 use crate::serial::SerialCollection;
@@ -42,6 +43,7 @@ impl<A: Allocator> SerialCollection<A> {
         requires can { CanScan (setting_in self.old) self.old.workspace.worker }
         ensures some { result ≡ Ok true → Goes (Scan 0) self.old self.new }
         ensures none { result ≡ Ok false → self.new ≡ self.old }
+        ensures which { IfOk result (λ some. some ≡ has_another self.old.workspace.worker.hand) }
         ensures err { OnErr result (self.new ≡ self.old) }
     {
         self.workspace.scan_on()

@@ -1,5 +1,5 @@
 -- What lasts from event to event, and what each makes less.
-use Rattle.std.proofs.Common.{◌≡◌, ◌≢◌, ℕ, ◌+◌, ◌<◌, ◌≤◌, Bool, true, false, cond, nat_eq, List, [], ◌∷◌, map, Option, Some, None, Result, Ok, Err, refl, sym, ap, subst, ◌∙◌, arith}
+use Rattle.std.proofs.Common.{◌≡◌, ◌≢◌, ℕ, ◌+◌, ◌<◌, Bool, true, false, cond, nat_eq, List, [], ◌∷◌, map, Option, Some, None, Result, Ok, Err, refl, sym, ap, subst, ◌∙◌, arith}
 use Rattle.std.specs.Prelude.{IsSome, OnErr}
 use Rattle.claims.specs.Drawn.{times_in}
 use Rattle.claims.proofs.ClaimLemmas.{IsDistinct-rising, times-distinct}
@@ -11,7 +11,7 @@ use Rattle.workers.specs.Setting.{Setting, setting_of}
 use Rattle.workers.specs.Worker.{Worker, Hand, Nothing, Open, Holding, HoldingLarge, Proposal}
 use Rattle.workers.specs.Block.{Block}
 use Rattle.workers.specs.WorkerSteps.{draw_wanted, cell_wanted, current_slot}
-use Rattle.workers.specs.System.{System, Event, Look, Race, Scan, Export, Take, Own, OwnLarge, Idle, cell_of, opening}
+use Rattle.workers.specs.System.{System, Look, Race, Scan, Idle, cell_of, opening}
 use Rattle.workers.specs.Total.{times}
 use Rattle.workers.specs.Lawful.{next_alone, next_of_one, race_or, look_or, scan_or, export_or, take_or, own_or, large_or, lowest_open}
 use Rattle.workers.specs.Measure.{measure, young_names_of, IsWake}
@@ -22,7 +22,7 @@ use Rattle.serial.specs.SerialValue.{SerialValue, Goes, Stays, LooksThenRaces, W
 use Rattle.serial.specs.IsSerial.{IsReadyToCollect}
 use Rattle.serial.proofs.Readiness.{room_of}
 use Rattle.serial_steps.proofs.Order.{next_look, next_race, next_scan}
-use Rattle.serial_steps.specs.Stepping.{IsOf, GoesOn, IsDone, IsFull, HasStepped, left_to_do}
+use Rattle.serial_steps.specs.Stepping.{IsOf, GoesOn, IsDone, HasStepped, left_to_do}
 
 same_times : (n : ℕ) (xs : List ℕ) → times n xs ≡ times_in n xs
 same_times n [] = refl

@@ -1,4 +1,4 @@
-use Rattle.std.proofs.Common.{◌≡◌, ℕ, ◌+◌, true, [], refl, sym, ap, ◌∙◌, arith}
+use Rattle.std.proofs.Common.{◌≡◌, [], refl, sym, ap, ◌∙◌, arith}
 use Rattle.workers.specs.WorkerSteps.{has_open_work}
 use Rattle.serial.specs.SerialValue.{lane_of, waiting_in, setting_in}
 use Rattle.serial.proofs.OpenBlocks.{open_there, none_there}

@@ -1,4 +1,4 @@
-use Rattle.std.proofs.Common.{◌≡◌, true, false, Some, None, Ok, sym, subst, ◌∙◌, ⊎_elim, true≢false}
+use Rattle.std.proofs.Common.{sym, subst, ◌∙◌, ⊎_elim, true≢false}
 use Rattle.heap_data.specs.HeapValue.{HeapValue}
 use Rattle.serial.specs.IsSerial.{IsReadyToCollect}
 use Rattle.serial_steps.proofs.Order.{none_of}

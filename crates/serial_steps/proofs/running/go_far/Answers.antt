@@ -1,7 +1,6 @@
-use Rattle.std.proofs.Common.{◌≡◌, ◌<◌, subst, arith}
+use Rattle.std.proofs.Common.{subst, arith}
 use Rattle.heap_data.specs.HeapValue.{HeapValue}
 use Rattle.serial.specs.IsSerial.{IsReadyToCollect}
-use Rattle.serial_steps.specs.Stepping.{left_to_do}
 use Rattle.serial_steps.proofs.Going.{less_left, stepped_on}
 use Rattle.serial_steps.proofs.running.go_far.Goals as goal
 

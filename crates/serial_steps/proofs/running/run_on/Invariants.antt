@@ -1,4 +1,4 @@
-use Rattle.std.proofs.Common.{◌≡◌, ◌≤◌}
+use Rattle.std.proofs.Common.{◌≤◌}
 use Rattle.serial_steps.specs.Stepping.{IsOf, HasStepped, left_to_do}
 use Rattle.serial_steps.proofs.running.run_on.Given as goal
 

@@ -1,4 +1,3 @@
-use Rattle.std.proofs.Common.{◌≡◌}
 use Rattle.serial_steps.specs.Stepping.{IsOf, HasStepped, left_to_do}
 use Rattle.serial_steps.proofs.running.run_to_end.Given as goal
 

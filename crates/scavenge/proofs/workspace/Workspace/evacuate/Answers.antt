@@ -1,4 +1,4 @@
-use Rattle.std.proofs.Common.{◌≡◌, Bool, true, false, Some, None, sym, ap, subst, ◌∙◌}
+use Rattle.std.proofs.Common.{◌≡◌, true, Some, None, sym, ap, subst, ◌∙◌}
 use Rattle.std.specs.Prelude.{is_some}
 use Rattle.std.specs.Option.{option_map}
 use Rattle.layout.specs.Place.{place_word}
@@ -15,11 +15,11 @@ pub returns-in_default-number-clause-looked : goal.returns-in_default-number-cla
 returns-in_default-number-clause-looked g c = λ _ seat.
     let current : current_slot (seen c.args.heap.now c.args.collection.now) c.args.self.now.worker ≡ Some (Some (place_word c.in-Some-target.name)) = sym c.slot.ensures ∙ ap (option_map (option_map place_word)) c.in-Some.is ∙ ap (λ t. Some (option_map place_word t)) c.in-Some-target.is in
     looks_old c.args.heap.now c.args.collection.now (g.C.Cells.look_gives c.args.cells.now) (g.C.Cells.known c.args.pass.now) seat c.args.self.now c.finish-in_default-number.new.self (place_word c.in-Some-target.name) current
-    (is_old c.args.heap.now c.args.collection.now (place_word c.in-Some-target.name) c.in-Some-target-2.found c.in_default-number.is c.in-Some-target-2.ensures) c.finish-in_default-number.ensures
+    (is_old c.args.heap.now c.args.collection.now (place_word c.in-Some-target.name) c.find_there-found.result c.in_default-number.is c.find_there-found.ensures) c.finish-in_default-number.ensures
 
 pub returns-in-Ok-clause-raced : goal.returns-in-Ok-clause-raced
 returns-in-Ok-clause-raced g c = λ _.
-    let found = numbered c.args.heap.now c.args.collection.now (place_word c.in-Some-target.name) c.in-Some-target-2.found c.in-Some-number.number c.in-Some-number.is c.in-Some-target-2.ensures in
+    let found = numbered c.args.heap.now c.args.collection.now (place_word c.in-Some-target.name) c.find_there-found.result c.in-Some-number.number c.in-Some-number.is c.find_there-found.ensures in
     let young : is_collected (seen c.args.heap.now c.args.collection.now) (place_word c.in-Some-target.name) ≡ true = collected c.args.heap.now c.args.collection.now (place_word c.in-Some-target.name) found.0 in
     let current : current_slot (seen c.args.heap.now c.args.collection.now) c.args.self.now.worker ≡ Some (Some (place_word c.in-Some-target.name)) = sym c.slot.ensures ∙ ap (option_map (option_map place_word)) c.in-Some.is ∙ ap (λ t. Some (option_map place_word t)) c.in-Some-target.is in
     let tells : Tells c.args.heap.now c.args.collection.now (g.C.Cells.look_gives c.args.cells.now) (g.C.Cells.known c.args.pass.now) (g.C.Cells.known c.look.new.pass) (place_word c.in-Some-target.name) None =
@@ -51,7 +51,7 @@ returns-in-Ok-clause-raced g c = λ _.
 
 pub returns-in-Err-clause-looked : goal.returns-in-Err-clause-looked
 returns-in-Err-clause-looked g c = λ _ seat.
-    let found = numbered c.args.heap.now c.args.collection.now (place_word c.in-Some-target.name) c.in-Some-target-2.found c.in-Some-number.number c.in-Some-number.is c.in-Some-target-2.ensures in
+    let found = numbered c.args.heap.now c.args.collection.now (place_word c.in-Some-target.name) c.find_there-found.result c.in-Some-number.number c.in-Some-number.is c.find_there-found.ensures in
     let young : is_collected (seen c.args.heap.now c.args.collection.now) (place_word c.in-Some-target.name) ≡ true = collected c.args.heap.now c.args.collection.now (place_word c.in-Some-target.name) found.0 in
     let current : current_slot (seen c.args.heap.now c.args.collection.now) c.args.self.now.worker ≡ Some (Some (place_word c.in-Some-target.name)) = sym c.slot.ensures ∙ ap (option_map (option_map place_word)) c.in-Some.is ∙ ap (λ t. Some (option_map place_word t)) c.in-Some-target.is in
     let tells : Tells c.args.heap.now c.args.collection.now (g.C.Cells.look_gives c.args.cells.now) (g.C.Cells.known c.args.pass.now) (g.C.Cells.known c.look.new.pass) (place_word c.in-Some-target.name) None =

@@ -1,5 +1,4 @@
 use Rattle.std.proofs.Common.{refl, sym, ◌∙◌}
-use Rattle.layout.specs.Place.{place_word}
 use Rattle.scavenge.specs.Shown.{held_in}
 use Rattle.scavenge.specs.Told.{IsProposed}
 use Rattle.scavenge.proofs.Looking.{on_ok}

@@ -1,11 +1,10 @@
 use Rattle.std.proofs.Common.{List, [], ◌∷◌, ◌++◌, map, set, Option, Some, None, refl, sym, ap, subst, ◌∙◌}
 use Rattle.std.proofs.lemmas.List.{map-append}
-use Rattle.layout.specs.declared.place.Place.{Place}
 use Rattle.layout.specs.Place.{place_word}
 use Rattle.block_pool.specs.BlockValue.{BlockValue}
 use Rattle.cells.specs.declared.outcome.Outcome.TheVariants.{Won, Lost}
 use Rattle.workers.specs.Block.{with_copy}
-use Rattle.scavenge.specs.Shown.{WorkspaceValue, AreNoted, proposal_of, proposal_at, slots_of, words_of, pair_of, held_in}
+use Rattle.scavenge.specs.Shown.{AreNoted, proposal_of, slots_of, words_of, pair_of, held_in}
 use Rattle.cells.specs.Learned.{Learns, RaceEnds, place_after}
 use Rattle.scavenge.specs.Told.{IsProposed}
 use Rattle.scavenge.proofs.Fields.{Last, last_there, slots_written, slots_decided}
@@ -65,4 +64,3 @@ returns-in-Won-clause-ok g c =
           (ap (map pair_of) (c.push_reserved.ensures.items ∙ ap (λ xs. xs ++ (c.in-Some.p.name, c.in-Some.p.place) ∷ []) c.reserve.ensures.items) ∙ map-append pair_of c.self.inside.won.items _)
           (ap (proposal_of c.self.inside.allocation) c.in-Some.is ∙ t.shown);
     }
-

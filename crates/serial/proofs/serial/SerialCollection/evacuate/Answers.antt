@@ -2,10 +2,10 @@ use Rattle.std.proofs.Common.{◌≡◌, None, sym, ap, subst, ◌∙◌}
 use Rattle.std.specs.Prelude.{IsSome}
 use Rattle.workers.specs.WorkerSteps.{current_slot}
 use Rattle.workers.specs.System.{Look}
-use Rattle.serial.specs.SerialValue.{SerialValue, Goes, Stays, LooksThenRaces, setting_in}
+use Rattle.serial.specs.SerialValue.{SerialValue, Goes, Stays, IsLeft, LooksThenRaces, setting_in}
 use Rattle.serial.proofs.Raced.{few_of}
 use Rattle.serial.proofs.Looked.{closed_of, places_of, untouched_of, can_look, slot_here}
-use Rattle.serial.proofs.Evacuation.{goes_once, goes_twice, stays, evacuated_keeps}
+use Rattle.serial.proofs.Evacuation.{goes_once, goes_twice, stays, left_why, evacuated_keeps}
 use Rattle.serial.proofs.Readiness.{ready_of}
 use Rattle.scavenge.specs.Shown.{WorkspaceValue}
 use Rattle.scavenge.specs.declared.evacuate.Evacuated.{Evacuated}
@@ -55,6 +55,14 @@ returns-clause-left g c = λ is.
     let none = subst (λ (v : SerialValue). v.workspace.worker.proposal ≡ None) (sym c.self.view_is) c.requires.proposal in
     subst (λ (v : SerialValue). Stays v (record { heap = c.self.inside.heap.value; collection = c.self.inside.collection.value; cells = c.evacuate.new.cells; pass = c.evacuate.new.pass; claims = c.self.inside.claims; draws = c.self.inside.draws; queues = c.self.inside.queues; seat = c.self.inside.seat; workspace = c.evacuate.new.self })) c.self.view_is
     (stays _ c.self.invariant c.args.heap.now c.args.collection.now heap collection none c.evacuate.new.cells c.evacuate.new.pass c.evacuate.new.self c.evacuate.ensures.pass c.evacuate.ensures.limit (c.evacuate.ensures.left is))
+
+pub returns-clause-left_why : goal.returns-clause-left_why
+returns-clause-left_why g c = λ is.
+    let heap = c.requires.heap ∙ ap (λ (v : SerialValue). v.heap) (sym c.self.view_is) in
+    let collection = c.requires.collection ∙ ap (λ (v : SerialValue). v.collection) (sym c.self.view_is) in
+    let none = subst (λ (v : SerialValue). v.workspace.worker.proposal ≡ None) (sym c.self.view_is) c.requires.proposal in
+    subst IsLeft c.self.view_is
+    (left_why _ c.self.invariant c.args.heap.now c.args.collection.now heap collection none c.evacuate.new.cells c.evacuate.new.pass c.evacuate.new.self c.evacuate.ensures.pass c.evacuate.ensures.limit (c.evacuate.ensures.left_why is))
 
 pub returns-clause-none : goal.returns-clause-none
 returns-clause-none g c = λ is.

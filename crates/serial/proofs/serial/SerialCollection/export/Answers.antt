@@ -1,10 +1,7 @@
-use Rattle.std.proofs.Common.{◌≡◌, ◌≢◌, length, false, Some, refl, sym, ap, subst, ◌∙◌}
-use Rattle.std.specs.Option.{is_some}
-use Rattle.block_pool.specs.BlockValue.{BlockValue}
-use Rattle.exports.specs.Labelled.{labelled}
+use Rattle.std.proofs.Common.{length, sym, subst}
 use Rattle.plain_queues.specs.PlainValue.{lane_at, next_of}
 use Rattle.copies.specs.Handed.{IsHandedFor}
-use Rattle.scavenge.specs.Shown.{WorkspaceValue, Begins}
+use Rattle.scavenge.specs.Shown.{Begins}
 use Rattle.serial.specs.SerialValue.{SerialValue}
 use Rattle.serial.proofs.LaneSteps.{exported, handed_for, aside_handed, put_back, back_again}
 use Rattle.serial.proofs.serial.SerialCollection.export.Goals as goal

@@ -1,4 +1,4 @@
-use Rattle.std.proofs.Common.{◌≡◌, ◌≢◌, [], subst}
+use Rattle.std.proofs.Common.{◌≢◌, [], subst}
 use Rattle.std.specs.Prelude.{IsTrue}
 use Rattle.serial.specs.SerialValue.{SerialValue, lane_of, waiting_in}
 use Rattle.serial.proofs.LaneSteps.{some_waits, waiting_some}

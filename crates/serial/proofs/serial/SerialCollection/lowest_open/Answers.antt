@@ -1,4 +1,4 @@
-use Rattle.std.proofs.Common.{◌≡◌, ℕ, ◌+◌, ◌<◌, length, Some, refl, sym, ap, ◌∙◌, arith}
+use Rattle.std.proofs.Common.{◌≡◌, ◌+◌, length, Some, refl, sym, ap, ◌∙◌, arith}
 use Rattle.workers.specs.WorkerSteps.{has_open_work}
 use Rattle.serial.specs.SerialValue.{SerialValue}
 use Rattle.serial.proofs.OpenBlocks.{first_open, none_open}

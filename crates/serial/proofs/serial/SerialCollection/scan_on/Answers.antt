@@ -1,10 +1,7 @@
-use Rattle.std.proofs.Common.{◌≡◌, Result, Ok, Err, sym, subst}
-use Rattle.std.specs.Prelude.{OnOk, OnErr}
+use Rattle.std.proofs.Common.{sym, subst}
 use Rattle.workers.specs.WorkerSteps.{CanScan, after_scan}
 use Rattle.workers.specs.WorkerRun.{Scanned}
-use Rattle.scavenge.specs.Shown.{WorkspaceValue}
 use Rattle.serial.specs.SerialValue.{SerialValue, setting_in}
-use Rattle.serial.specs.IsSerial.{IsSerial}
 use Rattle.serial.proofs.Keeping.{acted_alone, scan_won, either_or}
 use Rattle.serial.proofs.Readiness.{ready_of}
 use Rattle.serial.proofs.serial.SerialCollection.scan_on.Goals as goal

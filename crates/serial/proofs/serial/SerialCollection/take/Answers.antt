@@ -1,4 +1,4 @@
-use Rattle.std.proofs.Common.{◌≡◌, ◌≢◌, [], Option, Some, None, refl, sym, ap, subst, ◌∙◌}
+use Rattle.std.proofs.Common.{◌≢◌, [], sym, ap, subst, ◌∙◌}
 use Rattle.workers.specs.WorkerSteps.{IsFree}
 use Rattle.workers.specs.System.{Take}
 use Rattle.std.specs.Prelude.{IfSome}
