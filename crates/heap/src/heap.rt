@@ -352,7 +352,7 @@ impl<A: Allocator + Clone> Heap<A> {
 
     /// The object at a place where there is one, with its generation and step, and with its number in a collection that was
     /// opened on this heap as it is now, where its generation is collected.
-    #[inline]
+    #[inline(always)]
     pub fn find_there(&self, collection: &Collection<A>, place: Place) -> Found<'_>
         requires opened { IsOpened self.now collection.now.generation collection.now }
         requires there { IsSome (object_at self.now.graph (place_word place)) }

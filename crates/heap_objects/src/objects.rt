@@ -319,7 +319,7 @@ impl<A: Allocator + Clone> HeapObjects<A> {
 
     /// The object at a place where there is one, its generation and step, and its number where its generation is at
     /// most `generation`.
-    #[inline]
+    #[inline(always)]
     pub fn find(
         &self,
         numbering: &Numbering<A>,

@@ -37,6 +37,7 @@ fn take_back<A: Allocator>(block: &mut Block<A>)
     }
 }
 
+#[inline(always)]
 fn note<A: Allocator>(block: &mut Block<A>, origin: u64)
     requires { length block.old.origins < length block.old.objects }
     ensures { block.new ≡ record block.old { origins = block.old.origins ++ origin ∷ [] } }
@@ -46,6 +47,7 @@ fn note<A: Allocator>(block: &mut Block<A>, origin: u64)
     block.note_origin(origin);
 }
 
+#[inline(always)]
 fn push<A: Allocator>(block: &mut Block<A>, object: ObjectRef<'_>) -> Place
     requires { used_of block.old + raw_size (raw_of object) ≤ block.old.words }
     ensures place { place_word result ≡ small_word block.old.number (used_of block.old) }
@@ -86,6 +88,7 @@ impl<A: Allocator> AllocationBlocks<A> {
     }
 
     /// Pointer `i` of the first unscanned object of the block for a destination, where there is one.
+    #[inline(always)]
     pub fn front_pointer(&self, d: usize, i: usize) -> Option<Option<Place>>
         requires { OnSome IsPointer (raw_field i (front_raw (slot_at self.now d))) }
         ensures { option_map (option_map place_word) result ≡ front_field i (slot_at self.now d) }
@@ -100,6 +103,7 @@ impl<A: Allocator> AllocationBlocks<A> {
     }
 
     /// Writes pointer `i` of the first unscanned object of the block for a destination.
+    #[inline(always)]
     pub fn write_front(&mut self, d: usize, i: usize, word: u64)
         ensures { (block : BlockValue) (raw : Raw) → slot_at self.old d ≡ Some block
             → slice_get block.objects block.front ≡ Some raw → i < length raw.pointers
@@ -117,6 +121,7 @@ impl<A: Allocator> AllocationBlocks<A> {
 
     /// Counts the first unscanned object of the block for a destination as scanned, and tells its place and whether
     /// another is unscanned.
+    #[inline(always)]
     pub fn pass_front(&mut self, d: usize) -> (Place, bool)
         requires there { d < length self.old }
         requires some { IsSomeAnd (slot_at self.old d) (λ b. b.front < length b.objects) }
@@ -145,6 +150,7 @@ impl<A: Allocator> AllocationBlocks<A> {
     }
 
     /// Whether an object of `size` words fits at the end of the block for a destination.
+    #[inline(always)]
     pub fn fits(&self, d: usize, size: usize) -> bool
         ensures { IsTrue result ↔ (fits_at size (slot_at self.now d) ≡ true) }
     {
@@ -158,6 +164,7 @@ impl<A: Allocator> AllocationBlocks<A> {
     }
 
     /// Puts a copy of an object at the end of the block for a destination, and tells its place.
+    #[inline(always)]
     pub fn push(&mut self, d: usize, object: ObjectRef<'_>) -> Place
         requires { fits_at (raw_size (raw_of object)) (slot_at self.old d) ≡ true }
         ensures place { (block : BlockValue) → slot_at self.old d ≡ Some block → place_word result ≡ small_word block.number (used_of block) }
@@ -190,6 +197,7 @@ impl<A: Allocator> AllocationBlocks<A> {
     }
 
     /// Notes, for contracts alone, what the last object of the block for a destination is a copy of.
+    #[inline(always)]
     pub fn note(&mut self, d: usize, origin: u64)
         requires { (block : BlockValue) → slot_at self.old d ≡ Some block → length block.origins < length block.objects }
         ensures { (block : BlockValue) → slot_at self.old d ≡ Some block

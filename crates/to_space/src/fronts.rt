@@ -12,6 +12,7 @@ use layout::Place;
 use std::alloc::Allocator;
 
 /// The pointer with this word.
+#[inline(always)]
 pub fn pointer_of(word: u64) -> Option<Place>
     requires { IsPointer word }
     ensures { pointer_word result ≡ word }
@@ -23,6 +24,7 @@ pub fn pointer_of(word: u64) -> Option<Place>
 }
 
 /// Pointer `i` of the first unscanned object, where there is one.
+#[inline(always)]
 pub fn front_pointer<A: Allocator>(block: &Block<A>, i: usize) -> Option<Option<Place>>
     requires { OnSome IsPointer (raw_field i (front_raw (Some block.now))) }
     ensures { option_map (option_map place_word) result ≡ front_field i (Some block.now) }
@@ -35,6 +37,7 @@ pub fn front_pointer<A: Allocator>(block: &Block<A>, i: usize) -> Option<Option<
 }
 
 /// Writes pointer `i` of the first unscanned object.
+#[inline(always)]
 pub fn write_front<A: Allocator>(block: &mut Block<A>, i: usize, word: u64)
     ensures { (raw : Raw) → slice_get block.old.objects block.old.front ≡ Some raw → i < length raw.pointers
         → block.new ≡ record block.old { objects = slice_set block.old.objects block.old.front (with_pointer_word raw i word) } }
@@ -46,6 +49,7 @@ pub fn write_front<A: Allocator>(block: &mut Block<A>, i: usize, word: u64)
 }
 
 /// Counts the first unscanned object as scanned, and tells its place and whether another is unscanned.
+#[inline(always)]
 pub fn pass_front<A: Allocator>(block: &mut Block<A>) -> (Place, bool)
     requires { block.old.front < length block.old.objects }
     ensures place { place_word result.0 ≡ small_word block.old.number (offset_of block.old.objects block.old.front) }
