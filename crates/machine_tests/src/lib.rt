@@ -8,4 +8,6 @@ mod graphs;
 #[cfg(test)]
 mod schedules;
 #[cfg(test)]
+mod texts;
+#[cfg(test)]
 mod together;

@@ -1,5 +1,5 @@
 //! The current slot's object is evacuated: looked at, and copied and raced for at once.
-ghost use Rattle.std.specs.Prelude.{◌≡◌, ◌<◌, ◌≤◌, ◌≢◌, true, false, Some, None, IsTrue, IsSome, IsSomeAnd, MatchOption, length};
+ghost use Rattle.std.specs.Prelude.{◌≡◌, ◌<◌, ◌≤◌, ◌≢◌, true, false, Some, None, IsSome, IsSomeAnd};
 ghost use Rattle.std.specs.Option.{option_map};
 ghost use Rattle.model.specs.Graph.{IsClosed, object_at};
 ghost use Rattle.layout.specs.Place.{place_word};
@@ -11,7 +11,7 @@ ghost use Rattle.heap.specs.Words.{IsShownAs};
 ghost use Rattle.heap.specs.NamesArePlaces.{NamesArePlaces};
 ghost use Rattle.workers.specs.WorkerSteps.{current_slot};
 ghost use Rattle.scavenge.specs.Shown.{CanFinish};
-ghost use Rattle.scavenge.specs.Slots.{seen, objects_of, IsUntouched, HasRoomFor, Looks};
+ghost use Rattle.scavenge.specs.Slots.{seen, objects_of, IsUntouched, Looks};
 ghost use Rattle.scavenge.specs.Evacuates.{WantsMore, IsLeft, ProposesThere, LooksAndRaces};
 ghost use Rattle.scavenge.specs.declared.evacuate.Evacuated.TheVariants.{Left, NoSlot, Looked, Raced};
 

@@ -1,5 +1,5 @@
 //! A look at the current slot.
-ghost use Rattle.std.specs.Prelude.{◌≡◌, ◌<◌, ◌≤◌, ◌↔◌, ◌++◌, ◌∷◌, [], ℕ, true, false, Some, None, Ok, Err, IsTrue, IsSome, IsSomeAnd, MatchOption, OnOk, OnErr, length, slice_set, if◌then◌else◌};
+ghost use Rattle.std.specs.Prelude.{◌≡◌, ◌<◌, ◌≤◌, ◌↔◌, ◌++◌, ◌∷◌, [], ℕ, true, false, Some, None, Ok, Err, IsTrue, IsSome, IsSomeAnd, MatchOption, OnOk, OnErr, length, if◌then◌else◌};
 ghost use Rattle.std.specs.List.{All, Contains};
 ghost use Rattle.std.specs.Option.{option_map};
 ghost use Rattle.model.specs.Graph.{IsClosed, object_at};
