@@ -69,9 +69,10 @@ module _ (flag : Bool) (old : List (List Bool)) (number from : ℕ) where
           (cases_lt h from);
     }
 
--- the flags mean the same, and there is room in the generations below one
+-- the flags mean the same, there are no fewer, and there is room in the generations below one
 pub record Widened (old now : List (List Bool)) (len to : ℕ) : Type 0 where
   pub many : length now ≡ length old
+  pub no_fewer : (h : ℕ) → length (get_or old h []) ≤ length (get_or now h [])
   pub same : (h k : ℕ) → get_or (get_or now h []) k false ≡ get_or (get_or old h []) k false
   pub room : (h : ℕ) → h < to → len ≤ length (get_or now h [])
 
@@ -79,6 +80,7 @@ module _ (old : List (List Bool)) (len : ℕ) where
   pub none_widened : Widened old old len 0
   none_widened = record {
     many = refl;
+    no_fewer = λ h. omega arith;
     same = λ h k. refl;
     room = λ h lt. absurd (omega arith);
   }
@@ -90,9 +92,16 @@ module _ (old : List (List Bool)) (len : ℕ) where
         (λ ne. rw (get_or-set_other now to h x [] ne) (so_far.same h k))
         (cases_eq h to)
 
-    pub more_widened : len ≤ length x → Widened old (set now to x) len (to + 1)
-    more_widened le = record {
+    no_fewer_still : length (get_or now to []) ≤ length x → (h : ℕ) → length (get_or old h []) ≤ length (get_or (set now to x) h [])
+    no_fewer_still more h = ⊎_elim
+        (λ e. let here : h ≡ to = e in rw (here, get_or-set_same now to x [] lt) (omega (arith, more, so_far.no_fewer to)))
+        (λ ne. rw (get_or-set_other now to h x [] ne) (so_far.no_fewer h))
+        (cases_eq h to)
+
+    pub more_widened : len ≤ length x → length (get_or now to []) ≤ length x → Widened old (set now to x) len (to + 1)
+    more_widened le more = record {
       many = length-set now to x ∙ so_far.many;
+      no_fewer = no_fewer_still more;
       same = same_still;
       room = λ h below. ⊎_elim
           (λ e. let here : h ≡ to = e in rw (here, get_or-set_same now to x [] lt) le)
@@ -100,9 +109,10 @@ module _ (old : List (List Bool)) (len : ℕ) where
           (cases_eq h to);
     }
 
-    pub kept_widened : Widened old (set now to x) 0 0
-    kept_widened = record {
+    pub kept_widened : length (get_or now to []) ≤ length x → Widened old (set now to x) 0 0
+    kept_widened more = record {
       many = length-set now to x ∙ so_far.many;
+      no_fewer = no_fewer_still more;
       same = same_still;
       room = λ h below. absurd (omega arith);
     }
@@ -113,3 +123,6 @@ module _ (old : List (List Bool)) (len : ℕ) where
 
   pub widened_room : (now : List (List Bool)) (to : ℕ) → Widened old now len to → length now ≤ to → HasRoom now len
   widened_room now to widened all = record { each = λ h lt. widened.room h (omega arith) }
+
+  pub no_less_room : (now : List (List Bool)) (few to : ℕ) → Widened old now few to → (l : ℕ) → HasRoom old l → HasRoom now l
+  no_less_room now few to widened l room = record { each = λ h lt. omega (arith, room.each h (omega (arith, widened.many)), widened.no_fewer h) }

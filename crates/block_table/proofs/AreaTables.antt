@@ -7,11 +7,12 @@ use Rattle.std.proofs.lemmas.List.Sums.{sum_by_more}
 use Rattle.std.specs.List.{IsDistinct, take-map}
 use Rattle.std.specs.Prelude.{nat_eq, nat_lt, nat_le, is_some}
 use Rattle.model.specs.Reached.{has}
-use Rattle.block_pool.specs.BlockValue.{BlockValue}
-use Rattle.block_table.specs.Areas.{is_flagged, AreAreas}
+use Rattle.layout.specs.Object.{Raw, raw_size}
+use Rattle.block_pool.specs.BlockValue.{BlockValue, used_of}
+use Rattle.block_table.specs.Areas.{holds_young, is_flagged, AreAreas}
 use Rattle.block_table.specs.Counts.{HasCounted, IsYoungRun}
 use Rattle.block_table.specs.Installed.{is_installed_at, installed}
-use Rattle.block_table.specs.Table.{slot_at, slot_len, objects_before, cleared, young_slot}
+use Rattle.block_table.specs.Table.{slot_at, slot_len, objects_before, cleared, young_slot, with_more}
 use Rattle.block_table.proofs.Areas.{once_at}
 use Rattle.block_table.proofs.Installed.{numbers_of, none_installed}
 use Rattle.block_table.proofs.TableSteps.{get_or_end, in_list}
@@ -24,43 +25,39 @@ no_flags (suc m) (suc k) = no_flags m k
 pub none_flagged : (m g n : ℕ) → let none : List Bool = [] in is_flagged (replicate m none) g n ≡ false
 none_flagged m g n = ap (λ flags. get_or flags n false) (no_flags m _)
 
-none_of : (o : Option BlockValue) → is_some o ≡ false → o ≡ None
-none_of None h = refl
-none_of (Some b) h = absurd (true≢false h)
-
--- a block of a generation up to g stands in the table
-pub young_inside : (table : List (Option BlockValue)) (g n : ℕ) → is_some (young_slot g (slot_at table n)) ≡ true → n < length table
+-- a block that holds an object of a generation up to g stands in the table
+pub young_inside : (table : List (Option BlockValue)) (g n : ℕ) → holds_young g (slot_at table n) ≡ true → n < length table
 young_inside table g n is = ⊎_elim
     (λ lt. lt)
-    (λ le. absurd (true≢false (sym is ∙ ap (λ o. is_some (young_slot g o)) (get_or_end table n None le))))
+    (λ le. absurd (true≢false (sym is ∙ ap (λ o. holds_young g o) (get_or_end table n None le))))
     (cases_lt n (length table))
 
 -- a slot is one more of those whose blocks are flagged
-pub slot_flagged : (table : List (Option BlockValue)) (g number n : ℕ) (slot : Option BlockValue) (was now : Bool) → slot_at table number ≡ slot → was ≡ (nat_lt n number && is_some (young_slot g (slot_at table n))) → now ≡ cond (nat_eq n number) (is_some (young_slot g slot) || was) was → now ≡ (nat_lt n (number + 1) && is_some (young_slot g (slot_at table n)))
+pub slot_flagged : (table : List (Option BlockValue)) (g number n : ℕ) (slot : Option BlockValue) (was now : Bool) → slot_at table number ≡ slot → was ≡ (nat_lt n number && holds_young g (slot_at table n)) → now ≡ cond (nat_eq n number) (holds_young g slot || was) was → now ≡ (nat_lt n (number + 1) && holds_young g (slot_at table n))
 slot_flagged table g number n slot was now there before after = ⊎_elim
     (λ e.
     let here : n ≡ number = e in
     let past : nat_lt n number ≡ false = grind (arith, nat_tests, here) in
     let below : nat_lt n (number + 1) ≡ true = grind (arith, nat_tests, here) in
-    let none : was ≡ false = before ∙ ap (λ t. t && is_some (young_slot g (slot_at table n))) past in
+    let none : was ≡ false = before ∙ ap (λ t. t && holds_young g (slot_at table n)) past in
     let same : slot_at table n ≡ slot = ap (slot_at table) here ∙ there in
-    rw (below, same) (after ∙ ap (λ t. cond t (is_some (young_slot g slot) || was) was) (eq-eqb n number here) ∙ ap (λ t. is_some (young_slot g slot) || t) none ∙ or_false (is_some (young_slot g slot))))
+    rw (below, same) (after ∙ ap (λ t. cond t (holds_young g slot || was) was) (eq-eqb n number here) ∙ ap (λ t. holds_young g slot || t) none ∙ or_false (holds_young g slot)))
     (λ ne.
     let other : n ≢ number = ne in
     let more : nat_lt n number ≡ nat_lt n (number + 1) = grind (arith, nat_tests, other) in
-    after ∙ ap (λ t. cond t (is_some (young_slot g slot) || was) was) (ne_eqb n number other) ∙ before ∙ ap (λ t. t && is_some (young_slot g (slot_at table n))) more)
+    after ∙ ap (λ t. cond t (holds_young g slot || was) was) (ne_eqb n number other) ∙ before ∙ ap (λ t. t && holds_young g (slot_at table n)) more)
     (cases_eq n number)
   where
     or_false : (b : Bool) → (b || false) ≡ b
     or_false true = refl
     or_false false = refl
 
-pub all_flagged : (table : List (Option BlockValue)) (number : ℕ) (areas : List (List Bool)) → length table ≤ number → ((g n : ℕ) → is_flagged areas g n ≡ (nat_lt n number && is_some (young_slot g (slot_at table n)))) → AreAreas table areas
+pub all_flagged : (table : List (Option BlockValue)) (number : ℕ) (areas : List (List Bool)) → length table ≤ number → ((g n : ℕ) → is_flagged areas g n ≡ (nat_lt n number && holds_young g (slot_at table n))) → AreAreas table areas
 all_flagged table number areas le each = record {
   each = λ g n. each g n ∙ ⊎_elim
       (λ yes. rw yes (let below : n < length table = young_inside table g n yes in let lt : nat_lt n number ≡ true = grind (arith, nat_tests, below, le) in ap (λ t. t && true) lt))
       (λ no. rw no (and_false (nat_lt n number)))
-      (cases_Bool (is_some (young_slot g (slot_at table n))));
+      (cases_Bool (holds_young g (slot_at table n)));
 }
   where
     and_false : (b : Bool) → (b && false) ≡ false
@@ -76,8 +73,8 @@ installed-push (x ∷ xs) b n = go (is_installed_at n x) (installed-push xs b n)
     go true rest = refl
     go false rest = rest
 
-young_either : (g : ℕ) (a b : Option BlockValue) → ((block : BlockValue) → b ≡ Some block → a ≡ None) → is_some (young_slot g (cond (is_some a) a b)) ≡ (is_some (young_slot g b) || is_some (young_slot g a))
-young_either g None b one = sym (or_false (is_some (young_slot g b)))
+young_either : (g : ℕ) (a b : Option BlockValue) → ((block : BlockValue) → b ≡ Some block → a ≡ None) → holds_young g (cond (is_some a) a b) ≡ (holds_young g b || holds_young g a)
+young_either g None b one = sym (or_false (holds_young g b))
   where
     or_false : (t : Bool) → (t || false) ≡ t
     or_false true = refl
@@ -104,12 +101,12 @@ module _ (blocks : List BlockValue) (once : IsDistinct nat_eq (numbers_of blocks
       number_is true is e = grind (arith, nat_tests, is)
       number_is false is e = absurd (cc)
 
-  pub block_flagged : (g n : ℕ) (old was now : Bool) → was ≡ (is_some (young_slot g (installed (take i blocks) n)) || old) → now ≡ (is_some (young_slot g (installed (b ∷ []) n)) || was) → now ≡ (is_some (young_slot g (installed (take (i + 1) blocks) n)) || old)
+  pub block_flagged : (g n : ℕ) (old was now : Bool) → was ≡ (holds_young g (installed (take i blocks) n) || old) → now ≡ (holds_young g (installed (b ∷ []) n) || was) → now ≡ (holds_young g (installed (take (i + 1) blocks) n) || old)
   block_flagged g n old was now before after =
       let more : take (i + 1) blocks ≡ take i blocks ++ b ∷ [] = take_more blocks i b lt ∙ ap (λ x. take i blocks ++ x ∷ []) here in
-      let both : is_some (young_slot g (installed (take (i + 1) blocks) n)) ≡ (is_some (young_slot g (installed (b ∷ []) n)) || is_some (young_slot g (installed (take i blocks) n))) =
-      ap (λ xs. is_some (young_slot g (installed xs n))) more ∙ ap (λ o. is_some (young_slot g o)) (installed-push (take i blocks) b n) ∙ young_either g (installed (take i blocks) n) (installed (b ∷ []) n) (none_before n) in
-      after ∙ ap (λ t. is_some (young_slot g (installed (b ∷ []) n)) || t) before ∙ turned (is_some (young_slot g (installed (b ∷ []) n))) (is_some (young_slot g (installed (take i blocks) n))) old ∙ ap (λ t. t || old) (sym both)
+      let both : holds_young g (installed (take (i + 1) blocks) n) ≡ (holds_young g (installed (b ∷ []) n) || holds_young g (installed (take i blocks) n)) =
+      ap (λ xs. holds_young g (installed xs n)) more ∙ ap (λ o. holds_young g o) (installed-push (take i blocks) b n) ∙ young_either g (installed (take i blocks) n) (installed (b ∷ []) n) (none_before n) in
+      after ∙ ap (λ t. holds_young g (installed (b ∷ []) n) || t) before ∙ turned (holds_young g (installed (b ∷ []) n)) (holds_young g (installed (take i blocks) n)) old ∙ ap (λ t. t || old) (sym both)
     where
       turned : (x y z : Bool) → (x || (y || z)) ≡ ((x || y) || z)
       turned true y z = refl
@@ -152,69 +149,106 @@ module _ (table : List (Option BlockValue)) (bases : List ℕ) (objects : ℕ) (
   counted_all le none = sum_until (length table) le (omega arith) (λ k from lt. none k from) ∙ ap (sum_by slot_len) (take_all (length table) table (omega arith))
 
 -- a slot that isn't flagged counts nothing
-pub old_len : (g : ℕ) (slot : Option BlockValue) → is_some (young_slot g slot) ≡ false → slot_len (young_slot g slot) ≡ 0
-old_len g slot none = ap slot_len (none_of (young_slot g slot) none)
+pub old_len : (g : ℕ) (slot : Option BlockValue) → holds_young g slot ≡ false → slot_len (young_slot g slot) ≡ 0
+old_len g None none = refl
+old_len g (Some block) none = go (nat_le block.generation g) none
+  where
+    go : (b : Bool) → (b && nat_lt 0 (length block.objects)) ≡ false → slot_len (cond {A = Option BlockValue} b (Some block) None) ≡ 0
+    go true empty = grind (arith, nat_tests, empty)
+    go false h = refl
 
 -- a run goes past a block that is flagged where it begins
-pub run_passes : (g : ℕ) (table : List (Option BlockValue)) (from to : ℕ) → IsYoungRun g table from to → is_some (young_slot g (slot_at table from)) ≡ true → from < to
+pub run_passes : (g : ℕ) (table : List (Option BlockValue)) (from to : ℕ) → IsYoungRun g table from to → holds_young g (slot_at table from) ≡ true → from < to
 run_passes g table from to run first = ⊎_elim
     (λ lt. lt)
     (λ le.
     let same : to ≡ from = omega (arith, le, run.no_shorter) in
-    absurd (true≢false (sym first ∙ ap (λ n. is_some (young_slot g (slot_at table n))) (sym same) ∙ run.end)))
+    absurd (true≢false (sym first ∙ ap (λ n. holds_young g (slot_at table n)) (sym same) ∙ run.end)))
     (cases_lt from to)
 
 -- the flags after a collection's blocks took the place of those that went
-pub exchanged_areas : (old new : List (Option BlockValue)) (areas left now : List (List Bool)) (gone : List ℕ) (blocks : List BlockValue) (count : ℕ) → AreAreas old areas → ((g n : ℕ) → is_flagged left g n ≡ cond (has gone n) false (is_flagged areas g n)) → ((g n : ℕ) → is_flagged now g n ≡ (is_some (young_slot g (installed blocks n)) || is_flagged left g n)) → ((n : ℕ) (block : BlockValue) → installed blocks n ≡ Some block → slot_at old n ≡ None) → ((n : ℕ) → slot_at new n ≡ cond (is_some (installed blocks n)) (installed blocks n) (cond (has gone n) None (cond (nat_lt n count) (cleared (slot_at old n)) (slot_at old n)))) → AreAreas new now
+pub exchanged_areas : (old new : List (Option BlockValue)) (areas left now : List (List Bool)) (gone : List ℕ) (blocks : List BlockValue) (count : ℕ) → AreAreas old areas → ((g n : ℕ) → is_flagged left g n ≡ cond (has gone n) false (is_flagged areas g n)) → ((g n : ℕ) → is_flagged now g n ≡ (holds_young g (installed blocks n) || is_flagged left g n)) → ((n : ℕ) (block : BlockValue) → installed blocks n ≡ Some block → slot_at old n ≡ None) → ((n : ℕ) → slot_at new n ≡ cond (is_some (installed blocks n)) (installed blocks n) (cond (has gone n) (cond (nat_lt n count) (cleared (slot_at old n)) None) (slot_at old n))) → AreAreas new now
 exchanged_areas old new areas left now gone blocks count are dropped put was_free slots = record {
-  each = λ g n. put g n ∙ ap (λ t. is_some (young_slot g (installed blocks n)) || t) (dropped g n ∙ ap (cond (has gone n) false) (are.each g n)) ∙ go g n (installed blocks n) refl ∙ sym (ap (λ o. is_some (young_slot g o)) (slots n));
+  each = λ g n. put g n ∙ ap (λ t. holds_young g (installed blocks n) || t) (dropped g n ∙ ap (cond (has gone n) false) (are.each g n)) ∙ go g n (installed blocks n) refl ∙ sym (ap (λ o. holds_young g o) (slots n));
 }
   where
-    none_young : (g : ℕ) (t : Bool) (o : Option BlockValue) → o ≡ None → cond t false (is_some (young_slot g o)) ≡ false
+    none_young : (g : ℕ) (t : Bool) (o : Option BlockValue) → o ≡ None → cond t false (holds_young g o) ≡ false
     none_young g true o none = refl
-    none_young g false o none = ap (λ x. is_some (young_slot g x)) none
+    none_young g false o none = ap (λ x. holds_young g x) none
 
     or_false : (a b : Bool) → b ≡ false → (a || b) ≡ a
     or_false true b h = refl
     or_false false b h = h
 
-    same_cleared : (g : ℕ) (t : Bool) (o : Option BlockValue) → is_some (young_slot g o) ≡ is_some (young_slot g (cond t (cleared o) o))
-    same_cleared g false o = refl
-    same_cleared g true None = refl
-    same_cleared g true (Some block) = by (nat_le block.generation g)
+    none_in_cleared : (g : ℕ) (o : Option BlockValue) → holds_young g (cleared o) ≡ false
+    none_in_cleared g None = refl
+    none_in_cleared g (Some block) = and_false (nat_le block.generation g)
       where
-        by : (b : Bool) → is_some (cond b (Some block) None) ≡ is_some (cond {A = Option BlockValue} b (Some (record block { objects = []; front = 0; sent = None; origins = [] })) None)
-        by true = refl
-        by false = refl
+        and_false : (b : Bool) → (b && false) ≡ false
+        and_false true = refl
+        and_false false = refl
 
-    rest : (g : ℕ) (t u : Bool) (o : Option BlockValue) → cond t false (is_some (young_slot g o)) ≡ is_some (young_slot g (cond t None (cond u (cleared o) o)))
-    rest g true u o = refl
-    rest g false u o = same_cleared g u o
+    rest : (g : ℕ) (t u : Bool) (o : Option BlockValue) → cond t false (holds_young g o) ≡ holds_young g (cond t (cond u (cleared o) None) o)
+    rest g true true o = sym (none_in_cleared g o)
+    rest g true false o = refl
+    rest g false u o = refl
 
-    go : (g n : ℕ) (x : Option BlockValue) → installed blocks n ≡ x → (is_some (young_slot g x) || cond (has gone n) false (is_some (young_slot g (slot_at old n)))) ≡ is_some (young_slot g (cond (is_some x) x (cond (has gone n) None (cond (nat_lt n count) (cleared (slot_at old n)) (slot_at old n)))))
+    go : (g n : ℕ) (x : Option BlockValue) → installed blocks n ≡ x → (holds_young g x || cond (has gone n) false (holds_young g (slot_at old n))) ≡ holds_young g (cond (is_some x) x (cond (has gone n) (cond (nat_lt n count) (cleared (slot_at old n)) None) (slot_at old n)))
     go g n None is = rest g (has gone n) (nat_lt n count) (slot_at old n)
-    go g n (Some block) is = or_false (is_some (young_slot g (Some block))) _ (none_young g (has gone n) (slot_at old n) (was_free n block is))
+    go g n (Some block) is = or_false (holds_young g (Some block)) _ (none_young g (has gone n) (slot_at old n) (was_free n block is))
 
--- the blocks' generations are the same
-pub record SameGenerations (old new : List (Option BlockValue)) : Type 0 where
-  pub each : (g n : ℕ) → is_some (young_slot g (slot_at new n)) ≡ is_some (young_slot g (slot_at old n))
+both_same : (a b c d : Bool) → a ≡ c → b ≡ d → (a && b) ≡ (c && d)
+both_same a b c d e f = ap (λ t. t && b) e ∙ ap (λ t. c && t) f
 
--- a block was changed, and its generation kept
-pub set_generations : (table : List (Option BlockValue)) (number : ℕ) (block new : BlockValue) → slot_at table number ≡ Some block → new.generation ≡ block.generation → SameGenerations table (set table number (Some new))
-set_generations table number block new there same = record {
+-- the same blocks hold objects of the generations 0 to g, whatever g is
+pub record SameYoung (old new : List (Option BlockValue)) : Type 0 where
+  pub each : (g n : ℕ) → holds_young g (slot_at new n) ≡ holds_young g (slot_at old n)
+
+-- a block was changed, and its generation and the number of its objects kept
+pub set_young : (table : List (Option BlockValue)) (number : ℕ) (block new : BlockValue) → slot_at table number ≡ Some block → new.generation ≡ block.generation → length new.objects ≡ length block.objects → SameYoung table (set table number (Some new))
+set_young table number block new there same many = record {
   each = λ g n. ⊎_elim
       (λ e.
       let here : n ≡ number = e in
-      rw (here, there, get_or-set_same table number (Some new) None (in_list table number block there)) (by g (nat_le new.generation g) (nat_le block.generation g) (ap (λ h. nat_le h g) same)))
-      (λ ne. ap (λ o. is_some (young_slot g o)) (get_or-set_other table number n (Some new) None ne))
+      rw (here, there, get_or-set_same table number (Some new) None (in_list table number block there)) (both_same _ _ _ _ (ap (λ h. nat_le h g) same) (ap (λ k. nat_lt 0 k) many)))
+      (λ ne. ap (λ o. holds_young g o) (get_or-set_other table number n (Some new) None ne))
+      (cases_eq n number);
+}
+
+pub same_areas : (old new : List (Option BlockValue)) (areas : List (List Bool)) → SameYoung old new → AreAreas old areas → AreAreas new areas
+same_areas old new areas same are = record { each = λ g n. are.each g n ∙ sym (same.each g n) }
+
+-- a block of generation 0 got an object, and its number was put in where it is the first
+pub pushed_areas : (table : List (Option BlockValue)) (number offset : ℕ) (block : BlockValue) (raw : Raw) (areas areas' : List (List Bool)) → slot_at table number ≡ Some block → block.generation ≡ 0 → offset ≡ used_of block → ((g n : ℕ) → is_flagged areas' g n ≡ ((nat_eq offset 0 && nat_eq n number) || is_flagged areas g n)) → AreAreas table areas → AreAreas (set table number (Some (with_more block raw))) areas'
+pushed_areas table number offset block raw areas areas' there youngest at flags are = record {
+  each = λ g n. flags g n ∙ ap (λ t. (nat_eq offset 0 && nat_eq n number) || t) (are.each g n) ∙ ⊎_elim
+      (λ e.
+      let here : n ≡ number = e in
+      rw (here, there, get_or-set_same table number (Some (with_more block raw)) None (in_list table number block there)) (now_flagged g block.objects refl))
+      (λ ne. ap (λ t. (nat_eq offset 0 && t) || holds_young g (slot_at table n)) (ne_eqb n number ne) ∙ none_more (nat_eq offset 0) (holds_young g (slot_at table n)) ∙ sym (ap (λ o. holds_young g o) (get_or-set_other table number n (Some (with_more block raw)) None ne)))
       (cases_eq n number);
 }
   where
-    by : (g : ℕ) (a b : Bool) → a ≡ b → is_some (cond a (Some new) None) ≡ is_some (cond b (Some block) None)
-    by g true true e = refl
-    by g true false e = absurd (true≢false e)
-    by g false true e = absurd (true≢false (sym e))
-    by g false false e = refl
+    none_more : (a b : Bool) → ((a && false) || b) ≡ b
+    none_more true b = refl
+    none_more false b = refl
 
-pub same_areas : (old new : List (Option BlockValue)) (areas : List (List Bool)) → SameGenerations old new → AreAreas old areas → AreAreas new areas
-same_areas old new areas same are = record { each = λ g n. are.each g n ∙ sym (same.each g n) }
+    or_true : (a b : Bool) → b ≡ true → (a || b) ≡ true
+    or_true true b h = refl
+    or_true false b h = h
+
+    some_here : (r : Raw) (raws : List Raw) → nat_lt 0 (length (r ∷ raws)) ≡ true
+    some_here r raws = grind (arith, nat_tests)
+
+    some_more : (raws : List Raw) → nat_lt 0 (length (raws ++ raw ∷ [])) ≡ true
+    some_more [] = refl
+    some_more (r ∷ raws) = grind (arith, nat_tests)
+
+    now_flagged : (g : ℕ) (raws : List Raw) → block.objects ≡ raws → ((nat_eq offset 0 && nat_eq number number) || (nat_le block.generation g && nat_lt 0 (length block.objects))) ≡ (nat_le block.generation g && nat_lt 0 (length (block.objects ++ raw ∷ [])))
+    now_flagged g [] is =
+        let young : nat_le block.generation g ≡ true = grind (arith, nat_tests, youngest) in
+        let first : nat_eq offset 0 ≡ true = eq-eqb offset 0 (at ∙ ap (λ raws. sum_by raw_size raws) is) in
+        rw (young, first, eq-eqb number number refl) (sym (some_more block.objects))
+    now_flagged g (r ∷ raws) is =
+        let young : nat_le block.generation g ≡ true = grind (arith, nat_tests, youngest) in
+        rw young (or_true _ (nat_lt 0 (length block.objects)) (ap (λ xs. nat_lt 0 (length xs)) is ∙ some_here r raws) ∙ sym (some_more block.objects))

@@ -60,31 +60,49 @@ has-insert_rising x (y ∷ ys) q = go (nat_lt x y) (has-insert_rising x ys q)
 pub has-without : (x : ℕ) (xs : List ℕ) (q : ℕ) → has (without x xs) q ≡ (has xs q && not (nat_eq q x))
 has-without x xs q = has-filter (λ n. not (nat_eq n x)) xs q
 
--- a step of the drop
-pub drop_slot : {X : Type 0} (old now : List (Option X)) (area : List ℕ) (i : ℕ) → i < length area → get_or area i 0 < length now → ((n : ℕ) → get_or now n None ≡ cond (has (take i area) n) None (get_or old n None)) → (n : ℕ) → get_or (set now (get_or area i 0) None) n None ≡ cond (has (take (i + 1) area) n) None (get_or old n None)
-drop_slot {X} old now area i lt room so_far n =
+-- a slot is one more of those that were changed, each once
+pub give_slot : {X : Type 0} (f : ℕ → Option X → Option X) (old now : List (Option X)) (area : List ℕ) (i : ℕ) → IsDistinct nat_eq area → i < length area → get_or area i 0 < length now → ((n : ℕ) → get_or now n None ≡ cond (has (take i area) n) (f n (get_or old n None)) (get_or old n None)) → (n : ℕ) → get_or (set now (get_or area i 0) (f (get_or area i 0) (get_or now (get_or area i 0) None))) n None ≡ cond (has (take (i + 1) area) n) (f n (get_or old n None)) (get_or old n None)
+give_slot {X} f old now area i once lt room so_far n =
     let more : has (take (i + 1) area) n ≡ (has (take i area) n || nat_eq n (get_or area i 0)) = ap (λ xs. has xs n) (take_more area i 0 lt) ∙ has-push (take i area) (get_or area i 0) n in
     let x = get_or area i 0 in
-    let both : (b : Bool) → nat_eq n x ≡ b → cond (has (take (i + 1) area) n) None (get_or old n None) ≡ cond (has (take i area) n || b) None (get_or old n None) = λ b is. ap (λ t. cond t None (get_or old n None)) (more ∙ ap (λ t. has (take i area) n || t) is) in
+    let before : get_or now x None ≡ get_or old x None = so_far x ∙ ap (λ t. cond t (f x (get_or old x None)) (get_or old x None)) (once_at area i once lt) in
+    let both : (b : Bool) → nat_eq n x ≡ b → cond (has (take (i + 1) area) n) (f n (get_or old n None)) (get_or old n None) ≡ cond (has (take i area) n || b) (f n (get_or old n None)) (get_or old n None) = λ b is. ap (λ t. cond t (f n (get_or old n None)) (get_or old n None)) (more ∙ ap (λ t. has (take i area) n || t) is) in
     ⊎_elim
-    (λ e. ap (λ m. get_or (set now x None) m None) e ∙ get_or-set_same now x None None room ∙ sym (both true (eq-eqb n x e) ∙ ap (λ t. cond t None (get_or old n None)) (or_true (has (take i area) n))))
-    (λ ne. get_or-set_other now x n None None ne ∙ so_far n ∙ sym (both false (ne_eqb n x ne) ∙ ap (λ t. cond t None (get_or old n None)) (or_none (has (take i area) n))))
+    (λ e. ap (λ m. get_or (set now x (f x (get_or now x None))) m None) e ∙ get_or-set_same now x (f x (get_or now x None)) None room ∙ ap (f x) before ∙ sym (both true (eq-eqb n x e) ∙ ap (λ t. cond t (f n (get_or old n None)) (get_or old n None)) (or_true (has (take i area) n)) ∙ ap (λ m. f m (get_or old m None)) e))
+    (λ ne. get_or-set_other now x n (f x (get_or now x None)) None ne ∙ so_far n ∙ sym (both false (ne_eqb n x ne) ∙ ap (λ t. cond t (f n (get_or old n None)) (get_or old n None)) (or_none (has (take i area) n))))
     (cases_eq n x)
 
-pub drop_free : (before now new area : List ℕ) (i : ℕ) → i < length area → new ≡ insert_rising (get_or area i 0) now → ((n : ℕ) → has now n ≡ (has (take i area) n || has before n)) → (n : ℕ) → has new n ≡ (has (take (i + 1) area) n || has before n)
-drop_free before now new area i lt is so_far n =
-    let more : has (take (i + 1) area) n ≡ (has (take i area) n || nat_eq n (get_or area i 0)) = ap (λ xs. has xs n) (take_more area i 0 lt) ∙ has-push (take i area) (get_or area i 0) n in
-    rw (more, is, has-insert_rising (get_or area i 0) now n, so_far n) (turned (has (take i area) n) (nat_eq n (get_or area i 0)) (has before n))
+-- a number is one more of those that are free, where it passes a test
+pub give_free : (p : ℕ → Bool) (before now new area : List ℕ) (i : ℕ) → i < length area → ((n : ℕ) → has new n ≡ ((p (get_or area i 0) && nat_eq n (get_or area i 0)) || has now n)) → ((n : ℕ) → has now n ≡ ((p n && has (take i area) n) || has before n)) → (n : ℕ) → has new n ≡ ((p n && has (take (i + 1) area) n) || has before n)
+give_free p before now new area i lt is so_far n =
+    let x = get_or area i 0 in
+    let more : has (take (i + 1) area) n ≡ (has (take i area) n || nat_eq n x) = ap (λ xs. has xs n) (take_more area i 0 lt) ∙ has-push (take i area) x n in
+    is n ∙ ap (λ t. (p x && nat_eq n x) || t) (so_far n) ∙ ⊎_elim
+    (λ e. ap (λ t. (p x && t) || ((p n && has (take i area) n) || has before n)) (eq-eqb n x e) ∙ ap (λ m. (p m && true) || ((p n && has (take i area) n) || has before n)) (sym e) ∙ added (p n) (has (take i area) n) (has before n) ∙ sym (ap (λ t. (p n && t) || has before n) (more ∙ ap (λ t. has (take i area) n || t) (eq-eqb n x e))))
+    (λ ne. ap (λ t. (p x && t) || ((p n && has (take i area) n) || has before n)) (ne_eqb n x ne) ∙ kept (p x) (p n) (has (take i area) n) (has before n) ∙ sym (ap (λ t. (p n && t) || has before n) (more ∙ ap (λ t. has (take i area) n || t) (ne_eqb n x ne))))
+    (cases_eq n x)
   where
-    turned : (a b c : Bool) → (b || (a || c)) ≡ ((a || b) || c)
-    turned true true c = refl
-    turned true false c = refl
-    turned false b c = refl
+    added : (q h b : Bool) → ((q && true) || ((q && h) || b)) ≡ ((q && (h || true)) || b)
+    added true true b = refl
+    added true false b = refl
+    added false h b = refl
+
+    kept : (o q h b : Bool) → ((o && false) || ((q && h) || b)) ≡ ((q && (h || false)) || b)
+    kept true true true b = refl
+    kept true true false b = refl
+    kept true false h b = refl
+    kept false true true b = refl
+    kept false true false b = refl
+    kept false false h b = refl
 
 -- it isn't free before it is given back
-pub not_yet_free : (before now area : List ℕ) (i : ℕ) → IsDistinct nat_eq area → i < length area → has before (get_or area i 0) ≡ false → ((n : ℕ) → has now n ≡ (has (take i area) n || has before n)) → ¬ (Contains now (get_or area i 0))
-not_yet_free before now area i once lt absent so_far there =
-    true≢false (sym (has-contains now (get_or area i 0) there) ∙ so_far (get_or area i 0) ∙ ap (λ b. b || has before (get_or area i 0)) (once_at area i once lt) ∙ absent)
+pub not_yet_free : (p : ℕ → Bool) (before now area : List ℕ) (i : ℕ) → IsDistinct nat_eq area → i < length area → has before (get_or area i 0) ≡ false → ((n : ℕ) → has now n ≡ ((p n && has (take i area) n) || has before n)) → has now (get_or area i 0) ≡ false
+not_yet_free p before now area i once lt absent so_far =
+    so_far (get_or area i 0) ∙ ap (λ b. (p (get_or area i 0) && b) || has before (get_or area i 0)) (once_at area i once lt) ∙ ap (λ b. (p (get_or area i 0) && false) || b) absent ∙ neither (p (get_or area i 0))
+  where
+    neither : (b : Bool) → ((b && false) || false) ≡ false
+    neither true = refl
+    neither false = refl
 
 pub take-all : (xs : List ℕ) (i : ℕ) → length xs ≤ i → take i xs ≡ xs
 take-all [] i le = take_none i

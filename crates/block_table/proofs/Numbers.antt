@@ -111,3 +111,9 @@ module _ (p : ℕ → Bool) (from : ℕ) where
           and_false : (t : Bool) → (t && false) ≡ false
           and_false true = refl
           and_false false = refl
+
+-- the same of all numbers
+pub all_from_0 : (p : ℕ → Bool) (end : ℕ) (numbers : List ℕ) → HasNumbers p 0 end numbers → ((n : ℕ) → end ≤ n → p n ≡ false) → (n : ℕ) → has numbers n ≡ p n
+all_from_0 p end numbers so_far none n =
+    let low : nat_le 0 n ≡ true = grind (arith, nat_tests) in
+    all_numbers p 0 end numbers so_far none n ∙ ap (λ t. t && p n) low

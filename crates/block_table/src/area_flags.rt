@@ -1,4 +1,4 @@
-//! The numbers of a heap's blocks by generation.
+//! The numbers of a heap's blocks in use, by generation.
 ghost use Rattle.std.specs.Prelude.{◌≡◌, ℕ, ◌<◌, ◌≤◌, [], true, false, length, replicate, nat_eq, nat_le, ◌&&◌, if◌then◌else◌, IfOk, OnOk, IfNone, IfSome};
 ghost use Rattle.block_table.specs.Areas.{is_flagged, HasRoom};
 
@@ -6,7 +6,7 @@ use number_sets::Flags;
 use std::alloc::{AllocError, Allocator, Global};
 use std::marker::Model;
 
-/// For each generation the numbers of the blocks of it and of the younger ones.
+/// For each generation the numbers of the blocks that hold objects of it or of the younger ones.
 #[derive(Drop)]
 pub struct AreaFlags<A: Allocator = Global> {
     young: Vec<Flags<A>, A>,
@@ -43,6 +43,7 @@ impl<A: Allocator> AreaFlags<A> {
     /// Makes room for all numbers below `len`. An error says that memory ran out.
     pub fn reserve(&mut self, len: usize) -> Result<(), AllocError>
         ensures room { OnOk result (HasRoom self.new len) }
+        ensures no_less { (len : ℕ) → HasRoom self.old len → HasRoom self.new len }
         ensures same { (g n : ℕ) → is_flagged self.new g n ≡ is_flagged self.old g n }
         ensures generations { length self.new ≡ length self.old }
     {

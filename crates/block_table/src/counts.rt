@@ -8,7 +8,7 @@ ghost use Rattle.model.specs.Reached.{has};
 ghost use Rattle.steps.specs.ConfigRange.{IsInRange};
 ghost use Rattle.steps.specs.StepPairs.{step_pair};
 ghost use Rattle.heap_data.specs.CensusView.{step_value};
-ghost use Rattle.block_table.specs.Areas.{is_flagged, AreAreas};
+ghost use Rattle.block_table.specs.Areas.{holds_young, is_flagged, AreAreas};
 ghost use Rattle.block_table.specs.Counts.{HasCounted, IsYoungRun};
 ghost use Rattle.block_table.specs.Table.{AreHeapBlocks, objects_map, slot_at, slot_len, slot_words, objects_before, young_slot, young_table, step_slot};
 
@@ -17,9 +17,6 @@ use block_pool::Block;
 use heap_data::StepCount;
 use std::alloc::{AllocError, Allocator};
 use steps::StepId;
-
-/// How many blocks' counts there is room for at first.
-const FIRST_COUNTS: usize = 64;
 
 /// How many objects of a generation and step the block holds, and how many words they take.
 fn count_slot<A: Allocator>(slot: &Option<Block<A>>, at: StepId) -> (u64, u64)
@@ -61,15 +58,15 @@ pub fn count_step<A: Allocator>(table: &[Option<Block<A>>], at: StepId) -> StepC
     }
 }
 
-/// How many objects the block holds, where there is one of generation at most `generation`.
+/// How many objects the block holds, where there is one of generation at most `generation` that holds some.
 fn young_len<A: Allocator>(slot: &Option<Block<A>>, generation: u8) -> Option<u32>
-    ensures young { is_some result ≡ is_some (young_slot generation slot.now) }
+    ensures young { is_some result ≡ holds_young generation slot.now }
     ensures value { IfSome result (λ len. len ≡ slot_len (young_slot generation slot.now)) }
     ensures few { IfSome result (λ len. len ≤ 512) }
 {
     match slot {
         Some(block) => {
-            if block.generation() > generation {
+            if block.generation() > generation || block.is_empty() {
                 return None;
             }
             let _words = block.words();
@@ -79,8 +76,9 @@ fn young_len<A: Allocator>(slot: &Option<Block<A>>, generation: u8) -> Option<u3
     }
 }
 
-/// Counts the blocks of generation at most `generation` that follow those counted, up to the first other one. `objects` is how
-/// many objects were counted before, and the result how many are counted then. An error says that memory ran out.
+/// Counts the blocks of generation at most `generation` that follow those counted, up to the first that holds none of their
+/// objects. `objects` is how many objects were counted before, and the result how many are counted then. An error says that
+/// memory ran out.
 fn count_run<A: Allocator, B: Allocator>(
     bases: &mut Vec<u32, B>,
     objects: u32,
@@ -107,8 +105,8 @@ fn count_run<A: Allocator, B: Allocator>(
     Ok(objects)
 }
 
-/// How many objects of generation at most `generation` the blocks before each one hold, up to the last block of such a
-/// generation, and how many all hold.
+/// How many objects of generation at most `generation` the blocks before each one hold, up to the last that holds such an
+/// object, and how many all hold.
 pub fn bases<A: Allocator, B: Allocator>(
     alloc: B,
     table: &[Option<Block<A>>],
@@ -118,11 +116,11 @@ pub fn bases<A: Allocator, B: Allocator>(
     requires short { length table.now ≤ 65535 }
     requires areas { AreAreas table.now areas.now }
     ensures len { IfOk result (λ r. length r.0.items ≤ length table.now) }
-    ensures covers { IfOk result (λ r. (b : ℕ) → is_some (young_slot generation (slot_at table.now b)) ≡ true → b < length r.0.items) }
+    ensures covers { IfOk result (λ r. (b : ℕ) → holds_young generation (slot_at table.now b) ≡ true → b < length r.0.items) }
     ensures bases { IfOk result (λ r. (b : ℕ) → b < length r.0.items → slice_index r.0.items b ≡ objects_before (young_table generation table.now) b) }
     ensures all { IfOk result (λ r. r.1 ≡ sum_by slot_len (young_table generation table.now)) }
 {
-    let mut bases = Vec::with_capacity(alloc, FIRST_COUNTS)?;
+    let mut bases = Vec::new(alloc);
     let mut objects = 0;
     while let Some(number) = areas.next_young(generation, bases.len()) {
         bases.resize(number, objects)?;
@@ -131,19 +129,18 @@ pub fn bases<A: Allocator, B: Allocator>(
     Ok((bases, objects))
 }
 
-/// The numbers, from `from` on, of the blocks of generation at most `generation`.
+/// The numbers of the blocks that hold objects of generation at most `generation`.
 pub fn young_blocks<A: Allocator, B: Allocator>(
     alloc: B,
     areas: &AreaFlags<A>,
-    from: usize,
     generation: u8,
 ) -> Result<Vec<u32, B>, AllocError>
     requires short { (n : ℕ) → is_flagged areas.now generation n ≡ true → n < 65535 }
-    ensures numbers { IfOk result (λ numbers. (n : ℕ) → has numbers.items n ≡ (nat_le from n && is_flagged areas.now generation n)) }
+    ensures numbers { IfOk result (λ numbers. (n : ℕ) → has numbers.items n ≡ is_flagged areas.now generation n) }
     ensures once { IfOk result (λ numbers. IsDistinct nat_eq numbers.items) }
 {
     let mut numbers = Vec::new(alloc);
-    let mut next = from;
+    let mut next = 0;
     while let Some(number) = areas.next_young(generation, next) {
         numbers.push(number as u32)?;
         next = number + 1;

@@ -1,8 +1,8 @@
 //! How a collection changes the table of blocks.
-ghost use Rattle.std.specs.Prelude.{◌≡◌, ℕ, ◌+◌, ◌<◌, ◌≤◌, None, Some, slice_set, true, false, length, nat_eq, nat_lt, map, slice_index_or, OnOk, max, All, ◌||◌, ◌&&◌, not, is_some, if◌then◌else◌};
+ghost use Rattle.std.specs.Prelude.{◌≡◌, ℕ, ◌+◌, ◌<◌, ◌≤◌, None, Some, slice_set, true, false, length, nat_eq, nat_le, nat_lt, map, slice_index_or, OnOk, max, All, ◌||◌, ◌&&◌, not, is_some, if◌then◌else◌};
 ghost use Rattle.std.specs.List.{IsDistinct};
 ghost use Rattle.model.specs.Reached.{has};
-ghost use Rattle.block_table.specs.Table.{cleared};
+ghost use Rattle.block_table.specs.Table.{cleared, slot_at};
 ghost use Rattle.block_table.specs.Installed.{installed};
 
 use crate::table::Table;
@@ -14,17 +14,6 @@ fn clear_slot<A: Allocator>(slot: &mut Option<Block<A>>)
 {
     if let Some(block) = slot {
         block.clear();
-    }
-}
-
-/// Takes all objects out of the first blocks.
-fn clear_blocks<A: Allocator>(table: &mut [Option<Block<A>>], count: usize)
-    requires { count ≤ length table.old }
-    ensures first { (n : ℕ) → n < count → slice_index_or table.new n None ≡ cleared (slice_index_or table.old n None) }
-    ensures others { (n : ℕ) → count ≤ n → slice_index_or table.new n None ≡ slice_index_or table.old n None }
-{
-    for number in 0..count {
-        clear_slot(&mut table[number]);
     }
 }
 
@@ -43,20 +32,46 @@ fn put_block<A: Allocator>(table: &mut [Option<Block<A>>], block: Block<A>)
     table[number] = Some(block);
 }
 
-/// Drops the blocks of the area, and gives them back to the pool.
-fn drop_area<A: Allocator>(table: &mut [Option<Block<A>>], pool: &mut Pool<A>, area: &[u32])
+/// Empties a block of the area that is one of the first, and drops any other, which goes back to the pool.
+fn give_up<A: Allocator>(
+    table: &mut [Option<Block<A>>],
+    pool: &mut Pool<A>,
+    count: usize,
+    number: u32,
+)
+    requires in_table { number < length table.old }
+    requires in_pool { count ≤ number → number < pool.old.limit }
+    requires not_free { count ≤ number → has pool.old.free number ≡ false }
+    ensures table { table.new ≡ slice_set table.old number (if nat_lt number count then cleared (slot_at table.old number) else None) }
+    ensures free { (n : ℕ) → has pool.new.free n ≡ ((nat_le count number && nat_eq n number) || has pool.old.free n) }
+    ensures limit { pool.new.limit ≡ pool.old.limit }
+{
+    if (number as usize) < count {
+        clear_slot(&mut table[number as usize]);
+        return;
+    }
+    drop_block(table, number as usize);
+    pool.give_back(number);
+}
+
+/// Empties those of the area that are among the first blocks, and drops the others, which go back to the pool.
+fn give_up_area<A: Allocator>(
+    table: &mut [Option<Block<A>>],
+    pool: &mut Pool<A>,
+    count: usize,
+    area: &[u32],
+)
     requires in_table { (n : ℕ) → has area.now n ≡ true → n < length table.old }
-    requires in_pool { (n : ℕ) → has area.now n ≡ true → n < pool.old.limit }
-    requires not_free { (n : ℕ) → has area.now n ≡ true → has pool.old.free n ≡ false }
+    requires in_pool { (n : ℕ) → has area.now n ≡ true → count ≤ n → n < pool.old.limit }
+    requires not_free { (n : ℕ) → has area.now n ≡ true → count ≤ n → has pool.old.free n ≡ false }
     requires once { IsDistinct nat_eq area.now }
-    ensures table { (n : ℕ) → slice_index_or table.new n None
-        ≡ (if has area.now n then None else slice_index_or table.old n None) }
-    ensures free { (n : ℕ) → has pool.new.free n ≡ (has area.now n || has pool.old.free n) }
+    ensures table { (n : ℕ) → slot_at table.new n
+        ≡ (if has area.now n then (if nat_lt n count then cleared (slot_at table.old n) else None) else slot_at table.old n) }
+    ensures free { (n : ℕ) → has pool.new.free n ≡ ((nat_le count n && has area.now n) || has pool.old.free n) }
     ensures limit { pool.new.limit ≡ pool.old.limit }
 {
     for number in area {
-        drop_block(table, *number as usize);
-        pool.give_back(*number);
+        give_up(table, pool, count, *number);
     }
 }
 
@@ -109,7 +124,7 @@ fn install<A: Allocator>(
     }
 }
 
-/// Empties the first blocks, drops those of the old area, and puts in the new ones.
+/// Empties the blocks of the old area that are among the first, drops its others, and puts in the new ones.
 pub fn exchange<A: Allocator>(
     table: &mut [Option<Block<A>>],
     pool: &mut Pool<A>,
@@ -117,23 +132,21 @@ pub fn exchange<A: Allocator>(
     old_area: &[u32],
     blocks: Vec<Block<A>, A>,
 )
-    requires count { count ≤ length table.old }
     requires in_table { (n : ℕ) → has old_area.now n ≡ true → n < length table.old }
-    requires in_pool { (n : ℕ) → has old_area.now n ≡ true → n < pool.old.limit }
-    requires not_free { (n : ℕ) → has old_area.now n ≡ true → has pool.old.free n ≡ false }
+    requires in_pool { (n : ℕ) → has old_area.now n ≡ true → count ≤ n → n < pool.old.limit }
+    requires not_free { (n : ℕ) → has old_area.now n ≡ true → count ≤ n → has pool.old.free n ≡ false }
     requires old_once { IsDistinct nat_eq old_area.now }
     requires blocks_in_table { All (λ block. block.number < length table.old) blocks.items }
     requires free { All (λ block. has pool.old.free block.number ≡ true) blocks.items }
     requires once { IsDistinct nat_eq (map (λ block. block.number) blocks.items) }
-    ensures table { (n : ℕ) → slice_index_or table.new n None
+    ensures table { (n : ℕ) → slot_at table.new n
         ≡ (if is_some (installed blocks.items n) then installed blocks.items n
-        else (if has old_area.now n then None
-        else (if nat_lt n count then cleared (slice_index_or table.old n None) else slice_index_or table.old n None))) }
+        else (if has old_area.now n then (if nat_lt n count then cleared (slot_at table.old n) else None)
+        else slot_at table.old n)) }
     ensures free { (n : ℕ) → has pool.new.free n
-        ≡ ((has old_area.now n || has pool.old.free n) && not (is_some (installed blocks.items n))) }
+        ≡ (((nat_le count n && has old_area.now n) || has pool.old.free n) && not (is_some (installed blocks.items n))) }
     ensures limit { pool.new.limit ≡ pool.old.limit }
 {
-    clear_blocks(table, count);
-    drop_area(table, pool, old_area);
+    give_up_area(table, pool, count, old_area);
     install(table, pool, blocks);
 }

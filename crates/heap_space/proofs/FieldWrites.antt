@@ -16,7 +16,7 @@ use Rattle.block_pool.specs.BlockValue.{BlockValue, offset_of, with_pointer_word
 use Rattle.block_pool.specs.PoolValue.{PoolValue}
 use Rattle.heap_data.specs.BlockObjects.{object_of}
 use Rattle.block_table.specs.Table.{slot_at, objects_map}
-use Rattle.block_table.proofs.AreaTables.{SameGenerations, set_generations}
+use Rattle.block_table.proofs.AreaTables.{SameYoung, set_young}
 use Rattle.nursery.specs.NurseryValue.{NurseryValue}
 use Rattle.heap_space.specs.Space.{IsSoundSpace, space_of}
 use Rattle.heap_data.specs.Words.{target_of_word}
@@ -45,7 +45,7 @@ target_of_pointer (Some place) = target_of_positive (place_word place) (place_wo
 -- the space after the object of a name was changed
 pub record IsChanged (config : Config) (table table' : List (Option BlockValue)) (nurseries : List NurseryValue) (pool : PoolValue) (name : ℕ) (new : Object) : Type 0 where
   pub sound : IsSoundSpace config table' nurseries pool
-  pub generations : SameGenerations table table'
+  pub young : SameYoung table table'
   pub space_is : space_of config table' nurseries pool ≡ record (space_of config table nurseries pool) { objects = insert (objects_map table) name new }
 
 -- the table after a raw object was changed
@@ -78,7 +78,7 @@ module _ (config : Config) (table : List (Option BlockValue)) (nurseries : List 
         let table_is : table' ≡ set table number (Some (record begins.block { objects = set begins.block.objects found.ordinal (change raw) })) = writes begins.block found.ordinal raw begins.there begins.in_block begins.at begins.is in
         rw table_is (record {
           sound = changed_sound config table nurseries pool sound number offset found.ordinal raw (change raw) lt begins about.0;
-          generations = set_generations table number begins.block (record begins.block { objects = set begins.block.objects found.ordinal (change raw) }) begins.there refl;
+          young = set_young table number begins.block (record begins.block { objects = set begins.block.objects found.ordinal (change raw) }) begins.there refl (length-set begins.block.objects found.ordinal (change raw));
           space_is =
               changed_space config table nurseries pool sound number offset found.ordinal raw (change raw) lt begins about.0
               ∙ ap (λ (x : Object). record (space_of config table nurseries pool) { objects = insert (objects_map table) (small_word number offset) x }) about.1;

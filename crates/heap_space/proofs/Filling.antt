@@ -1,6 +1,5 @@
 -- A mutator's nursery among those of all.
 use Rattle.std.proofs.Common.{Result, Ok, Err, zero, suc, [], ◌∷◌}
-use Rattle.std.specs.Result.{OnErr}
 use Rattle.std.specs.Prelude.{IfOk, IsSome}
 use Rattle.layout.specs.declared.place.Place.{Place}
 use Rattle.layout.specs.Place.{place_word}
@@ -8,7 +7,7 @@ use Rattle.nursery.specs.declared.filling.NurseryFull.{NurseryFull}
 use Rattle.model.proofs.Options.{some_is}
 use Rattle.std.proofs.Common.{◌≡◌, ℕ, ◌+◌, ◌/◌, ◌<◌, ◌≤◌, List, get_or, set, Option, Some, refl, sym, ap, subst, ◌∙◌, arith}
 use Rattle.std.proofs.lemmas.Option.{slice_get-get_or}
-use Rattle.std.specs.Prelude.{slice_get, option_and_then}
+use Rattle.std.specs.Prelude.{slice_get, option_and_then, nat_eq, Bool, ◌&&◌, ◌||◌}
 use Rattle.std.specs.FinMap.{insert, get}
 use Rattle.model.specs.Config.{Config}
 use Rattle.model.specs.Graph.{fresh_object}
@@ -16,9 +15,12 @@ use Rattle.model.specs.Room.{room_after}
 use Rattle.block_pool.specs.BlockValue.{BlockValue, used_of, new_object}
 use Rattle.block_pool.specs.PoolValue.{PoolValue}
 use Rattle.heap_data.specs.BlockObjects.{object_of}
-use Rattle.layout.specs.Place.{small_word}
+use Rattle.layout.specs.Place.{small_word, large_word}
+use Rattle.layout.specs.declared.place.SmallPlace.{SmallPlace}
+use Rattle.heap_data.specs.HeapValue.{nursery_count}
+use Rattle.block_table.specs.Areas.{is_flagged, AreAreas}
 use Rattle.block_table.specs.Table.{objects_map, with_more}
-use Rattle.block_table.proofs.AreaTables.{SameGenerations, set_generations}
+use Rattle.block_table.proofs.AreaTables.{pushed_areas}
 use Rattle.block_table.proofs.TableLemmas.{TableFits}
 use Rattle.block_table.proofs.TableMap.{objects_map-push, pushed_new}
 use Rattle.block_table.proofs.TableCensus.{map-nil}
@@ -68,6 +70,29 @@ module _ (config : Config) (table : List (Option BlockValue)) (nurseries : List 
         ∙ ap (λ o. insert (objects_map table) (small_word push.number 0 + used_of push.block) o) new_is
         ∙ ap (λ w. insert (objects_map table) w (fresh_object p q)) (sym word_is)
 
+    -- the small place of the new object
+    pub small_at : (at : SmallPlace) → place ≡ small_word at.block at.offset → (at.block ≡ push.number) × (at.offset ≡ used_of push.block) × (at.block < nursery_count config)
+    small_at at is =
+        let aside : push.number < nursery_count config = is_set_aside config table nurseries pool sound mutator n new there p q place table' small push in
+        let words : used_of push.block < 512 = omega (arith, push.fits, sound.in_range.most_words) in
+        let same : small_word at.block at.offset ≡ small_word push.number (used_of push.block) = sym is ∙ push.place_is in
+        let block : at.block ≡ push.number = omega (arith, same, words, at.offset_in_range) in
+        (block, omega (arith, same, block), omega (arith, aside, block))
+
+    -- no large object's
+    pub not_large : (number : ℕ) → place ≡ large_word number → ⊥
+    not_large number is =
+        let aside : push.number < nursery_count config = is_set_aside config table nurseries pool sound mutator n new there p q place table' small push in
+        absurd (omega (arith, is, push.place_is, aside, push.fits, sound.in_range.most_words, sound.set_aside, sound.short, sound.in_range.most_blocks))
+
+    -- the flags, where the number of the block was put in for its first object
+    pub areas_after : (at : SmallPlace) (areas areas' : List (List Bool)) → place ≡ small_word at.block at.offset → ((g m : ℕ) → is_flagged areas' g m ≡ ((nat_eq at.offset 0 && nat_eq m at.block) || is_flagged areas g m)) → AreAreas table areas → AreAreas table' areas'
+    areas_after at areas areas' is flags are =
+        let it = small_at at is in
+        let label = sound.young push.number push.block (is_set_aside config table nurseries pool sound mutator n new there p q place table' small push) push.there in
+        rw push.table_is (pushed_areas table push.number at.offset push.block (new_object p q) areas areas' push.there label.0 it.1
+        (λ g m. flags g m ∙ ap (λ b. (nat_eq at.offset 0 && nat_eq m b) || is_flagged areas g m) it.0) are)
+
     pub allocates : SpaceAllocates (space_of config table nurseries pool) mutator p q place (space_of config table' (set nurseries mutator new) pool)
     allocates = record {
       room = nursery_room new table';
@@ -90,14 +115,6 @@ module _ (config : Config) (table : List (Option BlockValue)) (nurseries : List 
   module _ (p q : ℕ) (new : NurseryValue) (table' : List (Option BlockValue)) (small : 1 + p + q ≤ config.block_words / 4) where
     pub stays : (new ≡ n) × (table' ≡ table) → set nurseries mutator new ≡ nurseries
     stays same = ap (set nurseries mutator) same.0 ∙ set_there nurseries mutator n there
-
-    pub generations_after : (result : Result Place NurseryFull) → IfOk result (λ place. Pushes config.block_words n table p q (place_word place) new table') → OnErr result ((new ≡ n) × (table' ≡ table)) → SameGenerations table table'
-    generations_after (Ok place) ok err = rw ok.table_is (set_generations table ok.number ok.block (with_more ok.block (new_object p q)) ok.there refl)
-    generations_after (Err e) ok err = rw err.1 (record { each = λ g n. refl })
-
-    pub sound_after : (result : Result Place NurseryFull) → IfOk result (λ place. Pushes config.block_words n table p q (place_word place) new table') → OnErr result ((new ≡ n) × (table' ≡ table)) → IsSoundSpace config table' (set nurseries mutator new) pool
-    sound_after (Ok place) ok err = now_sound p q (place_word place) new table' small ok
-    sound_after (Err e) ok err = rw (stays err, err.1) sound
 
     pub room_after_is : (result : Result Place NurseryFull) → IfOk result (λ place. Pushes config.block_words n table p q (place_word place) new table') → (place : Place) → result ≡ Ok place → IsSome (room_in (space_of config table nurseries pool) mutator (1 + p + q))
     room_after_is (Ok x) ok place is = subst (λ r. IsSome r) (sym (room_is (1 + p + q) ∙ ok.room)) refl

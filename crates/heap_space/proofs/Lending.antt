@@ -39,6 +39,7 @@ module _ (config : Config) (table : List (Option BlockValue)) (nurseries : List 
     };
     flags = sound.flags;
     generations = sound.generations;
+    room = sound.room;
   }
 
   -- the first free ones are lent, or none

@@ -1,6 +1,6 @@
 -- What there is after blocks took the place of what is collected.
 use Rattle.std.proofs.Common.{◌≡◌, ℕ, zero, suc, ◌+◌, ◌-◌, ◌<◌, ◌≤◌, Bool, true, false, cond, ◌||◌, ◌&&◌, not, List, [], ◌∷◌, length, map, replicate, Option, Some, None, sum_by, refl, sym, ap, subst, ◌∙◌, arith, ⊎_elim, ◌⊎◌, inl, inr}
-use Rattle.std.proofs.lemmas.Bool.{cases_lt, cases_Bool, or_left, or_right}
+use Rattle.std.proofs.lemmas.Bool.{cases_lt, true≢false, or_left, or_right}
 use Rattle.std.proofs.lemmas.Bool.Decides.{nat_tests}
 use Rattle.std.proofs.lemmas.List.{length-map}
 use Rattle.std.specs.Prelude.{is_some, nat_le, nat_lt, slice_get}
@@ -18,7 +18,7 @@ use Rattle.layout.specs.Object.{Raw, raw_size}
 use Rattle.layout.specs.Place.{small_word}
 use Rattle.heap_data.specs.HeapValue.{nursery_count}
 use Rattle.heap_data.specs.BlockObjects.{object_of, objects_from, copies_of}
-use Rattle.block_table.specs.Areas.{is_flagged, AreAreas}
+use Rattle.block_table.specs.Areas.{holds_young, is_flagged, AreAreas}
 use Rattle.block_table.specs.Installed.{installed}
 use Rattle.block_table.specs.Table.{slot_at, slot_objects, cleared, slot_words, objects_map, young_slot, IsHeapBlock}
 use Rattle.nursery.specs.NurseryValue.{NurseryValue, nursery_room}
@@ -72,17 +72,17 @@ some_or_none (Some block) = inl (block, refl)
 abbrev pub older_slot : ℕ → Option BlockValue → Option BlockValue
 older_slot g slot = cond (is_some (young_slot g slot)) None slot
 
--- the numbers of the blocks that go: those past the nurseries, of a generation that is collected
-abbrev pub Goes : ℕ → ℕ → List (Option BlockValue) → List ℕ → Type 0
-Goes from g table gone = (n : ℕ) → has gone n ≡ (nat_le from n && is_some (young_slot g (slot_at table n)))
+-- the numbers of the blocks that are given up: those that hold an object of a generation that is collected
+abbrev pub Goes : ℕ → List (Option BlockValue) → List ℕ → Type 0
+Goes g table gone = (n : ℕ) → has gone n ≡ holds_young g (slot_at table n)
 
--- the flagged numbers past the nurseries are those of the blocks that go
-pub goes_flagged : (from g : ℕ) (table : List (Option BlockValue)) (areas : List (List Bool)) (gone : List ℕ) → AreAreas table areas → ((n : ℕ) → has gone n ≡ (nat_le from n && is_flagged areas g n)) → Goes from g table gone
-goes_flagged from g table areas gone are each n = each n ∙ ap (λ t. nat_le from n && t) (are.each g n)
+-- the flagged numbers are those of the blocks that go
+pub goes_flagged : (g : ℕ) (table : List (Option BlockValue)) (areas : List (List Bool)) (gone : List ℕ) → AreAreas table areas → ((n : ℕ) → has gone n ≡ is_flagged areas g n) → Goes g table gone
+goes_flagged g table areas gone are each n = each n ∙ are.each g n
 
 -- a table with the same blocks, and flags that mean the same
 pub grown_areas : (old new : List (Option BlockValue)) (areas areas' : List (List Bool)) → ((n : ℕ) → slot_at new n ≡ slot_at old n) → ((g n : ℕ) → is_flagged areas' g n ≡ is_flagged areas g n) → AreAreas old areas → AreAreas new areas'
-grown_areas old new areas areas' same flags are = record { each = λ g n. flags g n ∙ are.each g n ∙ sym (ap (λ o. is_some (young_slot g o)) (same n)) }
+grown_areas old new areas areas' same flags are = record { each = λ g n. flags g n ∙ are.each g n ∙ sym (ap (λ o. holds_young g o) (same n)) }
 
 -- no flag is set past the last number
 pub few_flagged : (config : Config) (table : List (Option BlockValue)) (nurseries : List NurseryValue) (pool : PoolValue) (areas : List (List Bool)) → IsFlaggedSpace config table nurseries pool areas → (g n : ℕ) → is_flagged areas g n ≡ true → n < 65535
@@ -93,19 +93,63 @@ both_of true true h = (refl, refl)
 both_of true false h = absurd (cc)
 both_of false b h = absurd (cc)
 
-pub young_some : (g : ℕ) (o : Option BlockValue) → is_some (young_slot g o) ≡ true → (block : BlockValue) × (o ≡ Some block) × (block.generation ≤ g)
-young_some g None h = absurd (cc)
-young_some g (Some block) h = go (nat_le block.generation g) refl h
-  where
-    go : (b : Bool) → nat_le block.generation g ≡ b → is_some (cond {A = Option BlockValue} b (Some block) None) ≡ true → (x : BlockValue) × (Some block ≡ Some x) × (x.generation ≤ g)
-    go true le e = (block, refl, grind (arith, nat_tests, le))
-    go false le e = absurd (cc)
+both : (a b : Bool) → a ≡ true → b ≡ true → (a && b) ≡ true
+both true b h e = e
+both false b h e = h
 
-pub gone_there : (config : Config) (table : List (Option BlockValue)) (g : ℕ) (gone : List ℕ) → Goes (nursery_count config) g table gone → (n : ℕ) → has gone n ≡ true → (nursery_count config ≤ n) × ((block : BlockValue) × (slot_at table n ≡ Some block))
-gone_there config table g gone goes n h =
-    let parts = both_of (nat_le (nursery_count config) n) (is_some (young_slot g (slot_at table n))) (sym (goes n) ∙ h) in
-    let there = young_some g (slot_at table n) parts.1 in
-    (grind (arith, nat_tests, parts.0), (there.0, there.1))
+pub young_some : (g : ℕ) (o : Option BlockValue) → holds_young g o ≡ true → (block : BlockValue) × (o ≡ Some block) × (block.generation ≤ g) × (0 < length block.objects)
+young_some g None h = absurd (cc)
+young_some g (Some block) h =
+    let parts = both_of (nat_le block.generation g) (nat_lt 0 (length block.objects)) h in
+    let young : nat_le block.generation g ≡ true = parts.0 in
+    let some : nat_lt 0 (length block.objects) ≡ true = parts.1 in
+    (block, refl, grind (arith, nat_tests, young), grind (arith, nat_tests, some))
+
+-- a block that holds some object holds one of a generation that is collected where its own is
+young_filled : (g : ℕ) (o : Option BlockValue) → ((block : BlockValue) → o ≡ Some block → 0 < length block.objects) → holds_young g o ≡ is_some (young_slot g o)
+young_filled g None filled = refl
+young_filled g (Some block) filled = go (nat_le block.generation g)
+  where
+    some : nat_lt 0 (length block.objects) ≡ true
+    some = let lt : 0 < length block.objects = filled block refl in grind (arith, nat_tests, lt)
+
+    go : (b : Bool) → (b && nat_lt 0 (length block.objects)) ≡ is_some (cond {A = Option BlockValue} b (Some block) None)
+    go true = some
+    go false = refl
+
+pub gone_there : (table : List (Option BlockValue)) (g : ℕ) (gone : List ℕ) → Goes g table gone → (n : ℕ) → has gone n ≡ true → (block : BlockValue) × (slot_at table n ≡ Some block)
+gone_there table g gone goes n h = let there = young_some g (slot_at table n) (sym (goes n) ∙ h) in (there.0, there.1)
+
+-- a block with the number, the label and the words of another, and no object
+pub record IsEmptied (old new : BlockValue) : Type 0 where
+  pub number : new.number ≡ old.number
+  pub generation : new.generation ≡ old.generation
+  pub step : new.step ≡ old.step
+  pub words : new.words ≡ old.words
+  pub objects : new.objects ≡ []
+
+no_objects : (raws : List Raw) → nat_lt 0 (length raws) ≡ false → raws ≡ []
+no_objects [] h = refl
+no_objects (r ∷ raws) h = absurd (let some : nat_lt 0 (length (r ∷ raws)) ≡ true = grind (arith, nat_tests) in true≢false (sym some ∙ h))
+
+-- a block of a nursery is emptied where it holds an object, and else it holds none
+emptied_slot : (g : ℕ) (b : BlockValue) → b.generation ≡ 0 → (block : BlockValue) × (cond (holds_young g (Some b)) (cleared (Some b)) (Some b) ≡ Some block) × IsEmptied b block
+emptied_slot g b youngest = go (nat_lt 0 (length b.objects)) refl
+  where
+    young : nat_le b.generation g ≡ true
+    young = grind (arith, nat_tests, youngest)
+
+    go : (t : Bool) → nat_lt 0 (length b.objects) ≡ t → (block : BlockValue) × (cond (holds_young g (Some b)) (cleared (Some b)) (Some b) ≡ Some block) × IsEmptied b block
+    go true is = (
+      record b { objects = []; front = 0; sent = None; origins = [] },
+      ap (λ t. cond t (cleared (Some b)) (Some b)) (both _ _ young is),
+      record { number = refl; generation = refl; step = refl; words = refl; objects = refl },
+    )
+    go false is = (
+      b,
+      ap (λ t. cond (t && nat_lt 0 (length b.objects)) (cleared (Some b)) (Some b)) young ∙ ap (λ t. cond (true && t) (cleared (Some b)) (Some b)) is,
+      record { number = refl; generation = refl; step = refl; words = refl; objects = no_objects b.objects is },
+    )
 
 -- what is found of an older object
 find-generation : (word generation step : ℕ) (raws : List Raw) (q : ℕ) (o : Object) → find nat_cmp q (objects_from word generation step raws) ≡ Some o → o.generation ≡ generation
@@ -119,11 +163,11 @@ find-generation word generation step (r ∷ raws) q o is = go (eq_by_cmp nat_cmp
 module _ (config : Config) (old new : List (Option BlockValue)) (nurseries : List NurseryValue) (pool pool' : PoolValue) (g : ℕ) (gone : List ℕ) (blocks : List BlockValue)
     (sound : IsSoundSpace config old nurseries pool)
     (can : CanReplace (space_of config old nurseries pool) blocks)
-    (goes : Goes (nursery_count config) g old gone)
+    (goes : Goes g old gone)
     (short : length new ≤ config.blocks)
     (longer : length old ≤ length new)
-    (slots : (n : ℕ) → slot_at new n ≡ cond (is_some (installed blocks n)) (installed blocks n) (cond (has gone n) None (cond (nat_lt n (nursery_count config)) (cleared (slot_at old n)) (slot_at old n))))
-    (frees : (n : ℕ) → has pool'.free n ≡ ((has gone n || has pool.free n) && not (is_some (installed blocks n))))
+    (slots : (n : ℕ) → slot_at new n ≡ cond (is_some (installed blocks n)) (installed blocks n) (cond (has gone n) (cond (nat_lt n (nursery_count config)) (cleared (slot_at old n)) None) (slot_at old n)))
+    (frees : (n : ℕ) → has pool'.free n ≡ (((nat_le (nursery_count config) n && has gone n) || has pool.free n) && not (is_some (installed blocks n))))
     (limit : pool'.limit ≡ pool.limit) where
   -- an installed block was free
   was_free : (n : ℕ) (block : BlockValue) → installed blocks n ≡ Some block → has pool.free n ≡ true
@@ -138,24 +182,36 @@ module _ (config : Config) (old new : List (Option BlockValue)) (nurseries : Lis
       go (inl found) = let free = sound.are_free n (was_free n found.0 found.1) in absurd (omega (arith, free.0))
       go (inr none) = none
 
-  none_gone_below : (n : ℕ) → n < nursery_count config → has gone n ≡ false
-  none_gone_below n lt = ⊎_elim (λ h. let there = gone_there config old g gone goes n h in absurd (omega (arith, there.0))) (λ h. h) (cases_Bool (has gone n))
-
-  pub slot_below : (n : ℕ) → n < nursery_count config → slot_at new n ≡ cleared (slot_at old n)
+  slot_below : (n : ℕ) → n < nursery_count config → slot_at new n ≡ cond (holds_young g (slot_at old n)) (cleared (slot_at old n)) (slot_at old n)
   slot_below n lt =
       let test : nat_lt n (nursery_count config) ≡ true = grind (arith, nat_tests, lt) in
       slots n
-      ∙ ap (λ o. cond (is_some o) o (cond (has gone n) None (cond (nat_lt n (nursery_count config)) (cleared (slot_at old n)) (slot_at old n)))) (none_below n lt)
-      ∙ ap (λ t. cond t None (cond (nat_lt n (nursery_count config)) (cleared (slot_at old n)) (slot_at old n))) (none_gone_below n lt)
-      ∙ ap (λ t. cond t (cleared (slot_at old n)) (slot_at old n)) test
+      ∙ ap (λ o. cond (is_some o) o (cond (has gone n) (cond (nat_lt n (nursery_count config)) (cleared (slot_at old n)) None) (slot_at old n))) (none_below n lt)
+      ∙ ap (λ t. cond t (cond (nat_lt n (nursery_count config)) (cleared (slot_at old n)) None) (slot_at old n)) (goes n)
+      ∙ ap (λ t. cond (holds_young g (slot_at old n)) (cond t (cleared (slot_at old n)) None) (slot_at old n)) test
+
+  -- a block of a nursery is there still, and empty
+  below_there : (n : ℕ) (b : BlockValue) → n < nursery_count config → slot_at old n ≡ Some b → (block : BlockValue) × (slot_at new n ≡ Some block) × IsEmptied b block
+  below_there n b lt is =
+      let it = emptied_slot g b (sound.young n b lt is).0 in
+      (it.0, slot_below n lt ∙ ap (λ o. cond (holds_young g o) (cleared o) o) is ∙ it.1, it.2)
+
+  below_is : (n : ℕ) (block : BlockValue) → n < nursery_count config → slot_at new n ≡ Some block → (b : BlockValue) × (slot_at old n ≡ Some b) × IsEmptied b block
+  below_is n block lt is = go (some_or_none (slot_at old n))
+    where
+      go : ((b : BlockValue) × (slot_at old n ≡ Some b)) ⊎ (slot_at old n ≡ None) → (b : BlockValue) × (slot_at old n ≡ Some b) × IsEmptied b block
+      go (inl found) = let it = below_there n found.0 lt found.1 in (found.0, found.1, subst (IsEmptied found.0) (some_is (sym it.1 ∙ is)) it.2)
+      go (inr none) = absurd (some_not_none (sym is ∙ slot_below n lt ∙ ap (λ o. cond (holds_young g o) (cleared o) o) none))
+
+  above_filled : (n : ℕ) → nursery_count config ≤ n → holds_young g (slot_at old n) ≡ is_some (young_slot g (slot_at old n))
+  above_filled n le = young_filled g (slot_at old n) (λ block is. sound.filled n block le is)
 
   pub slot_above : (n : ℕ) → nursery_count config ≤ n → slot_at new n ≡ cond (is_some (installed blocks n)) (installed blocks n) (older_slot g (slot_at old n))
   slot_above n le =
       let test : nat_lt n (nursery_count config) ≡ false = grind (arith, nat_tests, le) in
-      let from : nat_le (nursery_count config) n ≡ true = grind (arith, nat_tests, le) in
-      let here : has gone n ≡ is_some (young_slot g (slot_at old n)) = goes n ∙ ap (λ t. t && is_some (young_slot g (slot_at old n))) from in
+      let here : has gone n ≡ is_some (young_slot g (slot_at old n)) = goes n ∙ above_filled n le in
       slots n
-      ∙ ap (λ t. cond (is_some (installed blocks n)) (installed blocks n) (cond (has gone n) None (cond t (cleared (slot_at old n)) (slot_at old n)))) test
+      ∙ ap (λ t. cond (is_some (installed blocks n)) (installed blocks n) (cond (has gone n) (cond t (cleared (slot_at old n)) None) (slot_at old n))) test
       ∙ ap (λ t. cond (is_some (installed blocks n)) (installed blocks n) (cond t None (slot_at old n))) here
 
   pub slot_installed : (n : ℕ) (block : BlockValue) → installed blocks n ≡ Some block → slot_at new n ≡ Some block
@@ -179,28 +235,30 @@ module _ (config : Config) (old new : List (Option BlockValue)) (nurseries : Lis
 
   -- a block that is there now: one of the nurseries', a new one, or an older one
   pub data Now (n : ℕ) (block : BlockValue) : Type 0 where
-    emptied : n < nursery_count config → cleared (slot_at old n) ≡ Some block → Now n block
+    emptied : n < nursery_count config → (b : BlockValue) → slot_at old n ≡ Some b → IsEmptied b block → Now n block
     put_in : nursery_count config ≤ n → installed blocks n ≡ Some block → Now n block
     kept : nursery_count config ≤ n → slot_at old n ≡ Some block → g < block.generation → Now n block
 
   pub now : (n : ℕ) (block : BlockValue) → slot_at new n ≡ Some block → Now n block
   now n block is = ⊎_elim
-      (λ lt. emptied lt (sym (slot_below n lt) ∙ is))
+      (λ lt. let was = below_is n block lt is in emptied lt was.0 was.1 was.2)
       (λ le. ⊎_elim
       (λ found. put_in le (found.1 ∙ sym (slot_installed n found.0 found.1) ∙ is))
       (λ none. let older = older_is (slot_at old n) block (sym (slot_stays n le none) ∙ is) in kept le older.0 older.1)
       (some_or_none (installed blocks n)))
       (above_it n)
 
-  cleared_is : (o : Option BlockValue) (block : BlockValue) → cleared o ≡ Some block → (b : BlockValue) × (o ≡ Some b) × (record b { objects = []; front = 0; sent = None; origins = [] } ≡ block)
-  cleared_is None block is = absurd (cc)
-  cleared_is (Some b) block is = (b, refl, some_is is)
+  unused : (block : BlockValue) → block.objects ≡ [] → used_of block ≡ 0
+  unused block none = ap (λ raws. sum_by raw_size raws) none
 
-  cleared_block : (n : ℕ) (b block : BlockValue) → record b { objects = []; front = 0; sent = None; origins = [] } ≡ block → IsHeapBlock config n b → IsHeapBlock config n block
-  cleared_block n b block same was = subst (IsHeapBlock config n) same (record { number_is = was.number_is; words = was.words; step = was.step; fits = omega arith; objects = tt })
-
-  cleared_there : (o : Option BlockValue) (b : BlockValue) → o ≡ Some b → cleared o ≡ Some (record b { objects = []; front = 0; sent = None; origins = [] })
-  cleared_there o b is = ap cleared is
+  emptied_block : (n : ℕ) (b block : BlockValue) → IsEmptied b block → IsHeapBlock config n b → IsHeapBlock config n block
+  emptied_block n b block e was = record {
+    number_is = e.number ∙ was.number_is;
+    words = e.words ∙ was.words;
+    step = rw (e.generation, e.step) was.step;
+    fits = omega (arith, unused block e.objects);
+    objects = rw e.objects tt;
+  }
 
   installed_sound : (n : ℕ) (block : BlockValue) → installed blocks n ≡ Some block → IsHeapBlock config n block
   installed_sound n block is =
@@ -211,13 +269,13 @@ module _ (config : Config) (old new : List (Option BlockValue)) (nurseries : Lis
   objects_some [] h = absurd (h refl)
   objects_some (r ∷ raws) h = omega arith
 
-  emptied_nursery : (m : ℕ) (n : NurseryValue) → slice_get nurseries m ≡ Some n → (k : ℕ) → k < n.blocks → (n.first + k < nursery_count config) × ((b : BlockValue) × (slot_at old (n.first + k) ≡ Some b) × (slot_at new (n.first + k) ≡ Some (record b { objects = []; front = 0; sent = None; origins = [] })))
+  emptied_nursery : (m : ℕ) (n : NurseryValue) → slice_get nurseries m ≡ Some n → (k : ℕ) → k < n.blocks → (b : BlockValue) × (slot_at old (n.first + k) ≡ Some b) × ((block : BlockValue) × (slot_at new (n.first + k) ≡ Some block) × IsEmptied b block)
   emptied_nursery m n is k lt =
       let was = sound.nurseries m n is in
       let below = below_all config.mutators config.nursery_blocks m k (omega (arith, get_below nurseries m n is, sound.count)) (omega (arith, was.blocks)) in
       let inside : n.first + k < nursery_count config = omega (arith, below, was.first) in
       let there = was.sound.there k lt in
-      (inside, (there.0, there.1, slot_below (n.first + k) inside ∙ cleared_there _ there.0 there.1))
+      (there.0, there.1, below_there (n.first + k) there.0 inside there.1)
 
   reset_nursery : (m : ℕ) (n : NurseryValue) → slice_get nurseries m ≡ Some n → IsNurseryOf config new m (record n { current = 0 })
   reset_nursery m n is =
@@ -227,13 +285,17 @@ module _ (config : Config) (old new : List (Option BlockValue)) (nurseries : Lis
         blocks = was.blocks;
         sound = record {
           current = omega (arith, was.sound.current);
-          there = λ k lt. let e = emptied_nursery m n is k lt in (_, e.1.2);
+          there = λ k lt. let e = emptied_nursery m n is k lt in (e.2.0, e.2.1);
           each = λ k block lt at.
               let e = emptied_nursery m n is k lt in
-              let same : record e.1.0 { objects = []; front = 0; sent = None; origins = [] } ≡ block = some_is (sym e.1.2 ∙ at) in
-              let before = was.sound.each k e.1.0 lt e.1.1 in
-              (sym (ap (λ b. b.words) same) ∙ before.0, let none : used_of block ≡ 0 = sym (ap used_of same) in omega (arith, none));
-          later = λ k block above lt at. let e = emptied_nursery m n is k lt in sym (ap (λ b. b.objects) (some_is (sym e.1.2 ∙ at)));
+              let same : e.2.0 ≡ block = some_is (sym e.2.1 ∙ at) in
+              let empty : IsEmptied e.0 block = subst (IsEmptied e.0) same e.2.2 in
+              let before = was.sound.each k e.0 lt e.1 in
+              (empty.words ∙ before.0, omega (arith, unused block empty.objects));
+          later = λ k block above lt at.
+              let e = emptied_nursery m n is k lt in
+              let same : e.2.0 ≡ block = some_is (sym e.2.1 ∙ at) in
+              (subst (IsEmptied e.0) same e.2.2).objects;
         };
       }
 
@@ -246,7 +308,7 @@ module _ (config : Config) (old new : List (Option BlockValue)) (nurseries : Lis
   reset = map from_first nurseries
 
   gone_short : (n : ℕ) → has gone n ≡ true → n < config.blocks
-  gone_short n h = let there = gone_there config old g gone goes n h in omega (arith, in_list old n there.1.0 there.1.1, sound.short)
+  gone_short n h = let there = gone_there old g gone goes n h in omega (arith, in_list old n there.0 there.1, sound.short)
 
   and_not : (a b : Bool) → (a && not b) ≡ true → (a ≡ true) × (b ≡ false)
   and_not true false h = (refl, refl)
@@ -261,20 +323,27 @@ module _ (config : Config) (old new : List (Option BlockValue)) (nurseries : Lis
   none_of None h = refl
   none_of (Some b) h = absurd (cc)
 
-  gone_older : (n : ℕ) → has gone n ≡ true → older_slot g (slot_at old n) ≡ None
-  gone_older n h = ap (λ t. cond t None (slot_at old n)) (both_of (nat_le (nursery_count config) n) (is_some (young_slot g (slot_at old n))) (sym (goes n) ∙ h)).1
+  gone_older : (n : ℕ) → nursery_count config ≤ n → has gone n ≡ true → older_slot g (slot_at old n) ≡ None
+  gone_older n le h = ap (λ t. cond t None (slot_at old n)) (sym (above_filled n le) ∙ sym (goes n) ∙ h)
+
+  -- a number that is given back is past the nurseries
+  given_back : (n : ℕ) → (nat_le (nursery_count config) n && has gone n) ≡ true → (nursery_count config ≤ n) × (has gone n ≡ true)
+  given_back n h =
+      let parts = both_of (nat_le (nursery_count config) n) (has gone n) h in
+      let past : nat_le (nursery_count config) n ≡ true = parts.0 in
+      (grind (arith, nat_tests, past), parts.1)
 
   free_older : (n : ℕ) → slot_at old n ≡ None → older_slot g (slot_at old n) ≡ None
   free_older n none = ap (older_slot g) none
 
   now_free : (n : ℕ) → has pool'.free n ≡ true → (nursery_count config ≤ n) × (n < config.blocks) × (slot_at new n ≡ None)
   now_free n h =
-      let parts = and_not (has gone n || has pool.free n) (is_some (installed blocks n)) (sym (frees n) ∙ h) in
+      let parts = and_not ((nat_le (nursery_count config) n && has gone n) || has pool.free n) (is_some (installed blocks n)) (sym (frees n) ∙ h) in
       let none = none_of (installed blocks n) parts.1 in
       ⊎_elim
-      (λ a. let there = gone_there config old g gone goes n a in (there.0, gone_short n a, slot_stays n there.0 none ∙ gone_older n a))
+      (λ a. let back = given_back n a in (back.0, gone_short n back.1, slot_stays n back.0 none ∙ gone_older n back.0 back.1))
       (λ f. let free = sound.are_free n f in (free.0, free.1, slot_stays n free.0 none ∙ free_older n free.2))
-      (either_of (has gone n) (has pool.free n) parts.0)
+      (either_of (nat_le (nursery_count config) n && has gone n) (has pool.free n) parts.0)
 
   pub replaced_sound : IsSoundSpace config new reset pool'
   replaced_sound = record {
@@ -285,21 +354,21 @@ module _ (config : Config) (old new : List (Option BlockValue)) (nurseries : Lis
     nurseries = λ m n is. let was = get-map nurseries m n is in subst (IsNurseryOf config new m) was.2 (reset_nursery m was.0 was.1);
     set_aside = omega (arith, sound.set_aside, longer);
     young = λ n block lt is.
-        let was = cleared_is (slot_at old n) block (sym (slot_below n lt) ∙ is) in
+        let was = below_is n block lt is in
         let first = sound.young n was.0 lt was.1 in
-        (sym (ap (λ b. b.generation) was.2) ∙ first.0, sym (ap (λ b. b.step) was.2) ∙ first.1);
+        (was.2.generation ∙ first.0, was.2.step ∙ first.1);
     filled = λ n block le is. filled n block le (now n block is);
     limit = limit ∙ sound.limit;
     are_free = now_free;
   }
     where
       heap_block : (n : ℕ) (block : BlockValue) → Now n block → IsHeapBlock config n block
-      heap_block n block (emptied lt is) = let was = cleared_is (slot_at old n) block is in cleared_block n was.0 block was.2 (sound.blocks n was.0 was.1)
+      heap_block n block (emptied lt b is e) = emptied_block n b block e (sound.blocks n b is)
       heap_block n block (put_in le is) = installed_sound n block is
       heap_block n block (kept le is older) = sound.blocks n block is
 
       filled : (n : ℕ) (block : BlockValue) → nursery_count config ≤ n → Now n block → 0 < length block.objects
-      filled n block le (emptied lt is) = absurd (omega (arith, le))
+      filled n block le (emptied lt b is e) = absurd (omega (arith, le))
       filled n block le (put_in _ is) = objects_some block.objects (installed-some blocks n block is)
       filled n block le (kept _ is older) = sound.filled n block le is
 
@@ -359,7 +428,7 @@ module _ (config : Config) (old new : List (Option BlockValue)) (nurseries : Lis
       (word_cases q)
     where
       from_block : (n : ℕ) (block : BlockValue) → IsWordOf n q → find nat_cmp q (slot_objects n (Some block)) ≡ Some o → Now n block → (find nat_cmp q (copies_of blocks) ≡ Some o) ⊎ ((get (objects_map old) q ≡ Some o) × (g < o.generation))
-      from_block n block word found (emptied lt is) = let was = cleared_is (slot_at old n) block is in absurd (some_not_none (sym found ∙ ap (λ b. find nat_cmp q (slot_objects n (Some b))) (sym was.2)))
+      from_block n block word found (emptied lt b is e) = absurd (some_not_none (sym found ∙ ap (λ raws. find nat_cmp q (objects_from (small_word n 0) block.generation block.step raws)) e.objects))
       from_block n block word found (put_in le is) = inl (find-copies blocks n q fits_each can.once word ∙ ap (λ s. find nat_cmp q (slot_objects n s)) is ∙ found)
       from_block n block word found (kept le is older) =
           let generation : o.generation ≡ block.generation = find-generation (small_word n 0) block.generation block.step block.objects q o found in
@@ -383,15 +452,13 @@ module _ (config : Config) (old new : List (Option BlockValue)) (nurseries : Lis
           absurd (some_not_none (sym first.1 ∙ sym (found_now n (small_word n 0) (record { low = omega arith; high = omega arith }) ∙ ap (λ s. find nat_cmp (small_word n 0) (slot_objects n s)) is) ∙ none 0 (omega arith)))
 
   -- a block whose objects are collected held one
-  stood : (n : ℕ) → has gone n ≡ true → StandsYoung (space_of config old nurseries pool) g n
-  stood n h =
-      let parts = both_of (nat_le (nursery_count config) n) (is_some (young_slot g (slot_at old n))) (sym (goes n) ∙ h) in
-      let block = young_some g (slot_at old n) parts.1 in
-      let there = gone_there config old g gone goes n h in
-      let first = first_object n block.0 (sound.filled n block.0 there.0 block.1) in
+  stood : (n : ℕ) → nursery_count config ≤ n → has gone n ≡ true → StandsYoung (space_of config old nurseries pool) g n
+  stood n le h =
+      let block = young_some g (slot_at old n) (sym (goes n) ∙ h) in
+      let first = first_object n block.0 block.3 in
       let here : get (objects_map old) (small_word n 0) ≡ Some first.0 = found_before n (small_word n 0) (record { low = omega arith; high = omega arith }) ∙ ap (λ s. find nat_cmp (small_word n 0) (slot_objects n s)) block.1 ∙ first.1 in
       let generation : first.0.generation ≡ block.0.generation = find-generation (small_word n 0) block.0.generation block.0.step block.0.objects (small_word n 0) first.0 first.1 in
-      record { in_pool = there.0; offset = 0; object = first.0; in_range = omega arith; there = here; young = omega (arith, generation, block.2) }
+      record { in_pool = le; offset = 0; object = first.0; in_range = omega arith; there = here; young = omega (arith, generation, block.2) }
 
   -- and the block of an object that is collected is one of these
   stood_gone : (n : ℕ) → StandsYoung (space_of config old nurseries pool) g n → has gone n ≡ true
@@ -400,31 +467,30 @@ module _ (config : Config) (old new : List (Option BlockValue)) (nurseries : Lis
       found : find nat_cmp (small_word n at.offset) (slot_objects n (slot_at old n)) ≡ Some at.object
       found = sym (found_before n (small_word n at.offset) (record { low = omega arith; high = omega (arith, at.in_range) })) ∙ at.there
 
-      from : nat_le (nursery_count config) n ≡ true
-      from = grind (arith, nat_tests, at.in_pool)
-
       go : (slot : Option BlockValue) → slot_at old n ≡ slot → has gone n ≡ true
       go None is = absurd (no_find n (small_word n at.offset) (slot_at old n) at.object is found)
       go (Some b) is =
           let here : find nat_cmp (small_word n at.offset) (slot_objects n (Some b)) ≡ Some at.object = ap (λ s. find nat_cmp (small_word n at.offset) (slot_objects n s)) (sym is) ∙ found in
           let generation : at.object.generation ≡ b.generation = find-generation (small_word n 0) b.generation b.step b.objects (small_word n at.offset) at.object here in
           let young : nat_le b.generation g ≡ true = grind (arith, nat_tests, generation, at.young) in
-          goes n ∙ ap (λ t. t && is_some (young_slot g (slot_at old n))) from ∙ ap (λ s. is_some (young_slot g s)) is ∙ ap (λ t. is_some (cond {A = Option BlockValue} t (Some b) None)) young
+          let filled : 0 < length b.objects = sound.filled n b at.in_pool is in
+          let some : nat_lt 0 (length b.objects) ≡ true = grind (arith, nat_tests, filled) in
+          goes n ∙ ap (λ s. holds_young g s) is ∙ both _ _ young some
 
   free_now : (n : ℕ) → has pool'.free n ≡ true → ((has pool.free n ≡ true) ⊎ StandsYoung (space_of config old nurseries pool) g n) × HoldsNone (space_of config new reset pool') n
   free_now n h =
-      let parts = and_not (has gone n || has pool.free n) (is_some (installed blocks n)) (sym (frees n) ∙ h) in (
-        ⊎_elim (λ a. inr (stood n a)) (λ f. inl f) (either_of (has gone n) (has pool.free n) parts.0),
+      let parts = and_not ((nat_le (nursery_count config) n && has gone n) || has pool.free n) (is_some (installed blocks n)) (sym (frees n) ∙ h) in (
+        ⊎_elim (λ a. let back = given_back n a in inr (stood n back.0 back.1)) (λ f. inl f) (either_of (nat_le (nursery_count config) n && has gone n) (has pool.free n) parts.0),
         λ offset lt. found_now n (small_word n offset) (record { low = omega arith; high = omega (arith, lt) }) ∙ ap (λ s. find nat_cmp (small_word n offset) (slot_objects n s)) (now_free n h).2,
       )
 
   now_again : (n : ℕ) → ((has pool.free n ≡ true) ⊎ StandsYoung (space_of config old nurseries pool) g n) × HoldsNone (space_of config new reset pool') n → has pool'.free n ≡ true
   now_again n h = ⊎_elim
-      (λ f. here (or_right (has gone n) (has pool.free n) f) (sound.are_free n f).0)
-      (λ at. here (or_left (has gone n) (has pool.free n) (stood_gone n at)) at.in_pool)
+      (λ f. here (or_right (nat_le (nursery_count config) n && has gone n) (has pool.free n) f) (sound.are_free n f).0)
+      (λ at. let past : nat_le (nursery_count config) n ≡ true = grind (arith, nat_tests, at.in_pool) in here (or_left (nat_le (nursery_count config) n && has gone n) (has pool.free n) (both _ _ past (stood_gone n at))) at.in_pool)
       h.0
     where
-      here : (has gone n || has pool.free n) ≡ true → nursery_count config ≤ n → has pool'.free n ≡ true
+      here : ((nat_le (nursery_count config) n && has gone n) || has pool.free n) ≡ true → nursery_count config ≤ n → has pool'.free n ≡ true
       here either le = ⊎_elim
           (λ found. absurd (no_such_block (sym (no_slot n le h.1) ∙ slot_installed n found.0 found.1)))
           (λ none. frees n ∙ ap (λ t. t && not (is_some (installed blocks n))) either ∙ ap (λ o. true && not (is_some o)) none)
@@ -435,7 +501,8 @@ module _ (config : Config) (old new : List (Option BlockValue)) (nurseries : Lis
       let was = sound.nurseries m n is in
       let e = emptied_nursery m n is 0 (omega (arith, was.sound.current)) in
       let left : n.blocks - 1 - 0 ≡ config.nursery_blocks - 1 = omega (arith, was.blocks) in
-      ap (λ slot. let r : Room = record { left = n.blocks - 1 - 0; used = slot_words slot } in r) e.1.2
+      ap (λ slot. let r : Room = record { left = n.blocks - 1 - 0; used = slot_words slot } in r) e.2.1
+      ∙ ap (λ u. let r : Room = record { left = n.blocks - 1 - 0; used = u } in r) (unused e.2.0 e.2.2.objects)
       ∙ ap (λ l. let r : Room = record { left = l; used = 0 } in r) left
 
   reset_rooms : (ns : List NurseryValue) → ((n : NurseryValue) (m : ℕ) → slice_get ns m ≡ Some n → nursery_room (record n { current = 0 }) new ≡ full_room config.nursery_blocks) → rooms_of (map from_first ns) new ≡ replicate (length ns) (full_room config.nursery_blocks)

@@ -1,8 +1,8 @@
 -- The objects of the generations that are collected, by number.
-use Rattle.std.proofs.Common.{◌≡◌, ℕ, ◌+◌, ◌*◌, ◌<◌, ◌≤◌, true, cond, List, length, get_or, Option, Some, None, sum_by, refl, sym, ap, subst, ◌∙◌, arith}
+use Rattle.std.proofs.Common.{◌≡◌, ℕ, ◌+◌, ◌*◌, ◌<◌, ◌≤◌, Bool, true, false, cond, ◌&&◌, List, [], ◌∷◌, length, get_or, Option, Some, None, sum_by, refl, sym, ap, subst, ◌∙◌, arith}
 use Rattle.std.proofs.lemmas.Bool.Decides.{nat_tests}
 use Rattle.std.proofs.lemmas.List.{length-map}
-use Rattle.std.specs.Prelude.{nat_le, is_some}
+use Rattle.std.specs.Prelude.{nat_le, nat_lt}
 use Rattle.std.specs.Ordering.{nat_cmp}
 use Rattle.std.specs.FinMap.{find, keys}
 use Rattle.model.specs.Graph.{Graph}
@@ -14,6 +14,8 @@ use Rattle.block_pool.specs.BlockValue.{BlockValue}
 use Rattle.block_pool.specs.PoolValue.{PoolValue}
 use Rattle.model.specs.Config.{Config}
 use Rattle.heap_data.specs.CollectionValue.{rank_below, young_names}
+use Rattle.heap_data.specs.BlockObjects.{objects_from}
+use Rattle.block_table.specs.Areas.{holds_young}
 use Rattle.block_table.specs.Table.{slot_at, slot_objects, slot_len, objects_before, objects_map, young_slot, young_table}
 use Rattle.block_table.proofs.TableLemmas.{TableFits}
 use Rattle.block_table.proofs.YoungBlocks.{young_fits, young_names-table, young_at, found-generation}
@@ -96,18 +98,26 @@ module _ (config : Config) (table : List (Option BlockValue)) (nurseries : List 
       let below = are.covers number offset (omega (arith, lt)) is in
       (below, are.each number below ∙ young_rank number)
 
-  -- where an object of a generation that is collected stands, its block is of it
-  young_block : (block offset : ℕ) → offset < 65536 → IsYoung graph g (small_word block offset) → is_some (young_slot g (slot_at table block)) ≡ true
+  -- where an object of a generation that is collected stands, its block holds one
+  young_block : (block offset : ℕ) → offset < 65536 → IsYoung graph g (small_word block offset) → holds_young g (slot_at table block) ≡ true
   young_block block offset lt is = of_slot (slot_at table block) (sym (at_word table (sound_fits config table nurseries pool sound) (few_blocks config table nurseries pool sound) block offset lt) ∙ is.there)
     where
-      of_slot : (slot : Option BlockValue) → find nat_cmp (small_word block offset) (slot_objects block slot) ≡ Some is.object → is_some (young_slot g slot) ≡ true
+      both : (a b : Bool) → a ≡ true → b ≡ true → (a && b) ≡ true
+      both true b h e = e
+      both false b h e = h
+
+      some : (word : ℕ) (b : BlockValue) (raws : List Raw) → find nat_cmp (small_word block offset) (objects_from word b.generation b.step raws) ≡ Some is.object → nat_lt 0 (length raws) ≡ true
+      some word b [] found = absurd (some_not_none (sym found))
+      some word b (r ∷ raws) found = grind (arith, nat_tests)
+
+      of_slot : (slot : Option BlockValue) → find nat_cmp (small_word block offset) (slot_objects block slot) ≡ Some is.object → holds_young g slot ≡ true
       of_slot None found = absurd (some_not_none (sym found))
       of_slot (Some b) found =
           let same : is.object.generation ≡ b.generation = found-generation block (small_word block offset) b is.object found in
           let yes : nat_le b.generation g ≡ true = grind (arith, nat_tests, same, is.young) in
-          ap (λ t. is_some (cond {A = Option BlockValue} t (Some b) None)) yes
+          both _ _ yes (some (small_word block 0) b b.objects found)
 
-  pub are_bases : (bases : List ℕ) → ((b : ℕ) → is_some (young_slot g (slot_at table b)) ≡ true → b < length bases) → ((b : ℕ) → b < length bases → get_or bases b 0 ≡ objects_before young b) → AreBases (space_of config table nurseries pool) g bases
+  pub are_bases : (bases : List ℕ) → ((b : ℕ) → holds_young g (slot_at table b) ≡ true → b < length bases) → ((b : ℕ) → b < length bases → get_or bases b 0 ≡ objects_before young b) → AreBases (space_of config table nurseries pool) g bases
   are_bases bases covers each = record {
     each = λ block lt. each block lt ∙ sym (young_rank block);
     covers = λ block offset lt is. covers block (young_block block offset lt is);

@@ -16,7 +16,7 @@ use Rattle.block_pool.specs.BlockValue.{BlockValue}
 use Rattle.block_pool.specs.PoolValue.{PoolValue}
 use Rattle.steps.specs.ConfigRange.{IsInRange}
 use Rattle.heap_data.specs.HeapValue.{room_code, nursery_count}
-use Rattle.block_table.specs.Areas.{AreAreas}
+use Rattle.block_table.specs.Areas.{AreAreas, HasRoom}
 use Rattle.block_table.specs.Table.{slot_at, objects_map, IsHeapBlock}
 use Rattle.nursery.specs.NurseryValue.{NurseryValue, nursery_room, IsNursery}
 
@@ -70,11 +70,12 @@ pub record IsSoundSpace (config : Config) (table : List (Option BlockValue)) (fi
   pub limit : pool.limit ≡ config.blocks
   pub are_free : (n : ℕ) → has pool.free n ≡ true → (nursery_count config ≤ n) × (n < config.blocks) × (slot_at table n ≡ None)
 
--- the flags are those of the blocks, for each generation of the shape
+-- the flags are those of the blocks, for each generation of the shape, with room for those of the nurseries
 pub record IsFlaggedSpace (config : Config) (table : List (Option BlockValue)) (filling : List NurseryValue) (pool : PoolValue) (areas : List (List Bool)) : Type 0 where
   pub space : IsSoundSpace config table filling pool
   pub flags : AreAreas table areas
   pub generations : length areas ≡ config.shape.generations
+  pub room : HasRoom areas (nursery_count config)
 
 -- no object yet: the blocks after those of the nurseries are free
 abbrev pub empty_space : Config → SpaceValue

@@ -1,5 +1,5 @@
 //! The blocks of a heap: those of the nurseries, and those that collections filled.
-ghost use Rattle.std.specs.Prelude.{◌≡◌, ℕ, ◌+◌, ◌*◌, ◌/◌, ◌<◌, ◌≤◌, ◌↔◌, ◌||◌, Some, None, Err, true, length, take, drop, IsTrue, IsSome, IfOk, IfSome, IfNone, OnOk, OnErr, MatchOption, IsSomeAnd, slice_set};
+ghost use Rattle.std.specs.Prelude.{◌≡◌, ℕ, ◌+◌, ◌*◌, ◌/◌, ◌<◌, ◌≤◌, ◌↔◌, ◌&&◌, ◌||◌, nat_eq, Some, None, Err, true, length, take, drop, IsTrue, IsSome, IfOk, IfSome, IfNone, OnOk, OnErr, MatchOption, IsSomeAnd, slice_set};
 ghost use Rattle.std.specs.FinMap.{values, get, insert};
 ghost use Rattle.std.specs.Option.{option_map};
 ghost use Rattle.model.specs.Graph.{Object, with_pointer};
@@ -15,6 +15,7 @@ ghost use Rattle.heap_data.specs.CensusView.{step_value};
 ghost use Rattle.heap_data.specs.CollectionValue.{young_names};
 ghost use Rattle.model.specs.Reached.{has};
 ghost use Rattle.layout.specs.Header.{size_of};
+ghost use Rattle.block_table.specs.Areas.{is_flagged, HasRoom};
 ghost use Rattle.block_table.specs.Table.{objects_map, AreHeapBlocks};
 ghost use Rattle.large_objects.specs.LargeValue.{InUse, IsAdded, block_count, made, without_object};
 ghost use Rattle.large_objects.specs.PoolBlocks.{ArePoolBlocks, blocks_at};
@@ -44,7 +45,7 @@ pub struct Space<A: Allocator = Global> {
     // One for each mutator.
     nurseries: Vec<Nursery, A>,
     pool: Pool<A>,
-    // By generation the numbers of the blocks, so that a collection needn't look at the others.
+    // By generation the numbers of the blocks that hold objects, so that a collection needn't look at the others.
     areas: AreaFlags<A>,
 }
 
@@ -66,6 +67,19 @@ fn nursery_blocks(config: Config) -> usize
     ensures few { result ≤ 1024 }
 {
     config.mutators() * config.nursery_blocks()
+}
+
+/// Puts in the number of a block of a nursery where the new object at the offset is its first.
+fn flag_first<A: Allocator>(areas: &mut AreaFlags<A>, number: usize, offset: usize)
+    requires some { 0 < length areas.old }
+    requires room { (len : ℕ) × HasRoom areas.old len × (number < len) }
+    ensures flags { (g n : ℕ) → is_flagged areas.new g n ≡ ((nat_eq offset 0 && nat_eq n number) || is_flagged areas.old g n) }
+    ensures room { (len : ℕ) → HasRoom areas.old len → HasRoom areas.new len }
+    ensures generations { length areas.new ≡ length areas.old }
+{
+    if offset == 0 {
+        areas.add(0, number);
+    }
 }
 
 impl<A: Allocator + Clone> Space<A> {
@@ -111,6 +125,9 @@ impl<A: Allocator + Clone> Space<A> {
         let Ok(place) = self.nurseries[mutator].alloc(&mut self.table, pointers, plain_words) else {
             return None;
         };
+        if let Place::Small(at) = place {
+            flag_first(&mut self.areas, at.block as usize, at.offset as usize);
+        }
         Some(place)
     }
 
@@ -358,13 +375,13 @@ impl<A: Allocator + Clone> Space<A> {
         ensures ok { OnOk result (IsReplaced self.old generation blocks.items self.new) }
         ensures err { OnErr result (self.new ≡ self.old) }
     {
-        let count = nursery_blocks(self.config);
-        let old = young_blocks(alloc, &self.areas, count, generation)?;
+        let old = young_blocks(alloc, &self.areas, generation)?;
         let end = end_of(&blocks);
         grow(&mut self.table, end)?;
         self.areas.reserve(end)?;
         remove_blocks(&mut self.areas, &old);
         add_blocks(&mut self.areas, &blocks);
+        let count = nursery_blocks(self.config);
         exchange(&mut self.table, &mut self.pool, count, &old, blocks);
         reset_all(&mut self.nurseries);
         Ok(())

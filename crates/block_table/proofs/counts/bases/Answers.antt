@@ -1,7 +1,7 @@
 use Rattle.std.proofs.Common.{◌≡◌, ◌<◌, ◌-◌, ◌++◌, true, None, length, take, replicate, get_or, arith, ◌∙◌, sym, ap, ⊎_elim}
 use Rattle.std.proofs.lemmas.Bool.{true≢false, cases_lt}
 use Rattle.std.proofs.lemmas.List.{length-map}
-use Rattle.std.specs.Prelude.{is_some}
+use Rattle.block_table.specs.Areas.{holds_young}
 use Rattle.block_table.specs.Table.{slot_at, slot_len, young_slot, young_table}
 use Rattle.block_table.proofs.AreaTables.{young_inside, old_len, counted_to, counted_all, run_passes}
 use Rattle.block_table.proofs.YoungBlocks.{young_at}
@@ -30,9 +30,9 @@ loop-number-smaller g c =
     let table = c.args.table.now in
     let number = c.in-Some.number in
     let new : length c.resize.new.self.items ≡ number = omega (arith, c.in_ok-resize.ensures.len, c.resize.new.self.ok.0) in
-    let young : is_some (young_slot c.args.generation (slot_at table number)) ≡ true = sym (c.requires.areas.each c.args.generation number) ∙ c.in-Some.ensures.flag in
+    let young : holds_young c.args.generation (slot_at table number) ≡ true = sym (c.requires.areas.each c.args.generation number) ∙ c.in-Some.ensures.flag in
     let passes : length c.resize.new.self.items < length c.count_run.new.bases.items = run_passes c.args.generation table (length c.resize.new.self.items) (length c.count_run.new.bases.items) c.in_ok-objects.ensures.run
-    (ap (λ n. is_some (young_slot c.args.generation (slot_at table n))) new ∙ young) in
+    (ap (λ n. holds_young c.args.generation (slot_at table n)) new ∙ young) in
     omega (arith, passes, new, c.in_ok-objects.ensures.in_table, c.in-Some.ensures.from, c.len.ensures, c.loop-number.bases.ok.0)
 
 pub returns-clause-covers : goal.returns-clause-covers

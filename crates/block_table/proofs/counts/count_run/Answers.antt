@@ -1,6 +1,7 @@
 use Rattle.std.proofs.Common.{◌≡◌, ◌<◌, ◌≤◌, ◌+◌, None, true, false, length, get_or, arith, ◌∙◌, sym, ap, below_more}
 use Rattle.std.proofs.lemmas.List.{length-map, length-drop, length-take}
-use Rattle.std.specs.Prelude.{is_some, drop, ◌-◌}
+use Rattle.std.specs.Prelude.{drop, ◌-◌}
+use Rattle.block_table.specs.Areas.{holds_young}
 use Rattle.block_table.specs.Table.{slot_at, slot_len, young_slot, young_table}
 use Rattle.block_table.proofs.TableSteps.{get_or_end, part_inside, part_at}
 use Rattle.block_table.proofs.TableReads.{counted_more}
@@ -18,9 +19,9 @@ loop-slot-preserved g c =
     record {
       reached = omega (arith, len, c.loop-slot.invariant.reached);
       in_table = omega (arith, len, inside);
-      young = λ b low lt. below_more (λ k. length c.args.bases.now.items ≤ k → is_some (young_slot c.args.generation (slot_at table k)) ≡ true) (length bases)
+      young = λ b low lt. below_more (λ k. length c.args.bases.now.items ≤ k → holds_young c.args.generation (slot_at table k) ≡ true) (length bases)
           (λ k below from. c.loop-slot.invariant.young k from below)
-          (λ _. ap (λ o. is_some (young_slot c.args.generation o)) slot ∙ sym c.in-Some.ensures.young)
+          (λ _. ap (λ o. holds_young c.args.generation o) slot ∙ sym c.in-Some.ensures.young)
           b (omega (arith, len, lt)) low;
       counted = rw c.in_ok-push.ensures.items (counted_more (young_table c.args.generation table) bases c.loop-slot.objects c.in-Some.len (omega (arith, inside, length-map table (young_slot c.args.generation)))
           (ap slot_len (young_at table c.args.generation (length bases) ∙ ap (young_slot c.args.generation) slot) ∙ sym c.in-Some.ensures.value) c.loop-slot.invariant.counted);
@@ -34,7 +35,7 @@ returns-after-loop-slot-clause-run g c =
     record {
       no_shorter = omega (arith, c.loop-slot.invariant.reached);
       young = c.loop-slot.invariant.young;
-      end = ap (λ o. is_some (young_slot c.args.generation o)) (get_or_end table (length c.loop-slot.bases.items) None end);
+      end = ap (λ o. holds_young c.args.generation o) (get_or_end table (length c.loop-slot.bases.items) None end);
     }
 
 pub returns-in_default-clause-run : goal.returns-in_default-clause-run
@@ -42,9 +43,9 @@ returns-in_default-clause-run g c =
     let table = c.args.table.now in
     let reached : c.len.result + c.loop-slot.slot-index ≡ length c.loop-slot.bases.items = omega (arith, c.len.ensures, c.args.bases.now.ok.0, c.loop-slot.invariant.reached) in
     let slot : get_or table (length c.loop-slot.bases.items) None ≡ c.slot-item.result = ap (λ n. get_or table n None) (sym reached) ∙ part_at table c.len.result c.loop-slot.slot-index c.loop-slot-test.true c.slot-item.result None c.slot-item.is in
-    let none : false ≡ is_some (young_slot c.args.generation c.slot-item.result) = c.in_default.ensures.young in
+    let none : false ≡ holds_young c.args.generation c.slot-item.result = c.in_default.ensures.young in
     record {
       no_shorter = omega (arith, c.loop-slot.invariant.reached);
       young = c.loop-slot.invariant.young;
-      end = ap (λ o. is_some (young_slot c.args.generation o)) slot ∙ sym none;
+      end = ap (λ o. holds_young c.args.generation o) slot ∙ sym none;
     }

@@ -1,12 +1,11 @@
-use Rattle.std.proofs.Common.{◌≤◌, ◌-◌}
+use Rattle.std.proofs.Common.{◌-◌}
 use Rattle.block_table.specs.Areas.{is_flagged}
 use Rattle.block_table.proofs.Numbers.{HasNumbers}
 use Rattle.block_table.proofs.counts.young_blocks.Given as goal
 
 abbrev pub invariant-loop-number : goal.invariant-loop-number
 invariant-loop-number g l = record {
-  so_far : HasNumbers (is_flagged l.areas l.generation) l.from l.next l.numbers.items;
-  low : l.from ≤ l.next;
+  so_far : HasNumbers (is_flagged l.areas l.generation) 0 l.next l.numbers.items;
 }
 
 abbrev pub decreases-loop-number : goal.decreases-loop-number

@@ -1,8 +1,6 @@
 use Rattle.std.proofs.Common.{take_all, ◌||◌, ◌∙◌, sym, ap}
-use Rattle.std.specs.Prelude.{is_some}
-use Rattle.block_table.specs.Areas.{is_flagged}
+use Rattle.block_table.specs.Areas.{holds_young, is_flagged}
 use Rattle.block_table.specs.Installed.{installed}
-use Rattle.block_table.specs.Table.{young_slot}
 use Rattle.block_table.proofs.AreaTables.{block_flagged}
 use Rattle.block_table.proofs.flagging.add_blocks.Goals as goal
 
@@ -17,4 +15,4 @@ loop-block-preserved g c = record {
 
 pub returns-clause-flags : goal.returns-clause-flags
 returns-clause-flags g c = λ h n.
-    c.loop-block.invariant.flags h n ∙ ap (λ xs. is_some (young_slot h (installed xs n)) || is_flagged c.args.areas.now h n) (take_all c.loop-block.block-index c.args.blocks.now c.loop-block-test.false)
+    c.loop-block.invariant.flags h n ∙ ap (λ xs. holds_young h (installed xs n) || is_flagged c.args.areas.now h n) (take_all c.loop-block.block-index c.args.blocks.now c.loop-block-test.false)

@@ -1,9 +1,9 @@
 use Rattle.std.proofs.Common.{◌≡◌, ℕ, None, false, length, get_or, ◌&&◌, ◌∙◌, sym, ap, arith}
 use Rattle.std.proofs.lemmas.Bool.Decides.{nat_tests}
 use Rattle.std.proofs.lemmas.List.{length-replicate}
-use Rattle.std.specs.Prelude.{is_some, nat_lt, Bool, List, []}
-use Rattle.block_table.specs.Areas.{is_flagged}
-use Rattle.block_table.specs.Table.{slot_at, young_slot}
+use Rattle.std.specs.Prelude.{nat_lt, Bool, List, []}
+use Rattle.block_table.specs.Areas.{holds_young, is_flagged}
+use Rattle.block_table.specs.Table.{slot_at}
 use Rattle.block_table.proofs.AreaTables.{none_flagged, slot_flagged, all_flagged}
 use Rattle.block_table.proofs.TableReads.{found_there}
 use Rattle.block_table.proofs.TableSteps.{get_or_any}
@@ -16,7 +16,7 @@ pub loop-number-init : goal.loop-number-init
 loop-number-init g c =
     let none : List Bool = [] in
     record {
-      flags = λ h n. c.in_ok-reserve.ensures.same h n ∙ ap (λ areas. is_flagged areas h n) c.in_ok-areas.ensures ∙ none_flagged c.args.generations h n ∙ sym (ap (λ t. t && is_some (young_slot h (slot_at c.args.table.now n))) (none_below n));
+      flags = λ h n. c.in_ok-reserve.ensures.same h n ∙ ap (λ areas. is_flagged areas h n) c.in_ok-areas.ensures ∙ none_flagged c.args.generations h n ∙ sym (ap (λ t. t && holds_young h (slot_at c.args.table.now n)) (none_below n));
       room = c.in_ok-reserve.ensures.room;
       generations = c.in_ok-reserve.ensures.generations ∙ ap length c.in_ok-areas.ensures ∙ length-replicate c.args.generations none;
     }

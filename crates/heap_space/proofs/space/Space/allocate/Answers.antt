@@ -2,11 +2,11 @@ use Rattle.std.proofs.Common.{◌≡◌, ◌+◌, Option, Some, None, Result, Ok
 use Rattle.std.specs.Prelude.{IsSome, IfOk}
 use Rattle.std.specs.Result.{OnErr}
 use Rattle.model.specs.Room.{Room}
+use Rattle.heap_data.specs.HeapValue.{nursery_count}
 use Rattle.heap_space.specs.Space.{space_of}
-use Rattle.block_table.proofs.AreaTables.{same_areas}
 use Rattle.block_table.proofs.TableSteps.{with_whole}
 use Rattle.layout.specs.Place.{place_word}
-use Rattle.heap_space.proofs.Filling.{small_in, own_sound, room_is, stays, generations_after, sound_after, room_after_is, allocates}
+use Rattle.heap_space.proofs.Filling.{small_in, own_sound, room_is, stays, room_after_is, now_sound, small_at, not_large, areas_after, allocates}
 use Rattle.heap_space.proofs.space.Space.allocate.Goals as goal
 
 no_some : (o : Option Room) → o ≡ None → IsSome o → ⊥
@@ -33,27 +33,43 @@ invariant_of-self g c =
     let small = rw (← c.self.view_is) at c.requires.small in
     let own = own_sound _ _ _ _ c.self.invariant.space c.args.mutator c.index_mut.result.now mutator c.index_mut.ensures.value in
     let ok = (rw c.deref_mut.ensures.value at c.alloc.ensures.ok) c.self.inside.config.block_words own in
-    let err = rw c.deref_mut.ensures.value at c.alloc.ensures.err in
     let whole = with_whole c.self.inside.table.len c.alloc.new.table c.self.inside.table.items (omega (arith, c.alloc.auto.table, c.deref_mut.ensures.len, c.self.inside.table.ok.0)) (omega (arith, c.self.inside.table.ok.0)) in
-    rw whole (record {
-      space = sound_after _ _ _ _ c.self.invariant.space c.args.mutator c.index_mut.result.now mutator c.index_mut.ensures.value c.args.pointers c.args.plain_words c.alloc.new.self c.alloc.new.table small c.alloc.result ok err;
-      flags = same_areas _ _ _ (generations_after _ _ _ _ c.self.invariant.space c.args.mutator c.index_mut.result.now mutator c.index_mut.ensures.value c.args.pointers c.args.plain_words c.alloc.new.self c.alloc.new.table small c.alloc.result ok err) c.self.invariant.flags;
-      generations = c.self.invariant.generations;
-    })
+    let err = rw c.deref_mut.ensures.value at c.alloc.ensures.err in
+    let same = of_err c.alloc.result err c.in_default.field-0 c.in_default.is in
+    rw (whole, same.1, stays _ _ _ _ c.self.invariant.space c.args.mutator c.index_mut.result.now mutator c.index_mut.ensures.value c.args.pointers c.args.plain_words c.alloc.new.self c.alloc.new.table small same) c.self.invariant
 
-pub invariant_of-self-2 : goal.invariant_of-self-2
-invariant_of-self-2 g c =
+pub flag_first-requires-clause-room : goal.flag_first-requires-clause-room
+flag_first-requires-clause-room g c =
     let mutator = rw (← c.self.view_is) at c.requires.mutator in
     let small = rw (← c.self.view_is) at c.requires.small in
     let own = own_sound _ _ _ _ c.self.invariant.space c.args.mutator c.index_mut.result.now mutator c.index_mut.ensures.value in
     let ok = (rw c.deref_mut.ensures.value at c.alloc.ensures.ok) c.self.inside.config.block_words own in
-    let err = rw c.deref_mut.ensures.value at c.alloc.ensures.err in
+    let push = of_ok _ c.alloc.result ok c.in-Ok.place c.in-Ok.is in
+    (nursery_count c.self.inside.config, c.self.invariant.room, (small_at _ _ _ _ c.self.invariant.space c.args.mutator c.index_mut.result.now mutator c.index_mut.ensures.value c.args.pointers c.args.plain_words (place_word c.in-Ok.place) c.alloc.new.self c.alloc.new.table small push c.in-Small.at (ap place_word c.in-Small.is)).2)
+
+pub invariant_of-self-in-Small : goal.invariant_of-self-in-Small
+invariant_of-self-in-Small g c =
+    let mutator = rw (← c.self.view_is) at c.requires.mutator in
+    let small = rw (← c.self.view_is) at c.requires.small in
+    let own = own_sound _ _ _ _ c.self.invariant.space c.args.mutator c.index_mut.result.now mutator c.index_mut.ensures.value in
+    let ok = (rw c.deref_mut.ensures.value at c.alloc.ensures.ok) c.self.inside.config.block_words own in
     let whole = with_whole c.self.inside.table.len c.alloc.new.table c.self.inside.table.items (omega (arith, c.alloc.auto.table, c.deref_mut.ensures.len, c.self.inside.table.ok.0)) (omega (arith, c.self.inside.table.ok.0)) in
+    let push = of_ok _ c.alloc.result ok c.in-Ok.place c.in-Ok.is in
     rw whole (record {
-      space = sound_after _ _ _ _ c.self.invariant.space c.args.mutator c.index_mut.result.now mutator c.index_mut.ensures.value c.args.pointers c.args.plain_words c.alloc.new.self c.alloc.new.table small c.alloc.result ok err;
-      flags = same_areas _ _ _ (generations_after _ _ _ _ c.self.invariant.space c.args.mutator c.index_mut.result.now mutator c.index_mut.ensures.value c.args.pointers c.args.plain_words c.alloc.new.self c.alloc.new.table small c.alloc.result ok err) c.self.invariant.flags;
-      generations = c.self.invariant.generations;
+      space = now_sound _ _ _ _ c.self.invariant.space c.args.mutator c.index_mut.result.now mutator c.index_mut.ensures.value c.args.pointers c.args.plain_words (place_word c.in-Ok.place) c.alloc.new.self c.alloc.new.table small push;
+      flags = areas_after _ _ _ _ c.self.invariant.space c.args.mutator c.index_mut.result.now mutator c.index_mut.ensures.value c.args.pointers c.args.plain_words (place_word c.in-Ok.place) c.alloc.new.self c.alloc.new.table small push c.in-Small.at c.self.inside.areas c.flag_first.new.areas (ap place_word c.in-Small.is) c.flag_first.ensures.flags c.self.invariant.flags;
+      generations = c.flag_first.ensures.generations ∙ c.self.invariant.generations;
+      room = c.flag_first.ensures.room _ c.self.invariant.room;
     })
+
+pub invariant_of-self-in_default-place : goal.invariant_of-self-in_default-place
+invariant_of-self-in_default-place g c =
+    let mutator = rw (← c.self.view_is) at c.requires.mutator in
+    let small = rw (← c.self.view_is) at c.requires.small in
+    let own = own_sound _ _ _ _ c.self.invariant.space c.args.mutator c.index_mut.result.now mutator c.index_mut.ensures.value in
+    let ok = (rw c.deref_mut.ensures.value at c.alloc.ensures.ok) c.self.inside.config.block_words own in
+    let push = of_ok _ c.alloc.result ok c.in-Ok.place c.in-Ok.is in
+    absurd (not_large _ _ _ _ c.self.invariant.space c.args.mutator c.index_mut.result.now mutator c.index_mut.ensures.value c.args.pointers c.args.plain_words (place_word c.in-Ok.place) c.alloc.new.self c.alloc.new.table small push c.in_default-place.field-0.number (ap place_word c.in_default-place.is))
 
 pub returns-in_default-clause-room : goal.returns-in_default-clause-room
 returns-in_default-clause-room g c =
@@ -79,8 +95,8 @@ returns-in_default-clause-none g c =
     rw whole (ap (λ t. space_of c.self.inside.config t (set c.self.inside.nurseries.items c.args.mutator c.alloc.new.self) c.self.inside.pool) same.1
     ∙ ap (λ ns. space_of c.self.inside.config c.self.inside.table.items ns c.self.inside.pool) (stays _ _ _ _ c.self.invariant.space c.args.mutator c.index_mut.result.now mutator c.index_mut.ensures.value c.args.pointers c.args.plain_words c.alloc.new.self c.alloc.new.table small same) ∙ c.self.view_is)
 
-pub returns-clause-room : goal.returns-clause-room
-returns-clause-room g c =
+pub returns-in-Small-clause-room : goal.returns-in-Small-clause-room
+returns-in-Small-clause-room g c =
     let mutator = rw (← c.self.view_is) at c.requires.mutator in
     let small = rw (← c.self.view_is) at c.requires.small in
     let own = own_sound _ _ _ _ c.self.invariant.space c.args.mutator c.index_mut.result.now mutator c.index_mut.ensures.value in
@@ -89,12 +105,31 @@ returns-clause-room g c =
     let whole = with_whole c.self.inside.table.len c.alloc.new.table c.self.inside.table.items (omega (arith, c.alloc.auto.table, c.deref_mut.ensures.len, c.self.inside.table.ok.0)) (omega (arith, c.self.inside.table.ok.0)) in
     rw (← c.self.view_is) (λ h. room_after_is _ _ _ _ c.self.invariant.space c.args.mutator c.index_mut.result.now mutator c.index_mut.ensures.value c.args.pointers c.args.plain_words c.alloc.new.self c.alloc.new.table small c.alloc.result ok c.in-Ok.place c.in-Ok.is, λ h. refl)
 
-pub returns-clause-some : goal.returns-clause-some
-returns-clause-some g c =
+pub returns-in-Small-clause-some : goal.returns-in-Small-clause-some
+returns-in-Small-clause-some g c =
     let mutator = rw (← c.self.view_is) at c.requires.mutator in
     let small = rw (← c.self.view_is) at c.requires.small in
     let own = own_sound _ _ _ _ c.self.invariant.space c.args.mutator c.index_mut.result.now mutator c.index_mut.ensures.value in
     let ok = (rw c.deref_mut.ensures.value at c.alloc.ensures.ok) c.self.inside.config.block_words own in
     let err = rw c.deref_mut.ensures.value at c.alloc.ensures.err in
     let whole = with_whole c.self.inside.table.len c.alloc.new.table c.self.inside.table.items (omega (arith, c.alloc.auto.table, c.deref_mut.ensures.len, c.self.inside.table.ok.0)) (omega (arith, c.self.inside.table.ok.0)) in
-    rw (← c.self.view_is, whole) (allocates _ _ _ _ c.self.invariant.space c.args.mutator c.index_mut.result.now mutator c.index_mut.ensures.value c.args.pointers c.args.plain_words (place_word c.in-Ok.place) c.alloc.new.self c.alloc.new.table small (of_ok _ c.alloc.result ok c.in-Ok.place c.in-Ok.is))
+    let push = of_ok _ c.alloc.result ok c.in-Ok.place c.in-Ok.is in
+    rw (← c.self.view_is, whole) (rw c.in-Small.is at (allocates _ _ _ _ c.self.invariant.space c.args.mutator c.index_mut.result.now mutator c.index_mut.ensures.value c.args.pointers c.args.plain_words (place_word c.in-Ok.place) c.alloc.new.self c.alloc.new.table small push))
+
+pub returns-in_default-place-clause-room : goal.returns-in_default-place-clause-room
+returns-in_default-place-clause-room g c =
+    let mutator = rw (← c.self.view_is) at c.requires.mutator in
+    let small = rw (← c.self.view_is) at c.requires.small in
+    let own = own_sound _ _ _ _ c.self.invariant.space c.args.mutator c.index_mut.result.now mutator c.index_mut.ensures.value in
+    let ok = (rw c.deref_mut.ensures.value at c.alloc.ensures.ok) c.self.inside.config.block_words own in
+    let push = of_ok _ c.alloc.result ok c.in-Ok.place c.in-Ok.is in
+    absurd (not_large _ _ _ _ c.self.invariant.space c.args.mutator c.index_mut.result.now mutator c.index_mut.ensures.value c.args.pointers c.args.plain_words (place_word c.in-Ok.place) c.alloc.new.self c.alloc.new.table small push c.in_default-place.field-0.number (ap place_word c.in_default-place.is))
+
+pub returns-in_default-place-clause-some : goal.returns-in_default-place-clause-some
+returns-in_default-place-clause-some g c =
+    let mutator = rw (← c.self.view_is) at c.requires.mutator in
+    let small = rw (← c.self.view_is) at c.requires.small in
+    let own = own_sound _ _ _ _ c.self.invariant.space c.args.mutator c.index_mut.result.now mutator c.index_mut.ensures.value in
+    let ok = (rw c.deref_mut.ensures.value at c.alloc.ensures.ok) c.self.inside.config.block_words own in
+    let push = of_ok _ c.alloc.result ok c.in-Ok.place c.in-Ok.is in
+    absurd (not_large _ _ _ _ c.self.invariant.space c.args.mutator c.index_mut.result.now mutator c.index_mut.ensures.value c.args.pointers c.args.plain_words (place_word c.in-Ok.place) c.alloc.new.self c.alloc.new.table small push c.in_default-place.field-0.number (ap place_word c.in_default-place.is))

@@ -23,6 +23,7 @@ invariant_of-result g c =
           (ap (λ p. p.limit) c.in-Ok.ensures.rest ∙ ap (λ p. p.limit) c.in_ok-pool.ensures ∙ c.blocks-2.ensures.value) free;
       flags = rw c.deref.ensures.value at c.in_ok-areas.ensures.areas;
       generations = c.in_ok-areas.ensures.generations ∙ c.generations.ensures.value;
+      room = record { each = λ h lt. let room = rw c.deref.ensures.value at c.in_ok-areas.ensures.room in omega (arith, room.each h lt, c.in_ok-table.ensures.len, count) };
     }
 
 pub returns : goal.returns

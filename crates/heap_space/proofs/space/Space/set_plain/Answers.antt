@@ -24,7 +24,7 @@ invariant_of-self g c =
     let whole = with_whole c.self.inside.table.len c.set_plain.new.table c.self.inside.table.items (omega (arith, c.set_plain.auto.table, c.deref_mut.ensures.len, c.self.inside.table.ok.0)) (omega (arith, c.self.inside.table.ok.0)) in
     let some = some_and (λ (o : Object). c.args.i < length o.plain) _ (rw (← c.self.view_is, c.in-Small.is) at c.requires) in
     let written = plain_written _ _ _ _ c.self.invariant.space c.in-Small.at.block c.in-Small.at.offset c.in-Small.at.offset_in_range some.0 some.1 _ c.args.i c.args.word (rw c.deref_mut.ensures.value at c.set_plain.ensures) in
-    rw whole (record { space = written.sound; flags = same_areas _ _ _ written.generations c.self.invariant.flags; generations = c.self.invariant.generations })
+    rw whole (record { space = written.sound; flags = same_areas _ _ _ written.young c.self.invariant.flags; generations = c.self.invariant.generations; room = c.self.invariant.room })
 
 pub returns-in-Small : goal.returns-in-Small
 returns-in-Small g c =
