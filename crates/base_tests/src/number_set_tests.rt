@@ -50,8 +50,9 @@ fn members_are_found_in_all_words(rt: HostRuntime) -> Result<(), Fail> {
     let places = [0, 61, 62, 125, 195, 196];
     let members = [Some(1), Some(62), Some(65), Some(128), Some(198), None];
     assert!(rt; members_at(rt.alloc(), &ranked, &places)?.as_slice() == members.as_slice());
-    let copied = ranked.copy(rt.alloc())?;
-    assert!(rt; members_at(rt.alloc(), &copied, &places)?.as_slice() == members.as_slice());
+    let shared = ranked.share()?;
+    drop(ranked);
+    assert!(rt; members_at(rt.alloc(), &shared, &places)?.as_slice() == members.as_slice());
     Ok(())
 }
 

@@ -125,6 +125,20 @@ impl<A: Allocator + Clone> Claims<A> {
         let made = deal(&table, first, made, seats)?;
         Ok((Claims { table, plan }, made))
     }
+
+    /// Claims over a free list, and one seat alone, for which no list is made. Nothing was drawn with it. An error says
+    /// that memory ran out.
+    pub fn alone(alloc: A, free: RankedSet<A>) -> Result<(Claims<A>, ClaimSeat), AllocError>
+        ensures free { IfOk result (λ made. made.0.source.free ≡ free) }
+        ensures count { IfOk result (λ made. made.0.source.seats ≡ 1) }
+        ensures seat { IfOk result (λ made. made.1 ≡ unused made.0.source) }
+    {
+        // What `len` ensures: the numbers rise, so each stands in the list once.
+        let _count = free.len();
+        let plan = Plan { free, seats: 1 };
+        let (table, seat) = Table::of_words(alloc, &[0], &plan)?;
+        Ok((Claims { table, plan }, ClaimSeat { seat, out: false }))
+    }
 }
 
 impl<A: Allocator> Claims<A> {

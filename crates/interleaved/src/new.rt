@@ -1,5 +1,5 @@
 //! How a collection by several workers begins.
-ghost use Rattle.std.specs.Prelude.{◌≡◌, ◌∷◌, [], ◌<◌, ◌≤◌, length, IfOk};
+ghost use Rattle.std.specs.Prelude.{◌≡◌, ◌<◌, ◌≤◌, IfOk};
 ghost use Rattle.std.specs.List.{range_with_len};
 ghost use Rattle.workers.specs.System.{opening};
 ghost use Rattle.serial.specs.IsSerial.{IsReadyToCollect};
@@ -16,17 +16,6 @@ use plain_queues::{PlainPending, PlainSeat};
 use scavenge::Workspace;
 use std::alloc::{AllocError, Allocator};
 use std::snapshot::Snapshot;
-
-/// The only item.
-fn only<T: Drop, A: Allocator>(mut items: Vec<T, A>) -> T
-    requires { length items.items ≡ 1 }
-    ensures { items.items ≡ result ∷ [] }
-{
-    match items.pop() {
-        Some(item) => item,
-        None => unreachable!(),
-    }
-}
 
 /// The workers before their first event, one for each seat.
 fn first_members<A: Allocator + Clone>(
@@ -72,9 +61,9 @@ impl<A: Allocator + Clone> InterleavedCollection<A> {
         ensures workers { IfOk result (λ m. m.workers ≡ n) }
         ensures first { IfOk result (λ m. system_of m ≡ opening (destinations_in m) n (targets_in m) m.heap.free) }
     {
-        let free = collection.free().copy(alloc.clone()?)?;
-        let (claims, draws) = Claims::new(alloc.clone()?, free, 1)?;
-        let (cells, passes) = PlainCells::new(alloc.clone()?, collection.cells(), 1)?;
+        let free = collection.free().share()?;
+        let (claims, draws) = Claims::alone(alloc.clone()?, free)?;
+        let (cells, pass) = PlainCells::alone(alloc.clone()?, collection.cells())?;
         let key = CopiesKey::new(heap, collection.generation());
         let (queues, seats) = PlainPending::new(alloc.clone()?, n, &key)?;
         let members = first_members(alloc, heap, collection, seats, n)?;
@@ -82,9 +71,9 @@ impl<A: Allocator + Clone> InterleavedCollection<A> {
             heap: Snapshot::of(heap),
             collection: Snapshot::of(collection),
             cells,
-            pass: only(passes),
+            pass,
             claims,
-            draws: only(draws),
+            draws,
             queues,
             workers: n,
             idlers: 0,

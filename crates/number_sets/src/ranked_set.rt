@@ -8,27 +8,35 @@ ghost use Rattle.number_sets.specs.Words.{members_of};
 use crate::ranking::{WORDS_IN_GROUP, counts_before, last_at_most, nth_from};
 use std::alloc::{AllocError, Allocator, Global};
 use std::marker::Model;
+use std::sync::Arc;
 
-/// Numbers in rising order, as they stood in a set, by flags and the count of the members before each group of words.
+/// Flags, the count of the members before each group of words of them, and the count of all.
 #[derive(Debug, Drop)]
-pub struct RankedSet<A: Allocator = Global> {
+struct Ranks<A: Allocator> {
     words: Vec<u64, A>,
     before: Vec<u32, A>,
     count: usize,
 }
 
+/// Numbers in rising order, as they stood in a set. Several owners, in any threads, may have the same.
+#[derive(Debug, Drop)]
+pub struct RankedSet<A: Allocator = Global> {
+    ranks: Arc<Ranks<A>, A>,
+}
+
 impl<A: Allocator> Model for RankedSet<A> {
     ghost use Rattle.std.specs.Prelude.{List, ℕ};
     ghost use Rattle.std.specs.Coded.{coded_list, coded_ℕ};
+    ghost use Rattle.std.specs.Arc.{arc_value};
     ghost use Rattle.number_sets.specs.Words.{members_of, IsRankedSet};
 
     ghost Value = { List ℕ };
 
     ghost coded = { coded_list coded_ℕ };
 
-    ghost view = { λ s. members_of s.words.items };
+    ghost view = { λ s. members_of (arc_value s.ranks).words.items };
 
-    ghost invariant = { λ s. IsRankedSet s.words.items s.before.items s.count };
+    ghost invariant = { λ s. IsRankedSet (arc_value s.ranks).words.items (arc_value s.ranks).before.items (arc_value s.ranks).count };
 }
 
 impl<A: Allocator + Clone> RankedSet<A> {
@@ -41,11 +49,14 @@ impl<A: Allocator + Clone> RankedSet<A> {
     {
         let mut own = Vec::with_capacity(alloc.clone()?, words.len())?;
         own.extend_from_slice(words)?;
-        let before = counts_before(alloc, words)?;
-        Ok(RankedSet {
+        let before = counts_before(alloc.clone()?, words)?;
+        let ranks = Ranks {
             words: own,
             before,
             count,
+        };
+        Ok(RankedSet {
+            ranks: Arc::new(alloc, ranks)?,
         })
     }
 }
@@ -57,7 +68,7 @@ impl<A: Allocator> RankedSet<A> {
         ensures in_range { result ≤ 65535 }
         ensures rising { IsStrictlyIncreasing self.now }
     {
-        self.count
+        self.ranks.count
     }
 
     /// The member that has `k` members below it. None says that there are not so many.
@@ -65,27 +76,22 @@ impl<A: Allocator> RankedSet<A> {
         ensures value { result ≡ slice_get self.now k }
         ensures cases { MatchOption result (length self.now ≤ k) (λ n. (k < length self.now) × HoldsAt (λ m. n ≡ m) self.now k) }
     {
-        if k >= self.count {
+        let ranks = &*self.ranks;
+        if k >= ranks.count {
             return None;
         }
         let k = k as u32;
-        let group = last_at_most(&self.before, k);
-        let left = k - self.before[group];
-        Some(nth_from(&self.words, group * WORDS_IN_GROUP, left))
+        let group = last_at_most(&ranks.before, k);
+        let left = k - ranks.before[group];
+        Some(nth_from(&ranks.words, group * WORDS_IN_GROUP, left))
     }
 
-    /// The same members in another allocator's memory. An error says that memory ran out.
-    pub fn copy<B: Allocator + Clone>(&self, alloc: B) -> Result<RankedSet<B>, AllocError>
-        ensures { IfOk result (λ copied. copied ≡ self.now) }
+    /// The same members for one more owner. It takes no memory. An error says that there are as many owners as can be counted.
+    pub fn share(&self) -> Result<RankedSet<A>, AllocError>
+        ensures { IfOk result (λ shared. shared ≡ self.now) }
     {
-        let mut words = Vec::with_capacity(alloc.clone()?, self.words.len())?;
-        words.extend_from_slice(&self.words)?;
-        let mut before = Vec::with_capacity(alloc, self.before.len())?;
-        before.extend_from_slice(&self.before)?;
         Ok(RankedSet {
-            words,
-            before,
-            count: self.count,
+            ranks: Arc::try_clone(&self.ranks)?,
         })
     }
 }

@@ -1,17 +1,18 @@
 -- What plain cells answer in the end.
 use Rattle.std.proofs.Common.{◌≡◌, ℕ, zero, suc, ◌+◌, ◌<◌, List, [], ◌∷◌, All, length, map, get_or, Some, None, refl, sym, ap, ◌∙◌, subst, arith}
-use Rattle.std.specs.Prelude.{Option}
+use Rattle.std.specs.Prelude.{Option, Result, Ok, Err, IfOk, OnOk, slice_index_or}
 use Rattle.std.specs.List.{AllPairs}
 use Rattle.std.proofs.lemmas.List.{get_or_past}
-use Rattle.std.proofs.lemmas.List.Elements.{All-nil, All-head, All-tail, All-append, All-weaker, All-get_or}
+use Rattle.std.proofs.lemmas.List.Elements.{All-nil, All-cons, All-head, All-tail, All-append, All-weaker, All-get_or}
 use mathlib.Core.Logic.{dite}
 use native.Mathlib.Decide.{dec_le}
 use Rattle.layout.specs.declared.place.Place.{Place}
 use Rattle.layout.specs.Place.{pointer_word}
 use Rattle.plain_cells.specs.declared.held.Held.{Held}
-use Rattle.cells.specs.Settled.{Pairs, wins_of, ones, all_pairs, KnowsOnly, IsSettled}
+use Rattle.cells.specs.Settled.{Pairs, wins_of, ones, all_pairs, KnowsOnly, Agree, IsSettled}
 use Rattle.views.specs.Total.{times}
 use Rattle.plain_cells.specs.Plain.{PlainValue, PlainPassValue, known_by, place_of, by_of, IsWinOf, IsFit, Differ, IsWonBelow, word_of, ArePlainCells}
+use Rattle.cells.proofs.Agreeing.{agrees}
 use Rattle.cells.proofs.Few.{once_each}
 use Rattle.cells.proofs.PairLemmas.{wins_of-append}
 
@@ -85,3 +86,24 @@ module _ (cells : PlainValue) (ps : List PlainPassValue) (words : List ℕ) (are
         wins_by_all cells ps fits name ∙ (once_by o (winner_below cells.held cells.passes are.winners name) ∙ (sym (ones-place_of o) ∙ ap ones (sym (places-at cells.held name))));
     none_past = λ name high. places-at cells.held name ∙ ap place_of (get_or_past cells.held name None high);
   }
+
+  pub settles_if : {E : Type 0} (r : Result (List (Option Place)) E) → IfOk r (λ f. f ≡ map place_of cells.held) → IfOk r (λ f. IsSettled known_by won_of ps (length cells.held) (λ name. slice_index_or f name None))
+  settles_if (Ok f) is = subst (λ (g : List (Option Place)). IsSettled known_by won_of ps (length cells.held) (λ name. slice_index_or g name None)) (sym is) plain_settles
+  settles_if (Err x) is = tt
+
+  pub agrees_if : {E : Type 0} (r : Result (List (Option Place)) E) → OnOk r (Agree known_by ps)
+  agrees_if (Ok f) = agrees known_by (places cells.held) ps plain_settles.known_settled
+  agrees_if (Err x) = tt
+
+-- the only answer that has these words
+pub exact_if : {E : Type 0} (held : List (Option Held)) (words : List ℕ) (r : Result (List (Option Place)) E) → map pointer_word (map place_of held) ≡ words
+    → IfOk r (λ f. (pointers : List (Option Place)) → map pointer_word pointers ≡ words → f ≡ pointers) → IfOk r (λ f. f ≡ map place_of held)
+exact_if held words (Ok f) shown is = is (map place_of held) shown
+exact_if held words (Err x) shown is = tt
+
+-- a pass alone is all of them
+pub fits_alone : (cells : PlainValue) (p : PlainPassValue) → IsFit cells p → All (IsFit cells) (p ∷ [])
+fits_alone cells p fit = All-cons (IsFit cells) p [] fit (All-nil (IsFit cells))
+
+pub differs_alone : (p : PlainPassValue) → AllPairs Differ (p ∷ [])
+differs_alone p i j d less below = absurd (omega arith)

@@ -26,7 +26,7 @@ fresh_passes-at count n k d l = get_or-map-range_with_len (fresh_pass count n) 0
 nothing : {X : Type 0} (n k : ℕ) → get_or {A = Option X} (replicate n None) k None ≡ None
 nothing {X} n k = dite (dec_le (k + 1) n) (λ (l : k + 1 ≤ n). get_or-replicate n k None None (omega arith)) (λ high. let m = length-replicate {A = Option X} n None in get_or_past (replicate n None) k None (omega arith))
 
-fresh_fits : (count n k : ℕ) → k < n → IsFit (empty_cells count n) (fresh_pass count n k)
+pub fresh_fits : (count n k : ℕ) → k < n → IsFit (empty_cells count n) (fresh_pass count n k)
 fresh_fits count n k l = record {
   mine = (l, refl);
   many = length-replicate count None ∙ sym (length-replicate count None);

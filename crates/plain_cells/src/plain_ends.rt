@@ -1,10 +1,10 @@
 //! Plain cells as they are made, and what they answer in the end.
-ghost use Rattle.std.specs.Prelude.{◌≡◌, ◌≢◌, ◌≤◌, List, [], Option, None, Err, All, length, map, slice_index_or, vec_capacity, IfOk, OnOk};
+ghost use Rattle.std.specs.Prelude.{◌≡◌, ◌≢◌, ◌≤◌, ◌∷◌, List, [], Option, None, Err, All, length, map, slice_index_or, vec_capacity, IfOk, OnOk};
 ghost use Rattle.layout.specs.declared.place.Place.{Place as At};
 ghost use Rattle.layout.specs.Place.{pointer_word};
 ghost use Rattle.std.specs.List.{AllPairs};
 ghost use Rattle.cells.specs.Settled.{Agree, IsSettled};
-ghost use Rattle.plain_cells.specs.Plain.{IsFit, Differ, known_by, place_of, empty_cells, fresh_passes};
+ghost use Rattle.plain_cells.specs.Plain.{IsFit, Differ, known_by, place_of, empty_cells, fresh_pass, fresh_passes};
 
 use crate::minds::Empty;
 use crate::plain_cells::PlainCells;
@@ -30,7 +30,32 @@ fn places_of<A: Allocator>(
     places
 }
 
+/// The places whose words these are. `NoMemory` says that memory ran out.
+fn forwards_of<A: Allocator>(alloc: A, words: &[u64]) -> Result<Forwards<A>, SettleError>
+    requires { (pointers : List (Option At)) × (map pointer_word pointers ≡ words.now) }
+    ensures exact { IfOk result (λ f. (pointers : List (Option At)) → map pointer_word pointers ≡ words.now → f ≡ pointers) }
+    ensures never_unsettled { result ≢ Err SettleError.Unsettled }
+{
+    let Ok(places) = Vec::with_capacity(alloc, words.len()) else {
+        return Err(SettleError::NoMemory);
+    };
+    Ok(Forwards::of(places_of(words, places)))
+}
+
 impl<A: Allocator> PlainCells<A> {
+    /// Cells that hold nothing, of so many passes.
+    fn empty(alloc: A, count: u32, passes: usize) -> Result<PlainCells<A>, AllocError>
+        ensures { IfOk result (λ cells. cells ≡ empty_cells count passes) }
+    {
+        let words = vec![in alloc; 0; count as usize]?;
+        let held = Remembered::of::<u32, Empty>(&count);
+        Ok(PlainCells {
+            words,
+            passes,
+            held,
+        })
+    }
+
     /// Cells that hold nothing, and as many passes as are asked for, numbered from 0. An error says that memory ran
     /// out.
     pub fn new(
@@ -52,16 +77,20 @@ impl<A: Allocator> PlainCells<A> {
         for number in 0..passes {
             made.push_reserved(PlainPass::new(count, passes, number));
         }
-        let words = vec![in alloc; 0; count as usize]?;
-        let held = Remembered::of::<u32, Empty>(&count);
-        Ok((
-            PlainCells {
-                words,
-                passes,
-                held,
-            },
-            made,
-        ))
+        let cells = PlainCells::empty(alloc, count, passes)?;
+        Ok((cells, made))
+    }
+
+    /// Cells that hold nothing, and one pass alone, for which no list is made. An error says that memory ran out.
+    pub fn alone(alloc: A, count: u32) -> Result<(PlainCells<A>, PlainPass), AllocError>
+        ensures cells { IfOk result (λ r. r.0 ≡ empty_cells count 1) }
+        ensures pass { IfOk result (λ r. r.1 ≡ fresh_pass count 1 0) }
+
+        // What follows for the pass.
+        ensures fits { IfOk result (λ r. IsFit r.0 r.1) }
+    {
+        let cells = PlainCells::empty(alloc, count, 1)?;
+        Ok((cells, PlainPass::new(count, 1, 0)))
     }
 
     /// The place of each name that was won. It takes the passes that `new` gave with these cells, each once: each name
@@ -76,9 +105,20 @@ impl<A: Allocator> PlainCells<A> {
         ensures agree { OnOk result (Agree known_by passes.items) }
         ensures never_unsettled { result ≢ Err SettleError.Unsettled }
     {
-        let Ok(places) = Vec::with_capacity(alloc, self.words.len()) else {
-            return Err(SettleError::NoMemory);
-        };
-        Ok(Forwards::of(places_of(&self.words, places)))
+        let _ = passes;
+        forwards_of(alloc, &self.words)
+    }
+
+    /// As `settle`, with the pass that `alone` gave with these cells.
+    pub fn settle_alone(self, alloc: A, pass: PlainPass) -> Result<Forwards<A>, SettleError>
+        requires fits { IsFit self pass }
+        requires alone { self.passes ≡ 1 }
+        ensures settled { IfOk result (λ f. IsSettled known_by (λ p. p.won) (pass ∷ []) (length self.held) (λ name. slice_index_or f name None)) }
+        ensures exact { IfOk result (λ f. f ≡ map place_of self.held) }
+        ensures agree { OnOk result (Agree known_by (pass ∷ [])) }
+        ensures never_unsettled { result ≢ Err SettleError.Unsettled }
+    {
+        let _ = pass;
+        forwards_of(alloc, &self.words)
     }
 }

@@ -1,11 +1,11 @@
 //! Queues for one thread, which are exact.
-ghost use Rattle.std.specs.Prelude.{◌≡◌, ◌<◌, ◌↔◌, IfOk, IfSome, IsSome, IsTrue, MatchResult, length, map, replicate};
+ghost use Rattle.std.specs.Prelude.{◌≡◌, ◌<◌, ◌↔◌, ◌∷◌, [], IfOk, IfSome, IsSome, IsTrue, MatchResult, length, map, replicate};
 ghost use Rattle.std.specs.List.{range_with_len};
 ghost use Rattle.plain_queues.specs.PlainValue.{empty_lane, new_pending, lane_at, front_of, next_of, after_export, after_take, outcomes_of};
 
 use crate::plain_queue::PlainQueue;
 use block_pool::Block;
-use exports::{Cargo, Deliveries};
+use exports::{Cargo, Deliveries, Delivery};
 use std::alloc::{AllocError, Allocator, Global};
 use std::marker::Model;
 use std::snapshot::Snapshot;
@@ -79,6 +79,15 @@ impl PlainSeat {
 }
 
 impl<C: Cargo, A: Allocator + Clone> PlainPending<C, A> {
+    // So many empty queues.
+    fn empty(alloc: A, count: u32, key: &C::Key) -> Result<Self, AllocError>
+        ensures { IfOk result (λ made. made ≡ new_pending key.now count) }
+    {
+        let queues = empty_queues(alloc, count, key)?;
+        let key = Snapshot::of(key);
+        Ok(PlainPending { key, queues })
+    }
+
     /// Empty queues, and a seat for each. An error says that memory ran out.
     pub fn new(
         alloc: A,
@@ -88,9 +97,17 @@ impl<C: Cargo, A: Allocator + Clone> PlainPending<C, A> {
         ensures queues { IfOk result (λ made. made.0 ≡ new_pending key.now count) }
         ensures seats { IfOk result (λ made. made.1.items ≡ range_with_len 0 count) }
     {
-        let queues = empty_queues(alloc.clone()?, count, key)?;
-        let key = Snapshot::of(key);
-        Ok((PlainPending { key, queues }, seats(alloc, count)?))
+        let pending = PlainPending::empty(alloc.clone()?, count, key)?;
+        Ok((pending, seats(alloc, count)?))
+    }
+
+    /// An empty queue, and one seat alone, for which no list is made. An error says that memory ran out.
+    pub fn alone(alloc: A, key: &C::Key) -> Result<(PlainPending<C, A>, PlainSeat), AllocError>
+        ensures queues { IfOk result (λ made. made.0 ≡ new_pending key.now 1) }
+        ensures seat { IfOk result (λ made. made.1 ≡ 0) }
+    {
+        let pending = PlainPending::empty(alloc, 1, key)?;
+        Ok((pending, PlainSeat { index: 0 }))
     }
 
     // What became of each block so far.
@@ -110,6 +127,15 @@ impl<C: Cargo, A: Allocator + Clone> PlainPending<C, A> {
     {
         let _ = seats;
         self.told(alloc)
+    }
+
+    /// As `close`, for one seat alone: the only list of outcomes.
+    pub fn close_alone(self, alloc: A, seat: PlainSeat) -> Result<Vec<Delivery, A>, AllocError>
+        requires alone { length self.lanes ≡ 1 }
+        ensures { IfOk result (λ v. map outcomes_of self.lanes ≡ v.items ∷ []) }
+    {
+        let _ = seat;
+        self.queues[0].outcomes(alloc)
     }
 }
 

@@ -1,6 +1,6 @@
 ghost use Rattle.std.specs.Prelude.{◌≡◌, ◌<◌, ◌≤◌, length, IfOk};
 
-use crate::test_blocks::{OfWords, Seen, assert_delivered, assert_in_order, block_of};
+use crate::test_blocks::{OfWords, Seen, assert_delivered, assert_in_order, block_of, told_of};
 use pending_queues::{Deliveries, PlainPending, PlainSeat};
 use std::alloc::Global;
 use std::process::Abort;
@@ -131,6 +131,16 @@ fn closing_names_the_takers_and_what_is_left(rt: HostRuntime) -> Result<(), Fail
     let deliveries = close(rt.alloc(), pending, pair)?;
     assert_delivered(&rt, &deliveries, 0, [Some(1), Some(0), None]);
     assert!(rt; deliveries.of(2).is_empty());
+    Ok(())
+}
+
+#[test]
+fn a_seat_alone_is_told_of_its_own_blocks(rt: HostRuntime) -> Result<(), Fail> {
+    let (mut pending, mut seat) = PlainPending::<OfWords>::alone(rt.alloc(), &16)?;
+    export_three(rt.alloc(), &mut pending, &mut seat)?;
+    assert!(rt; take(&mut pending, &mut seat, 0)?.is_some());
+    let told = pending.close_alone(rt.alloc(), seat)?;
+    assert_eq!(rt; told.as_slice(), told_of([Some(0), None, None]).as_slice());
     Ok(())
 }
 

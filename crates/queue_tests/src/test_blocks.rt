@@ -45,15 +45,10 @@ pub fn assert_in_order(rt: &impl Abort, seen: (Seen, Seen, Seen)) {
     assert_eq!(rt; third, Some((Some((0, 2)), 3, 1)));
 }
 
-/// Asserts who took the blocks of one, two and three objects that this exporter sent, and that the other one sent none.
-pub fn assert_delivered(
-    rt: &impl Abort,
-    deliveries: &Deliveries,
-    exporter: u32,
-    takers: [Option<u32>; 3],
-) {
+/// What became of blocks of one, two and three objects, with these takers.
+pub fn told_of(takers: [Option<u32>; 3]) -> [Delivery; 3] {
     let [first, second, third] = takers;
-    let told = [
+    [
         Delivery {
             objects: 1,
             taker: first,
@@ -66,7 +61,17 @@ pub fn assert_delivered(
             objects: 3,
             taker: third,
         },
-    ];
+    ]
+}
+
+/// Asserts who took the blocks of one, two and three objects that this exporter sent, and that the other one sent none.
+pub fn assert_delivered(
+    rt: &impl Abort,
+    deliveries: &Deliveries,
+    exporter: u32,
+    takers: [Option<u32>; 3],
+) {
+    let told = told_of(takers);
     assert_eq!(rt; deliveries.of(exporter), told.as_slice());
     assert!(rt; deliveries.of(1 - exporter.min(1)).is_empty());
 }

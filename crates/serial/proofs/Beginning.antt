@@ -31,10 +31,6 @@ length-nones : {X : Type 0} (count : ℕ) (x : X) → length (replicate count x)
 length-nones zero x = refl
 length-nones (suc count) x = ap suc (length-nones count x)
 
--- the only item of a list of one
-pub only_item : {X : Type 0} {x y : X} → x ∷ [] ≡ y ∷ [] → x ≡ y
-only_item {x = x} {y = y} e = cc
-
 abbrev pub key_of : HeapValue → ℕ → CopiesKeyValue
 key_of heap generation = record { heap = heap; generation = generation }
 

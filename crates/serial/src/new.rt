@@ -1,5 +1,5 @@
 //! How a collection by one worker begins.
-ghost use Rattle.std.specs.Prelude.{◌≡◌, ◌∷◌, [], length, IfOk};
+ghost use Rattle.std.specs.Prelude.{◌≡◌, IfOk};
 ghost use Rattle.workers.specs.System.{opening};
 ghost use Rattle.serial.specs.SerialValue.{system_of, destinations_in, targets_in};
 ghost use Rattle.serial.specs.IsSerial.{IsReadyToCollect};
@@ -14,17 +14,6 @@ use scavenge::Workspace;
 use std::alloc::{AllocError, Allocator};
 use std::snapshot::Snapshot;
 
-/// The only item.
-fn only<T: Drop, A: Allocator>(mut items: Vec<T, A>) -> T
-    requires { length items.items ≡ 1 }
-    ensures { items.items ≡ result ∷ [] }
-{
-    match items.pop() {
-        Some(item) => item,
-        None => unreachable!(),
-    }
-}
-
 impl<A: Allocator + Clone> SerialCollection<A> {
     /// The collection before its first event. An error says that memory ran out.
     pub fn new(alloc: A, heap: &Heap<A>, collection: &Collection<A>) -> Result<Self, AllocError>
@@ -33,21 +22,21 @@ impl<A: Allocator + Clone> SerialCollection<A> {
         ensures collection { IfOk result (λ s. s.collection ≡ collection.now) }
         ensures first { IfOk result (λ s. system_of s ≡ opening (destinations_in s) 1 (targets_in s) s.heap.free) }
     {
-        let free = collection.free().copy(alloc.clone()?)?;
-        let (claims, draws) = Claims::new(alloc.clone()?, free, 1)?;
-        let (cells, passes) = PlainCells::new(alloc.clone()?, collection.cells(), 1)?;
+        let free = collection.free().share()?;
+        let (claims, draws) = Claims::alone(alloc.clone()?, free)?;
+        let (cells, pass) = PlainCells::alone(alloc.clone()?, collection.cells())?;
         let key = CopiesKey::new(heap, collection.generation());
-        let (queues, seats) = PlainPending::new(alloc.clone()?, 1, &key)?;
+        let (queues, seat) = PlainPending::alone(alloc.clone()?, &key)?;
         let workspace = Workspace::new(alloc, heap, collection, 0, 1)?;
         Ok(SerialCollection {
             heap: Snapshot::of(heap),
             collection: Snapshot::of(collection),
             cells,
-            pass: only(passes),
+            pass,
             claims,
-            draws: only(draws),
+            draws,
             queues,
-            seat: only(seats),
+            seat,
             workspace,
         })
     }

@@ -57,10 +57,10 @@ pub fn in_one_list<A: Allocator>(
 ) -> Result<Vec<Block<A>, A>, AllocError>
     ensures { IfOk result (λ v. v.items ≡ somes allocation.items ++ done.items) }
 {
-    let mut blocks = Vec::with_capacity(alloc, allocation.len() + done.len())?;
+    let mut blocks = Vec::new(alloc);
     for slot in allocation {
         if let Some(block) = slot {
-            blocks.push_reserved(block);
+            blocks.push(block)?;
         }
     }
     blocks.append(&mut done)?;
@@ -68,7 +68,7 @@ pub fn in_one_list<A: Allocator>(
 }
 
 /// The place that each cell holds.
-pub fn places_in<A: Allocator + Clone>(
+pub fn places_in<A: Allocator>(
     alloc: A,
     cells: PlainCells<A>,
     pass: PlainPass,
@@ -77,9 +77,7 @@ pub fn places_in<A: Allocator + Clone>(
     requires alone { cells.passes ≡ 1 }
     ensures { IfOk result (λ v. v.items ≡ map place_of cells.held) }
 {
-    let mut passes = Vec::with_capacity(alloc.clone()?, 1)?;
-    passes.push_reserved(pass);
-    match cells.settle(alloc, passes) {
+    match cells.settle_alone(alloc, pass) {
         Ok(forwards) => Ok(forwards.into_places()),
         Err(_) => Err(AllocError),
     }
@@ -121,12 +119,11 @@ fn exported<A: Allocator + Clone>(
     queues: PlainPending<Copies<A>, A>,
     seat: PlainSeat,
 ) -> Result<Vec<Delivery, A>, AllocError>
+    requires { length queues.lanes ≡ 1 }
     ensures { IfOk result (λ v. v.items ≡ deliveries_of (map (λ b. length b.objects) (lane_at queues 0).sent)) }
 {
-    let mut seats = Vec::with_capacity(alloc.clone()?, 1)?;
-    seats.push_reserved(seat);
-    let told = queues.close(alloc.clone()?, seats)?;
-    delivered(alloc, told.of(0))
+    let told = queues.close_alone(alloc.clone()?, seat)?;
+    delivered(alloc, &told)
 }
 
 /// The reports of all workers: that of the one.

@@ -1,4 +1,4 @@
-ghost use Rattle.std.specs.Prelude.{◌≡◌, ◌<◌, IfOk};
+ghost use Rattle.std.specs.Prelude.{◌≡◌, ◌<◌, length, IfOk};
 ghost use Rattle.plain_cells.specs.Plain.{IsFit, Differ};
 
 use forwarding::{
@@ -126,6 +126,34 @@ fn two_passes_race_for_a_plain_cell(rt: HostRuntime) -> Result<(), Fail> {
     assert!(rt; stays);
     let forwards = settle_plain(rt.alloc(), cells, zero, one)?;
     let places = forwards.into_places();
+    assert!(rt; places.as_slice() == [None, Some(a)].as_slice());
+    Ok(())
+}
+
+/// Whether name 1 holds the first place after a pass alone raced for it with two.
+fn first_of_two_stays(
+    cells: &mut PlainCells,
+    pass: &mut PlainPass,
+    a: Place,
+    b: Place,
+) -> Result<bool, AllocError>
+    requires name { 1 < length cells.old.held }
+    requires fits { IsFit cells.old pass.old }
+    ensures fits { IsFit cells.new pass.new }
+    ensures passes { pass.new.passes ≡ pass.old.passes }
+{
+    let won = cells.race(pass, 1, a)?;
+    let lost = cells.race(pass, 1, b)?;
+    Ok(won == Outcome::Won && lost == Outcome::Lost(a))
+}
+
+#[test]
+fn a_pass_alone_settles_what_it_won(rt: HostRuntime) -> Result<(), Fail> {
+    let (a, b) = (Place::small(1, 2), Place::large(0));
+    let (mut cells, mut pass) = PlainCells::alone(rt.alloc(), 2)?;
+    let stays = first_of_two_stays(&mut cells, &mut pass, a, b)?;
+    assert!(rt; stays);
+    let places = cells.settle_alone(rt.alloc(), pass)?.into_places();
     assert!(rt; places.as_slice() == [None, Some(a)].as_slice());
     Ok(())
 }

@@ -88,6 +88,21 @@ fn numbers_are_drawn_in_order(rt: HostRuntime) -> Result<(), Fail> {
 }
 
 #[test]
+fn a_seat_alone_draws_in_order(rt: HostRuntime) -> Result<(), Fail> {
+    let (claims, mut seat) = Claims::alone(rt.alloc(), free_list(rt.alloc(), 4, 6)?)?;
+    let drawn = (
+        claims.draw(&mut seat),
+        claims.draw(&mut seat),
+        claims.draw(&mut seat),
+    );
+    assert_eq!(rt; drawn, (Some(4), Some(5), None));
+    let mut seats = Vec::with_capacity(rt.alloc(), 1)?;
+    seats.push_reserved(seat);
+    assert_eq!(rt; claims.close(seats), 2);
+    Ok(())
+}
+
+#[test]
 fn two_seats_take_turns(rt: HostRuntime) -> Result<(), Fail> {
     let (claims, mut seats) = claims_of(rt.alloc(), 10, 15, 2)?;
     let turns = [(0, Some(10)), (1, Some(11)), (1, Some(12)), (0, Some(13))];

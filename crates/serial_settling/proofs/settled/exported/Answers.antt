@@ -1,7 +1,6 @@
-use Rattle.std.proofs.Common.{◌≡◌, [], length, map, get_or, ap, subst, ◌∙◌}
+use Rattle.std.proofs.Common.{◌≡◌, [], map, get_or, sym, ap, subst, ◌∙◌}
 use Rattle.std.specs.Result.{IfOk}
 use Rattle.exports.specs.declared.deliveries.Delivery.{Delivery as Outcome}
-use Rattle.plain_queues.specs.PlainValue.{lane_at}
 use Rattle.serial_settling.specs.Settling.{deliveries_of}
 use Rattle.serial_settling.proofs.SettleLists.{told_sizes}
 use Rattle.serial_settling.proofs.settled.exported.Goals as goal
@@ -9,5 +8,5 @@ use Rattle.serial_settling.proofs.settled.exported.Goals as goal
 pub returns : goal.returns
 returns g c =
     subst (λ ns. IfOk c.delivered.result (λ v. v.items ≡ deliveries_of ns))
-    (ap (map (λ (e : Outcome). e.objects)) (c.of.ensures ∙ ap (λ lists. get_or lists 0 []) c.in_ok-told.ensures) ∙ told_sizes _ ∙ ap (λ q. map (λ b. length b.objects) (lane_at q 0).sent) c.queues.view_is)
+    (ap (map (λ (e : Outcome). e.objects)) (c.deref.ensures.value ∙ sym (ap (λ lists. get_or lists 0 []) c.in_ok-told.ensures)) ∙ told_sizes c.args.queues.lanes)
     c.delivered.ensures

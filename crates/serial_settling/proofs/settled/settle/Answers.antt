@@ -8,6 +8,8 @@ use Rattle.heap_data.specs.SettledValue.{IsSettled}
 use Rattle.model.specs.Live.{IsYoung}
 use Rattle.plain_cells.specs.Plain.{PlainValue, PlainPassValue, IsFit, place_of}
 use Rattle.plain_queues.specs.PlainValue.{lane_at}
+use Rattle.plain_queues.specs.PlainValue.{PlainValue as PlainQueuesValue}
+use Rattle.copies.specs.Handed.{CopiesKeyValue}
 use Rattle.workers.specs.Joined.{Each, OnSome}
 use Rattle.to_space.specs.Named.{named, IsWhole}
 use Rattle.to_space.specs.Fronts.{slot_at}
@@ -36,6 +38,9 @@ places_in-requires-clause-fits g c =
 
 pub places_in-requires-clause-alone : goal.places_in-requires-clause-alone
 places_in-requires-clause-alone g c = ap (λ (k : PlainValue). k.passes) c.into_parts-cells.ensures.cells ∙ c.into_parts-cells.ensures.serial.cells.passes
+
+pub exported-requires : goal.exported-requires
+exported-requires g c = ap (λ (q : PlainQueuesValue CopiesKeyValue). length q.lanes) c.into_parts-cells.ensures.queues ∙ c.into_parts-cells.ensures.serial.queue.lanes
 
 pub show_large-requires : goal.show_large-requires
 show_large-requires g c =

@@ -4,7 +4,7 @@ use Rattle.claims.proofs.DrawLemmas.{closes}
 use Rattle.claims.proofs.ClaimLemmas.{IsClosed, closed, IsDistinct-none, belong}
 use Rattle.claims.proofs.claims.Claims.close.Given as given
 use Rattle.claims.proofs.claims.Claims.close.Goals as goal
-use Rattle.claims.proofs.claims.Claims.close.Goals.{After-drop-plan-2}
+use Rattle.claims.proofs.claims.Claims.close.Goals.{After-drop-plan}
 
 pub returns-in_default-clause-once : goal.returns-in_default-clause-once
 returns-in_default-clause-once g c = IsDistinct-none c.args.seats.items (search rules)
@@ -12,7 +12,7 @@ returns-in_default-clause-once g c = IsDistinct-none c.args.seats.items (search 
 pub gather-seat-requires-clause-seats : goal.gather-seat-requires-clause-seats
 gather-seat-requires-clause-seats g c = belong c.args.self.source c.args.seats.items _ _ _ c.in-Some.ensures.items c.requires.seats (sym (ap (λ v. v.source.name) c.self.view_is))
 
-ended : (g : given.Over) → (c : After-drop-plan-2 g) → IsClosed c.args.self.source.free c.min.result c.args.seats.items
+ended : (g : given.Over) → (c : After-drop-plan g) → IsClosed c.args.self.source.free c.min.result c.args.seats.items
 ended g c =
     let plan = c.self.invariant in
     let free = ap (λ v. v.source.free) c.self.view_is in

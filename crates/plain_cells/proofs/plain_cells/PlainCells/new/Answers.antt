@@ -1,6 +1,6 @@
 use Rattle.std.proofs.Common.{arith, ap, length, ◌≡◌, ◌∙◌}
 use Rattle.plain_cells.specs.Plain.{fresh_passes}
-use Rattle.plain_cells.proofs.PlainStart.{length-fresh_passes, fresh_passes-more, fresh_all_fit, fresh_differ, empty_are}
+use Rattle.plain_cells.proofs.PlainStart.{length-fresh_passes, fresh_passes-more, fresh_all_fit, fresh_differ}
 use Rattle.plain_cells.proofs.plain_cells.PlainCells.new.Goals as goal
 
 pub push_reserved-requires : goal.push_reserved-requires
@@ -19,13 +19,10 @@ loop-number-preserved g c =
     let same = c.push_reserved.ensures.capacity in
     record { made = cc; room = omega arith }
 
-pub invariant_of-result : goal.invariant_of-result
-invariant_of-result g c = rw (c.in_ok-words.ensures.items_if_clones_equal (λ y same. same), c.of-held.ensures) (empty_are c.args.count c.args.passes c.ranges.count.fits)
-
 pub returns-clause-fits : goal.returns-clause-fits
 returns-clause-fits g c =
     let all : c.loop-number.number ≡ c.args.passes = (let past = c.loop-number-test.false in let end = c.loop-number.auto.number-end in omega arith) in
-    rw (c.loop-number.invariant.made ∙ ap (fresh_passes c.args.count c.args.passes) all, c.of-held.ensures) (fresh_all_fit c.args.count c.args.passes)
+    rw (c.loop-number.invariant.made ∙ ap (fresh_passes c.args.count c.args.passes) all, c.in_ok-cells.ensures) (fresh_all_fit c.args.count c.args.passes)
 
 pub returns-clause-apart : goal.returns-clause-apart
 returns-clause-apart g c =
