@@ -1,6 +1,7 @@
 -- What lasts from event to event, and what each makes less.
-use Rattle.std.proofs.Common.{◌≡◌, ◌≢◌, ℕ, ◌+◌, ◌<◌, Bool, true, false, cond, nat_eq, List, [], ◌∷◌, map, Option, Some, None, Result, Ok, Err, refl, sym, ap, subst, ◌∙◌, arith}
-use Rattle.std.specs.Prelude.{IsSome, OnErr}
+use Rattle.std.proofs.Common.{◌≡◌, ◌≢◌, ℕ, ◌+◌, ◌<◌, Bool, true, false, cond, nat_eq, List, [], ◌∷◌, map, Option, Some, None, Result, Ok, Err, refl, sym, ap, subst, ◌∙◌, inl, inr, arith}
+use Rattle.std.specs.Prelude.{IsSome, is_some, IfOk, OnErr}
+use Rattle.std.proofs.lemmas.Result.{IfOk-at_ok, on_err_weaker}
 use Rattle.claims.specs.Drawn.{times_in}
 use Rattle.claims.proofs.ClaimLemmas.{IsDistinct-rising, times-distinct}
 use Rattle.heap_data.specs.HeapValue.{HeapValue}
@@ -18,11 +19,13 @@ use Rattle.workers.specs.Measure.{measure, young_names_of, IsWake}
 use Rattle.workers.specs.Finish.{Stepped, IsReached}
 use Rattle.workers.proofs.OneMore.{stepped_more, stepped_run}
 use Rattle.workers.proofs.Reached.{reached_falls, young_covers}
-use Rattle.serial.specs.SerialValue.{SerialValue, Goes, Stays, LooksThenRaces, WantsDraw, system_of, setting_in, targets_in, destinations_in}
+use Rattle.scavenge.specs.Evacuates.{WantsMore}
+use Rattle.scavenge.specs.Evacuates.{has_another}
+use Rattle.serial.specs.SerialValue.{SerialValue, Goes, Stays, IsLeft, LooksThenRaces, WantsDraw, system_of, setting_in, targets_in, destinations_in}
 use Rattle.serial.specs.IsSerial.{IsReadyToCollect}
 use Rattle.serial.proofs.Readiness.{room_of}
 use Rattle.serial_steps.proofs.Order.{next_look, next_race, next_scan}
-use Rattle.serial_steps.specs.Stepping.{IsOf, GoesOn, IsDone, HasStepped, left_to_do}
+use Rattle.serial_steps.specs.Stepping.{IsOf, GoesOn, IsDone, HasStepped, IsLeftToStep, ScansNext, left_to_do}
 
 same_times : (n : ℕ) (xs : List ℕ) → times n xs ≡ times_in n xs
 same_times n [] = refl
@@ -169,3 +172,45 @@ pub stepped_on : {E : Type 0} (r : Result Bool E) (between new : SerialValue) �
 stepped_on (Ok true) between new some none err h = one_more between new h (some refl)
 stepped_on (Ok false) between new some none err h = subst HasStepped (sym (none refl).1) h
 stepped_on (Err e) between new some none err h = none_more between new h err
+
+-- what the worker sees stays, and so does a slot that is left to a look
+setting_still : (old new : SerialValue) → Stays old new → setting_in new ≡ setting_in old
+setting_still old new g = ap (λ heap. Seen heap new.collection) g.heap ∙ ap (Seen old.heap) g.collection
+  where
+    Seen : HeapValue → CollectionValue → Setting
+    Seen heap c = setting_of heap.graph c.generation heap.config.shape heap.config.block_words 1
+
+pub is_left_still : (old new : SerialValue) → Stays old new → IsLeft old → IsLeft new
+is_left_still old new g (inl starts) = inl (λ none. starts (ap (λ (w : Worker). w.starts) (sym (worker_still old new g)) ∙ none))
+is_left_still old new g (inr is) =
+    let seen = setting_still old new g in
+    let same = worker_still old new g in
+    inr (record {
+      name = is.name;
+      slot = ap (λ s. current_slot s new.workspace.worker) seen ∙ ap (current_slot (setting_in old)) same ∙ is.slot;
+      empty = ap (λ s. cell_of s (Some is.name)) g.system ∙ is.empty;
+      wants = subst (λ s. WantsMore s new.workspace.worker is.name) (sym seen) (subst (λ w. WantsMore (setting_in old) w is.name) (sym same) is.wants);
+    })
+
+-- and what is left to `step`
+pub left_to_step_still : (old new : SerialValue) → Stays old new → IsLeftToStep old → IsLeftToStep new
+left_to_step_still old new g (inl proposed) = inl (ap (λ (w : Worker). is_some w.proposal) (worker_still old new g) ∙ proposed)
+left_to_step_still old new g (inr (inl is)) = inr (inl (is_left_still old new g is))
+left_to_step_still old new g (inr (inr none)) =
+    let same = worker_still old new g in
+    inr (inr (record {
+      no_slot = ap (λ s. current_slot s new.workspace.worker) (setting_still old new g) ∙ ap (current_slot (setting_in old)) same ∙ none.no_slot;
+      no_other = ap (λ (w : Worker). has_another w.hand) same ∙ none.no_other;
+    }))
+
+-- nothing came, and the scan is left to `step`
+pub none_behind : {E : Type 0} (r : Result Bool E) (old between new : SerialValue) → Stays old between → current_slot (setting_in between) between.workspace.worker ≡ None → (r ≡ Ok false → new ≡ between) → IfOk r (λ some. some ≡ has_another between.workspace.worker.hand) → r ≡ Ok false
+    → IsLeftToStep new × Stays old new
+none_behind r old between new g no_slot same which is =
+    subst (λ v. IsLeftToStep v × Stays old v) (sym (same is)) (inr (inr (record { no_slot = no_slot; no_other = sym (IfOk-at_ok (λ some. some ≡ has_another between.workspace.worker.hand) is which) })), g)
+
+-- nothing came, and the scan is next
+pub scan_refused : {E : Type 0} (r : Result Bool E) (old between new : SerialValue) → Stays old between → old.workspace.worker.proposal ≡ None → current_slot (setting_in between) between.workspace.worker ≡ None → between.workspace.worker.hand ≢ Nothing → OnErr r (new ≡ between)
+    → OnErr r (ScansNext new × Stays old new)
+scan_refused r old between new g none no_slot hand err =
+    on_err_weaker r (λ (same : new ≡ between). subst (λ v. ScansNext v × Stays old v) (sym same) (record { no_proposal = ap (λ (w : Worker). w.proposal) (worker_still old between g) ∙ none; hand = hand; no_slot = no_slot }, g)) err

@@ -1,7 +1,8 @@
 //! One event after another.
-ghost use Rattle.std.specs.Prelude.{◌≡◌, ◌<◌, ◌≤◌, true, false, Ok, Err, OnOk, OnErr};
+ghost use Rattle.std.specs.Prelude.{◌≡◌, ◌<◌, ◌≤◌, ◌⊎◌, true, false, Ok, Err, OnOk, OnErr};
+ghost use Rattle.serial.specs.SerialValue.{Stays};
 ghost use Rattle.serial.specs.IsSerial.{IsReadyToCollect};
-ghost use Rattle.serial_steps.specs.Stepping.{IsOf, IsDone, IsFull, HasStepped, left_to_do};
+ghost use Rattle.serial_steps.specs.Stepping.{IsOf, IsDone, IsFull, IsLeftToStep, ScansNext, GoesFar, HasStepped, left_to_do};
 
 use crate::events::step;
 use heap::{Collection, Heap};
@@ -10,7 +11,8 @@ use serial::SerialCollection;
 use std::alloc::{AllocError, Allocator};
 
 /// The next events, where they want neither a block nor the queue: a look with the race for what it proposes, or a scan.
-/// Tells whether there were some.
+/// Tells whether there were some: else the next one is left to `step`, and nothing came. An error says that memory ran out
+/// in a scan, which didn't come.
 #[inline(always)]
 fn advance<A: Allocator + Clone>(
     heap: &Heap<A>,
@@ -23,8 +25,8 @@ fn advance<A: Allocator + Clone>(
     ensures same { IsOf heap.now collection.now serial.new }
     ensures stepped { HasStepped serial.new }
     ensures some { result ≡ Ok true → left_to_do serial.new < left_to_do serial.old }
-    ensures none { result ≡ Ok false → left_to_do serial.new ≤ left_to_do serial.old }
-    ensures err { OnErr result (left_to_do serial.new ≤ left_to_do serial.old) }
+    ensures none { result ≡ Ok false → IsLeftToStep serial.new × Stays serial.old serial.new }
+    ensures err { OnErr result (ScansNext serial.new × Stays serial.old serial.new) }
 {
     if serial.has_proposal() {
         return Ok(false);
@@ -42,7 +44,7 @@ fn advance<A: Allocator + Clone>(
     }
 }
 
-/// Goes on while the next events want neither a block nor the queue.
+/// Goes on until the next event is left to `step`. An error says that memory ran out in a scan, which didn't come.
 fn run_on<A: Allocator + Clone>(
     heap: &Heap<A>,
     collection: &Collection<A>,
@@ -54,12 +56,14 @@ fn run_on<A: Allocator + Clone>(
     ensures same { IsOf heap.now collection.now serial.new }
     ensures stepped { HasStepped serial.new }
     ensures less { left_to_do serial.new ≤ left_to_do serial.old }
+    ensures ok { OnOk result (IsLeftToStep serial.new) }
+    ensures err { OnErr result (ScansNext serial.new) }
 {
     while advance(heap, collection, serial)? {}
     Ok(())
 }
 
-/// Goes on so, and then the next event. Tells whether there was one.
+/// Goes on so, and then the next event. Tells whether there was one. An error leaves what didn't come as the next event.
 fn go_far<A: Allocator + Clone>(
     alloc: A,
     heap: &Heap<A>,
@@ -71,9 +75,11 @@ fn go_far<A: Allocator + Clone>(
     requires stepped { HasStepped serial.old }
     ensures same { IsOf heap.now collection.now serial.new }
     ensures stepped { HasStepped serial.new }
-    ensures some { result ≡ Ok true → left_to_do serial.new < left_to_do serial.old }
+    ensures some { result ≡ Ok true → GoesFar serial.old serial.new }
+    ensures less { result ≡ Ok true → left_to_do serial.new < left_to_do serial.old }
     ensures none { result ≡ Ok false → IsDone serial.new }
     ensures full { result ≡ Err LookError.HeapFull → IsFull serial.new serial.new }
+    ensures err { OnErr result (ScansNext serial.new ⊎ IsLeftToStep serial.new) }
 {
     run_on(heap, collection, serial)?;
     step(alloc, heap, collection, serial)

@@ -2,7 +2,7 @@ use Rattle.std.proofs.Common.{sym, subst, ◌∙◌, ⊎_elim, true≢false}
 use Rattle.heap_data.specs.HeapValue.{HeapValue}
 use Rattle.serial.specs.IsSerial.{IsReadyToCollect}
 use Rattle.serial_steps.proofs.Order.{none_of}
-use Rattle.serial_steps.proofs.Going.{went_look, went_twice, went_still_scan, none_more, stepped_or}
+use Rattle.serial_steps.proofs.Going.{went_look, went_twice, went_still_scan, none_more, stepped_or, none_behind, scan_refused}
 use Rattle.serial_steps.proofs.running.advance.Goals as goal
 
 pub returns-then-has_hand-clause-stepped : goal.returns-then-has_hand-clause-stepped
@@ -32,3 +32,12 @@ returns-in-Looked-clause-some g c = λ _.
     let none = none_of c.args.serial.now.workspace.worker.proposal (λ some. true≢false (sym (c.has_proposal.ensures.1 some) ∙ c.if-has_proposal.false)) in
     ⊎_elim (λ is. (went_look c.args.serial.now c.evacuate.new.self ready c.requires.stepped none (c.evacuate.ensures.looked_slot is) (c.evacuate.ensures.looked is)).1)
     (λ is. (went_twice c.args.serial.now c.evacuate.new.self ready c.requires.stepped none (c.evacuate.ensures.raced_slot is) (c.evacuate.ensures.raced is)).1) c.in-Looked.is
+
+pub returns-then-has_hand-clause-none : goal.returns-then-has_hand-clause-none
+returns-then-has_hand-clause-none g c =
+    none_behind c.scan_on.result c.args.serial.now c.evacuate.new.self c.scan_on.new.self (c.evacuate.ensures.none c.in-NoSlot.is) (c.evacuate.ensures.no_slot c.in-NoSlot.is) c.scan_on.ensures.none c.scan_on.ensures.which
+
+pub returns-then-has_hand-clause-err : goal.returns-then-has_hand-clause-err
+returns-then-has_hand-clause-err g c =
+    let none = none_of c.args.serial.now.workspace.worker.proposal (λ some. true≢false (sym (c.has_proposal.ensures.1 some) ∙ c.if-has_proposal.false)) in
+    scan_refused c.scan_on.result c.args.serial.now c.evacuate.new.self c.scan_on.new.self (c.evacuate.ensures.none c.in-NoSlot.is) none (c.evacuate.ensures.no_slot c.in-NoSlot.is) (c.has_hand.ensures.0 c.if-has_hand.true) c.scan_on.ensures.err
