@@ -22,8 +22,8 @@ use Rattle.workers.specs.System as system
 use Rattle.workers.specs.Steps.{IsAwake}
 use Rattle.workers.specs.Lawful.{IsLawful, IsRefused}
 use Rattle.scavenge.specs.Shown.{WorkspaceValue}
-use Rattle.scavenge.specs.declared.look.LookError.{LookError}
-use Rattle.scavenge.specs.declared.look.LookError.TheVariants.{HeapFull, NoMemory}
+use Rattle.scavenge.specs.declared.looking.LookError.{LookError}
+use Rattle.scavenge.specs.declared.looking.LookError.TheVariants.{HeapFull, NoMemory}
 use Rattle.scavenge.specs.Slots.{seen, IsUntouched, HasRoomFor, cell_of, IsTold, Looks, WantsBlock, seat_after}
 use Rattle.serial.specs.SerialValue.{left_of}
 use Rattle.serial.proofs.Drawn.{left_contains, left_push}

@@ -26,9 +26,9 @@ use Rattle.workers.specs.Steps.{IsAwake}
 use Rattle.workers.specs.Lawful.{IsLawful}
 use Rattle.workers.proofs.Acts.{ProposalFit}
 use Rattle.workers.proofs.SystemParts.{find-new}
-use Rattle.scavenge.specs.Shown.{WorkspaceValue, lost_to}
+use Rattle.scavenge.specs.Shown.{WorkspaceValue, lost_to, IsBid, name_of}
 use Rattle.scavenge.specs.Slots.{cell_of}
-use Rattle.scavenge.specs.Told.{Races, IsNumberOf, IsBid, lost_of, name_of}
+use Rattle.scavenge.specs.Told.{Races, IsNumberOf, lost_of}
 use Rattle.serial.proofs.Raced.{some_there}
 use Rattle.interleaved.specs.InterleavedValue.{InterleavedValue, MemberValue, Goes, system_of, setting_in, forwarded_at, forwarded_in}
 use Rattle.interleaved.specs.IsInterleaved.{IsInterleaved}

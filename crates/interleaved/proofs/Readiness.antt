@@ -17,7 +17,7 @@ use Rattle.workers.proofs.ReadyRuns.{run_ready}
 use Rattle.workers.proofs.ReadyLemmas.{few_fields}
 use Rattle.workers.proofs.Kept.{collected-young}
 use Rattle.workers.proofs.SystemFalls.{Sound, run_sound}
-use Rattle.scavenge.specs.Told.{name_of}
+use Rattle.scavenge.specs.Shown.{name_of}
 use Rattle.serial.specs.IsSerial.{IsReadyToCollect}
 use Rattle.serial.proofs.Readiness.{destination_below}
 use Rattle.serial.proofs.Raced.{some_there}

@@ -11,6 +11,7 @@ ghost use Rattle.scavenge.specs.Slots.{objects_of, IsUntouched};
 use crate::event::Event;
 use crate::member::Member;
 use heap::Heap;
+use scavenge::has_slot;
 use std::alloc::Allocator;
 
 impl<A: Allocator> Member<A> {
@@ -70,7 +71,7 @@ impl<A: Allocator + Clone> Member<A> {
         requires untouched { IsUntouched (objects_of heap.now) self.now.workspace.worker }
         ensures { IsTrue result ↔ CanLook (objects_of heap.now) self.now.workspace.worker }
     {
-        !self.workspace.has_proposal() && self.workspace.has_slot(heap)
+        !self.workspace.has_proposal() && has_slot(&self.workspace, heap)
     }
 
     /// Whether what is in hand can be scanned.
@@ -82,7 +83,7 @@ impl<A: Allocator + Clone> Member<A> {
     {
         !self.workspace.has_proposal()
             && self.workspace.has_hand()
-            && !self.workspace.has_slot(heap)
+            && !has_slot(&self.workspace, heap)
     }
 
     /// What comes next of it, where it isn't idle. It has number `t`, and something waits in its queue or not.
@@ -95,7 +96,7 @@ impl<A: Allocator + Clone> Member<A> {
         if self.workspace.has_proposal() {
             return Event::Race(t);
         }
-        if self.workspace.has_slot(heap) {
+        if has_slot(&self.workspace, heap) {
             return Event::Look(t);
         }
         if self.workspace.has_hand() {

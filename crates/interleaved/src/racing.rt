@@ -27,7 +27,8 @@ impl<A: Allocator + Clone> InterleavedCollection<A> {
         ensures refused { result ≡ Err LookError.HeapFull → IsRefused (setting_in self.old) (system_of self.old) (Look t) }
         ensures err { OnErr result (Stays self.old self.new) }
     {
-        if let Err(error) = self.members[t as usize].workspace.look(
+        if let Err(error) = scavenge::look(
+            &mut self.members[t as usize].workspace,
             alloc,
             heap,
             collection,
@@ -54,8 +55,12 @@ impl<A: Allocator + Clone> InterleavedCollection<A> {
         ensures ok { OnOk result (Goes (Race t) self.old self.new) }
         ensures err { OnErr result (Stays self.old self.new) }
     {
-        self.members[t as usize]
-            .workspace
-            .race(heap, collection, &mut self.cells, &mut self.pass)
+        scavenge::race(
+            &mut self.members[t as usize].workspace,
+            heap,
+            collection,
+            &mut self.cells,
+            &mut self.pass,
+        )
     }
 }

@@ -1,6 +1,6 @@
 -- Why a machine didn't open, and why an event didn't come.
-use Rattle.scavenge.specs.declared.look.LookError.{LookError}
-use Rattle.scavenge.specs.declared.look.LookError.TheVariants as looked
+use Rattle.scavenge.specs.declared.looking.LookError.{LookError}
+use Rattle.scavenge.specs.declared.looking.LookError.TheVariants as looked
 use Rattle.heap.specs.declared.heap.OpenError.{OpenError}
 use Rattle.heap.specs.declared.heap.OpenError.TheVariants as open_error
 use Rattle.machine.specs.declared.machine_error.MachineError.{MachineError}

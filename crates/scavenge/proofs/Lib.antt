@@ -1,11 +1,6 @@
-mod Fields
-mod Winning
-mod Scanning
-mod Made
 mod SlotLemmas
-mod Renewing
-mod Copying
-mod Proposing
-mod Looking
-mod Evacuating
-mod Begun
+mod Seeing
+mod Placing
+mod Reserved
+mod Empty
+mod AtOnce

@@ -1,7 +1,6 @@
--- What slots hold, and the places of copies.
-use Rattle.std.proofs.Common.{◌≡◌, ℕ, zero, suc, ◌+◌, ◌%◌, ◌<◌, ◌≤◌, Bool, true, false, cond, nat_lt, nat_eq, List, [], ◌∷◌, ◌++◌, length, map, take, drop, Option, Some, None, refl, sym, ap, ◌∙◌, arith}
-use Rattle.std.specs.Prelude.{slice_get, slice_index_or, get_or}
-use Rattle.std.proofs.lemmas.List.{map-append}
+-- What slots of the heap hold.
+use Rattle.std.proofs.Common.{◌≡◌, ℕ, zero, suc, ◌≤◌, Bool, true, false, cond, nat_lt, List, [], ◌∷◌, length, Option, Some, None, refl, sym, ap, ◌∙◌, arith}
+use Rattle.std.specs.Prelude.{slice_get}
 use Rattle.std.specs.Option.{option_map, option_and_then, IsSomeAnd}
 use Rattle.model.specs.Graph.{Graph, Object, object_at, field_at, IsClosed}
 use Rattle.layout.specs.declared.place.Place.{Place}
@@ -9,45 +8,14 @@ use Rattle.layout.specs.Object.{Raw}
 use Rattle.layout.specs.Place.{place_word, pointer_word}
 use Rattle.heap.specs.NamesArePlaces.{NamesArePlaces}
 use Rattle.heap.specs.Words.{target_of_word, IsShownAs}
-use Rattle.workers.specs.System.{every}
 use Rattle.to_space.specs.Fronts.{IsPointer}
-use Rattle.scavenge.proofs.Fields.{target_of_pointer, length-map}
-
-pub every_more : (n t i : ℕ) (xs : List ℕ) (x : ℕ) → every n t i (xs ++ x ∷ []) ≡ every n t i xs ++ cond (nat_eq ((i + length xs) % n) t) (x ∷ []) []
-every_more n t i [] x = let e : i ≡ i + 0 = omega arith in ap (λ k. cond (nat_eq (k % n) t) (x ∷ []) []) e
-every_more n t i (y ∷ xs) x =
-    let e : (i + 1) + length xs ≡ i + suc (length xs) = omega arith in
-    go (nat_eq (i % n) t) (every_more n t (i + 1) xs x ∙ ap (λ k. every n t (i + 1) xs ++ cond (nat_eq (k % n) t) (x ∷ []) []) e)
-  where
-    go : (b : Bool) → every n t (i + 1) (xs ++ x ∷ []) ≡ every n t (i + 1) xs ++ cond (nat_eq ((i + suc (length xs)) % n) t) (x ∷ []) []
-        → cond b (y ∷ every n t (i + 1) (xs ++ x ∷ [])) (every n t (i + 1) (xs ++ x ∷ [])) ≡ cond b (y ∷ every n t (i + 1) xs) (every n t (i + 1) xs) ++ cond (nat_eq ((i + suc (length xs)) % n) t) (x ∷ []) []
-    go true h = ap (λ z. y ∷ z) h
-    go false h = h
-
-pub take_more : {A : Type 0} (xs : List A) (i : ℕ) (x : A) → slice_get xs i ≡ Some x → take (i + 1) xs ≡ take i xs ++ x ∷ []
-take_more [] i x e = absurd (cc)
-take_more (y ∷ xs) zero x e = let q : y ≡ x = cc in ap (λ z. z ∷ []) q
-take_more (y ∷ xs) (suc i) x e = let n : suc i + 1 ≡ suc (i + 1) = omega arith in ap (λ k. take k (y ∷ xs)) n ∙ ap (λ z. y ∷ z) (take_more xs i x e)
-
-pub length_take : {A : Type 0} (xs : List A) (i : ℕ) → i < length xs → length (take i xs) ≡ i
-length_take [] i l = absurd (omega arith)
-length_take (x ∷ xs) zero l = refl
-length_take (x ∷ xs) (suc i) l = ap suc (length_take xs i (omega arith))
-
-pub get_index : {A : Type 0} (xs : List A) (i : ℕ) (x : A) → i < length xs → slice_get xs i ≡ Some (slice_index_or xs i x)
-get_index [] i x l = absurd (omega arith)
-get_index (y ∷ xs) zero x l = refl
-get_index (y ∷ xs) (suc i) x l = get_index xs i x (omega arith)
+use Rattle.workspace.proofs.Fields.{target_of_pointer}
+use Rattle.workspace.proofs.SlotLemmas.{get_map}
 
 pub get_none : {A : Type 0} (xs : List A) (i : ℕ) → length xs ≤ i → slice_get xs i ≡ None
 get_none [] i l = refl
 get_none (y ∷ xs) zero l = absurd (omega arith)
 get_none (y ∷ xs) (suc i) l = get_none xs i (omega arith)
-
-pub get_map : {A B : Type 0} (f : A → B) (xs : List A) (i : ℕ) → slice_get (map f xs) i ≡ option_map f (slice_get xs i)
-get_map f [] i = refl
-get_map f (x ∷ xs) zero = refl
-get_map f (x ∷ xs) (suc i) = get_map f xs i
 
 -- a pointer of the heap, as its words show it
 pub field_shown : (graph : Graph) (name i : ℕ) (raw : Raw) → IsSomeAnd (object_at graph name) (λ o. IsShownAs o raw) → field_at graph name i ≡ option_map target_of_word (slice_get raw.pointers i)
@@ -70,20 +38,3 @@ is_pointer graph name i word closed places e = go (nat_lt 0 word) refl
 
 pub shown_pointer : (word : ℕ) (pointer : Option Place) → pointer_word pointer ≡ word → option_map place_word pointer ≡ target_of_word word
 shown_pointer word pointer e = sym (target_of_pointer pointer) ∙ ap target_of_word e
-
-pub every_next : {S T : Type 0} (f : T → ℕ) (h : S → T) (n t i : ℕ) (slots : List S) (s : S) → slice_get slots i ≡ Some s → i < length slots
-    → every n t 0 (map f (map h (take (i + 1) slots))) ≡ every n t 0 (map f (map h (take i slots))) ++ cond (nat_eq (i % n) t) (f (h s) ∷ []) []
-every_next {S = S} f h n t i slots s e l =
-    ap (λ xs. every n t 0 (map f (map h xs))) (take_more slots i s e)
-    ∙ ap (λ xs. every n t 0 (map f xs)) (map-append h (take i slots) (s ∷ []))
-    ∙ ap (every n t 0) (map-append f (map h (take i slots)) (h s ∷ []))
-    ∙ every_more n t 0 (map f (map h (take i slots))) (f (h s))
-    ∙ ap (λ k. every n t 0 (map f (map h (take i slots))) ++ cond (nat_eq (k % n) t) (f (h s) ∷ []) []) (count (take i slots) (length_take slots i l))
-  where
-    count : (xs : List S) → length xs ≡ i → 0 + length (map f (map h xs)) ≡ i
-    count xs k = let a : length (map f (map h xs)) ≡ length (map h xs) = length-map f (map h xs) in let b : length (map h xs) ≡ length xs = length-map h xs in omega (arith, a, b, k)
-
-pub drops_at : {A B : Type 0} (f : A → B) (xs : List A) (n : ℕ) (x : A) → x ≡ get_or xs n x → n < length xs → drop n (map f xs) ≡ f x ∷ drop (n + 1) (map f xs)
-drops_at f [] n x e l = absurd (omega arith)
-drops_at f (y ∷ xs) zero x e l = ap (λ z. f z ∷ map f xs) (sym e)
-drops_at f (y ∷ xs) (suc n) x e l = let k : suc n + 1 ≡ suc (n + 1) = omega arith in drops_at f xs n x e (omega arith) ∙ ap (λ j. f x ∷ drop j (f y ∷ map f xs)) (sym k)

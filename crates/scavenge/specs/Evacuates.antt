@@ -1,5 +1,5 @@
 -- What a worker does that looks and races at once.
-use Rattle.std.specs.Prelude.{◌≡◌, ◌≢◌, ℕ, ◌+◌, Bool, true, false, List, [], length, nat_lt, Option, Some, None, IsSome, ◌⊎◌}
+use Rattle.std.specs.Prelude.{◌≡◌, ◌≢◌, ℕ, true, List, [], Option, Some, None, IsSome, ◌⊎◌}
 use Rattle.layout.specs.declared.place.Place.{Place}
 use Rattle.block_pool.specs.ClaimsValue.{SeatValue}
 use Rattle.cells.specs.declared.outcome.Outcome.{Outcome}
@@ -7,9 +7,9 @@ use Rattle.heap.specs.HeapValue.{HeapValue}
 use Rattle.heap.specs.CollectionValue.{CollectionValue}
 use Rattle.workers.specs.Block.{Block}
 use Rattle.workers.specs.Setting.{Setting, copy_into, is_large_name}
-use Rattle.workers.specs.Worker.{Worker, Copied, Hand, Nothing, Open, Holding, HoldingLarge, allocation_at}
+use Rattle.workers.specs.Worker.{Worker, Copied, allocation_at}
 use Rattle.workers.specs.WorkerSteps.{current_slot, draws_for}
-use Rattle.scavenge.specs.Shown.{WorkspaceValue}
+use Rattle.workspace.specs.Shown.{WorkspaceValue}
 use Rattle.scavenge.specs.Slots.{seen, objects_of, Proposes, Looks}
 use Rattle.scavenge.specs.Told.{IsNumberOf, Races}
 
@@ -29,13 +29,6 @@ pub record IsUncopied (heap : HeapValue) (c : CollectionValue) (gives : ℕ → 
 -- a slot that is left to a look: one of the start list, or of an object that needs more
 abbrev pub IsLeft : HeapValue → CollectionValue → (ℕ → Option Place → Type 0) → Worker → Type 0
 IsLeft heap c gives w = (w.starts ≢ []) ⊎ IsUncopied heap c gives w
-
--- whether a block is in hand in which another object is unscanned behind the first one
-abbrev pub has_another : Hand → Bool
-has_another Nothing = false
-has_another (Open d) = false
-has_another (Holding block) = nat_lt (block.front + 1) (length block.copies)
-has_another (HoldingLarge name) = false
 
 -- a copy of the object with this name was proposed, at the end of the block that stood there: none was drawn
 pub record ProposesThere (setting : Setting) (name : ℕ) (old new : WorkspaceValue) : Type 0 where

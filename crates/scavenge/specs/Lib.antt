@@ -1,5 +1,5 @@
 -- One worker of a collection, and what all bring back.
-pub mod Shown
+pub use Rattle.workspace.specs.Shown
 pub mod Told
 pub mod Slots
 pub mod Evacuates

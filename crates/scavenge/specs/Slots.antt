@@ -1,16 +1,17 @@
 -- What the slots of a worker hold, and what a look changes.
-use Rattle.std.specs.Prelude.{◌≡◌, ℕ, ◌<◌, Bool, true, [], ◌∷◌, ◌++◌, length, Option, Some, None, slice_get, option_and_then, if◌then◌else◌}
+use Rattle.std.specs.Prelude.{◌≡◌, ℕ, ◌<◌, Bool, true, false, [], ◌∷◌, ◌++◌, length, Option, Some, None, slice_get, if◌then◌else◌}
 use Rattle.std.specs.Option.{option_map}
 use Rattle.layout.specs.declared.place.Place.{Place}
 use Rattle.layout.specs.Place.{place_word}
 use Rattle.block_pool.specs.ClaimsValue.{SeatValue}
 use Rattle.heap.specs.HeapValue.{HeapValue}
 use Rattle.heap.specs.CollectionValue.{CollectionValue}
-use Rattle.workers.specs.Block.{Copy, front_copy}
-use Rattle.workers.specs.Setting.{Setting, setting_of, old_field, is_collected, destination_of, is_large_name}
-use Rattle.workers.specs.Worker.{Worker, Hand, Nothing, Open, Holding, HoldingLarge, allocation_at}
+use Rattle.workers.specs.Block.{Copy}
+use Rattle.workers.specs.Setting.{Setting, setting_of, old_field, is_collected, destination_of, destination_number, is_large_name}
+use Rattle.workers.specs.Worker.{Worker}
 use Rattle.workers.specs.WorkerSteps.{cell_wanted, draw_wanted, draws_for, with_new_block, look_at, after_look}
-use Rattle.scavenge.specs.Shown.{WorkspaceValue}
+use Rattle.to_space.specs.Named.{IsDestination}
+use Rattle.workspace.specs.Shown.{WorkspaceValue, copy_in}
 use Rattle.scavenge.specs.Told.{Tells}
 
 -- what workers see of a heap that is collected; how many they are is of no account to a step
@@ -20,13 +21,6 @@ seen heap c = setting_of heap.graph c.generation heap.config.shape heap.config.b
 -- the same, for what asks for the objects alone
 abbrev pub objects_of : HeapValue → Setting
 objects_of heap = setting_of heap.graph 0 heap.config.shape heap.config.block_words 0
-
--- the copy that is current
-abbrev pub copy_in : Worker → Hand → Option Copy
-copy_in w Nothing = None
-copy_in w (Open d) = option_and_then front_copy (allocation_at w d)
-copy_in w (Holding block) = front_copy block
-copy_in w (HoldingLarge name) = None
 
 -- pointer i of the copy holds what it held in the original
 abbrev pub HoldsOld : Setting → ℕ → Option Copy → Type 0
@@ -40,6 +34,13 @@ IsUntouched setting w = HoldsOld setting w.fields (copy_in w w.hand)
 -- each destination of what is collected has its place
 abbrev pub HasRoomFor : Setting → Worker → Type 0
 HasRoomFor setting w = (name : ℕ) → is_collected setting name ≡ true → destination_of setting name < length w.allocation
+
+-- the small object with this name goes to this destination, which has this number
+pub record GoesTo (heap : HeapValue) (name : ℕ) (to : ℕ × ℕ) (d : ℕ) : Type 0 where
+  pub small : is_large_name (objects_of heap) name ≡ false
+  pub is_destination : IsDestination heap.config.shape to
+  pub number : d ≡ destination_number heap.config.shape to
+  pub of : d ≡ destination_of (objects_of heap) name
 
 -- a block was drawn for the destination
 pub record Renews (d : ℕ) (seat seat' : SeatValue) (old new : WorkspaceValue) : Type 0 where

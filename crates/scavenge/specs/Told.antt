@@ -3,11 +3,9 @@ use Rattle.std.specs.Prelude.{◌≡◌, ℕ, ◌<◌, List, slice_index, Option
 use Rattle.layout.specs.declared.place.Place.{Place}
 use Rattle.layout.specs.Place.{place_word}
 use Rattle.heap.specs.HeapValue.{HeapValue}
-use Rattle.workers.specs.Worker.{Proposal, Copied, Claimed}
-use Rattle.workers.specs.WorkerRun.{proposed_name}
+use Rattle.workers.specs.Worker.{Proposal}
 use Rattle.workers.specs.WorkerSteps.{after_race}
-use Rattle.scavenge.specs.Shown.{WorkspaceValue, lost_to}
-use Rattle.scavenge.specs.declared.proposed.Proposed.{Proposed}
+use Rattle.workspace.specs.Shown.{WorkspaceValue, IsBid, lost_to, name_of}
 use Rattle.heap.specs.CollectionValue.{CollectionValue, young_names}
 use Rattle.cells.specs.declared.outcome.Outcome.{Outcome}
 use Rattle.cells.specs.declared.outcome.Outcome.TheVariants.{Won, Lost}
@@ -33,41 +31,10 @@ pub record Ends (heap : HeapValue) (c : CollectionValue) (gives : ℕ → Place 
   pub learns : Learns old new number (Some (place_after o place))
   pub won : RaceEnds (old number) old_won new_won number place o
 
--- what a worker races with for its proposal: the place of a copy, or for a large object the worker's claim
-abbrev pub IsBid : Place → Option Proposal → Place → Type 0
-IsBid claim None place = ⊥
-IsBid claim (Some (Copied copy d)) place = place_word place ≡ copy.place
-IsBid claim (Some (Claimed name)) place = place ≡ claim
-
 -- the place that a lost race gives the slot
 abbrev pub lost_of : Option Proposal → Outcome → Option ℕ
 lost_of proposal Won = None
 lost_of proposal (Lost first) = Some (lost_to (place_word first) proposal)
-
--- the proposal is this one
-abbrev pub IsFor : Proposal → Place → Place → Option ℕ → Type 0
-IsFor (Copied copy d) name place to = (copy.name ≡ place_word name) × (copy.place ≡ place_word place) × (to ≡ Some d)
-IsFor (Claimed n) name place to = (n ≡ place_word name) × (to ≡ None)
-
-abbrev pub IsProposed : Option Proposal → Proposed → Type 0
-IsProposed None p = ⊥
-IsProposed (Some q) p = IsFor q p.name p.place p.destination
-
-abbrev pub name_of : Option Proposal → ℕ
-name_of None = 0
-name_of (Some p) = proposed_name p
-
--- what is proposed is a copy
-abbrev pub IsCopied : Option Proposal → Type 0
-IsCopied None = ⊥
-IsCopied (Some (Copied copy d)) = Unit {0}
-IsCopied (Some (Claimed name)) = ⊥
-
--- what is proposed is a large object
-abbrev pub IsClaimed : Option Proposal → Type 0
-IsClaimed None = ⊥
-IsClaimed (Some (Copied copy d)) = ⊥
-IsClaimed (Some (Claimed name)) = Unit {0}
 
 -- a worker raced for the object with this number: the cells said how it ended, and the worker went on so
 pub record RacesAt (number : ℕ) (gives : ℕ → Place → Outcome → Type 0) (old_known new_known : ℕ → Option Place) (old_won new_won : List (ℕ × Place)) (old new : WorkspaceValue) : Type 0 where

@@ -1,18 +1,16 @@
-//! One worker of a collection.
+//! What one worker of a collection does.
 #![tactic(auto)]
 
 mod bound;
-mod evacuate;
-mod hand;
-mod look;
-mod opening;
-mod proposed;
+mod evacuating;
+mod looking;
+mod proposing;
 mod racing;
 mod slots;
-mod workspace;
 
 pub use bound::space_bound;
-pub use evacuate::Evacuated;
-pub use look::LookError;
-pub use proposed::Proposed;
+pub use evacuating::{Evacuated, evacuate};
+pub use looking::{LookError, look};
+pub use racing::race;
+pub use slots::has_slot;
 pub use workspace::{Parts, Workspace};

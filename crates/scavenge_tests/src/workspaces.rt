@@ -37,7 +37,7 @@ fn assert_slot(
         return Err(Fail::from("not opened"));
     };
     let workspace = Workspace::new(alloc, heap, &collection, t, 2)?;
-    assert_eq!(rt; workspace.has_slot(heap), has_slot);
+    assert_eq!(rt; scavenge::has_slot(&workspace, heap), has_slot);
     assert_eq!(rt; workspace.is_started(), !has_slot);
     Ok(())
 }

@@ -14,8 +14,8 @@ use Rattle.scavenge.specs.Slots.{seen, Looks, objects_of, cell_of}
 use Rattle.scavenge.specs.Evacuates.{WantsMore, LooksAndRaces}
 use Rattle.scavenge.specs.Evacuates as evacuates
 use Rattle.scavenge.specs.Told.{IsNumberOf}
-use Rattle.scavenge.specs.declared.evacuate.Evacuated.{Evacuated}
-use Rattle.scavenge.specs.declared.evacuate.Evacuated.TheVariants as evacuated
+use Rattle.scavenge.specs.declared.evacuating.Evacuated.{Evacuated}
+use Rattle.scavenge.specs.declared.evacuating.Evacuated.TheVariants as evacuated
 use Rattle.serial.specs.SerialValue.{SerialValue, Goes, Stays, LooksThenRaces, system_of, IsLeft, setting_in}
 use Rattle.serial.specs.IsSerial.{IsSerial}
 use Rattle.serial.proofs.Raced.{turned, race_goes}

@@ -31,9 +31,9 @@ use Rattle.heap.proofs.SoundHeap.{heap_fields}
 use Rattle.workers.proofs.Starts.{opens}
 use Rattle.workers.proofs.SystemFalls.{Sound, run_sound}
 use Rattle.workers.proofs.SystemParts.{find-new}
-use Rattle.scavenge.specs.Shown.{WorkspaceValue, lost_to}
+use Rattle.scavenge.specs.Shown.{WorkspaceValue, lost_to, IsBid, name_of}
 use Rattle.scavenge.specs.Slots.{cell_of}
-use Rattle.scavenge.specs.Told.{Races, IsNumberOf, IsBid, lost_of, name_of}
+use Rattle.scavenge.specs.Told.{Races, IsNumberOf, lost_of}
 use Rattle.serial.specs.SerialValue.{SerialValue, Goes, system_of, setting_in, targets_in, destinations_in}
 use Rattle.serial.specs.IsSerial.{IsSerial, AreForwarded}
 use Rattle.serial.proofs.Keeping.{AreTaken, worked_on}

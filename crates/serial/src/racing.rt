@@ -2,7 +2,7 @@
 ghost use Rattle.std.specs.Prelude.{◌≡◌, ◌↔◌, true, false, None, Ok, Err, IsSome, OnOk, OnErr};
 ghost use Rattle.workers.specs.WorkerSteps.{current_slot};
 ghost use Rattle.workers.specs.System.{Look, Race};
-ghost use Rattle.scavenge.specs.declared.evacuate.Evacuated.TheVariants.{Left, NoSlot, Looked, Raced};
+ghost use Rattle.scavenge.specs.declared.evacuating.Evacuated.TheVariants.{Left, NoSlot, Looked, Raced};
 ghost use Rattle.serial.specs.SerialValue.{Goes, Stays, IsLeft, LooksThenRaces, WantsDraw, setting_in};
 
 use crate::serial::SerialCollection;
@@ -28,7 +28,8 @@ impl<A: Allocator + Clone> SerialCollection<A> {
         ensures full { result ≡ Err LookError.HeapFull → WantsDraw self.old × (self.new.draws.out ≡ true) }
         ensures err { OnErr result (Stays self.old self.new) }
     {
-        self.workspace.look(
+        scavenge::look(
+            &mut self.workspace,
             alloc,
             heap,
             collection,
@@ -47,8 +48,13 @@ impl<A: Allocator + Clone> SerialCollection<A> {
         ensures ok { OnOk result (Goes (Race 0) self.old self.new) }
         ensures err { OnErr result (Stays self.old self.new) }
     {
-        self.workspace
-            .race(heap, collection, &mut self.cells, &mut self.pass)
+        scavenge::race(
+            &mut self.workspace,
+            heap,
+            collection,
+            &mut self.cells,
+            &mut self.pass,
+        )
     }
 
     /// Looks at the current slot, where no block is wanted for it, and races at once for a copy that this proposes. What it
@@ -67,7 +73,12 @@ impl<A: Allocator + Clone> SerialCollection<A> {
         ensures raced_slot { result ≡ Raced → IsSome (current_slot (setting_in self.old) self.old.workspace.worker) }
         ensures raced { result ≡ Raced → LooksThenRaces self.old self.new }
     {
-        self.workspace
-            .evacuate(heap, collection, &mut self.cells, &mut self.pass)
+        scavenge::evacuate(
+            &mut self.workspace,
+            heap,
+            collection,
+            &mut self.cells,
+            &mut self.pass,
+        )
     }
 }

@@ -2,7 +2,7 @@
 ghost use Rattle.std.specs.Prelude.{◌≡◌, ◌≢◌, [], true, false, Ok, IfOk, OnOk, OnErr};
 ghost use Rattle.workers.specs.WorkerSteps.{CanScan, IsFree, has_open_work};
 ghost use Rattle.workers.specs.System.{Own, OwnLarge, Scan};
-ghost use Rattle.scavenge.specs.Evacuates.{has_another};
+ghost use Rattle.scavenge.specs.Shown.{has_another};
 ghost use Rattle.serial.specs.SerialValue.{Goes, setting_in};
 
 use crate::serial::SerialCollection;

@@ -20,7 +20,7 @@ use Rattle.workers.specs.Finish.{Stepped, IsReached}
 use Rattle.workers.proofs.OneMore.{stepped_more, stepped_run}
 use Rattle.workers.proofs.Reached.{reached_falls, young_covers}
 use Rattle.scavenge.specs.Evacuates.{WantsMore}
-use Rattle.scavenge.specs.Evacuates.{has_another}
+use Rattle.scavenge.specs.Shown.{has_another}
 use Rattle.serial.specs.SerialValue.{SerialValue, Goes, Stays, IsLeft, LooksThenRaces, WantsDraw, system_of, setting_in, targets_in, destinations_in}
 use Rattle.serial.specs.IsSerial.{IsReadyToCollect}
 use Rattle.serial.proofs.Readiness.{room_of}

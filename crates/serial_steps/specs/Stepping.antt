@@ -8,7 +8,7 @@ use Rattle.workers.specs.System.{Event, opening}
 use Rattle.workers.specs.Lawful.{next_alone}
 use Rattle.workers.specs.Finish.{Stepped}
 use Rattle.workers.specs.Measure.{measure, young_names_of}
-use Rattle.scavenge.specs.Evacuates.{has_another}
+use Rattle.scavenge.specs.Shown.{has_another}
 use Rattle.serial.specs.SerialValue.{SerialValue, Goes, IsLeft, WantsDraw, lane_of, waiting_in, setting_in, system_of, targets_in, destinations_in}
 
 -- the collection is one of this heap

@@ -68,7 +68,7 @@ invariant_of-self g c =
     let there : c.look.result ≡ Ok false → ⊥ = has_slot (seen c.args.heap.now c.args.collection.now) _ c.look.result (can_of v c.self.invariant c.args.t _ i.there c.args.heap.now c.args.collection.now (c.requires.heap ∙ ap (λ (x : InterleavedValue). x.heap) (sym c.self.view_is)) (c.requires.collection ∙ ap (λ (x : InterleavedValue). x.collection) (sym c.self.view_is)) i.can) c.look.ensures.none.0 in
     look_keeps v c.self.invariant c.args.t _ (behind c.self.inside.members.items c.args.t c.behind-self.view_is c.index_mut.ensures.value) (lawful_as (Look c.args.t) c.self.view_is c.requires.lawful)
     c.args.heap.now c.args.collection.now (c.requires.heap ∙ ap (λ (x : InterleavedValue). x.heap) (sym c.self.view_is)) (c.requires.collection ∙ ap (λ (x : InterleavedValue). x.collection) (sym c.self.view_is))
-    c.look.new.pass c.look.new.cells c.look.ensures.cells c.look.new.seat c.look.new.self c.look.ensures.pass c.look.ensures.won c.look.ensures.seat c.look.ensures.fresh c.look.result there c.look.ensures.ok c.look.ensures.full c.look.ensures.memory c.look.ensures.err
+    c.look.new.pass c.look.new.cells c.look.ensures.cells c.look.new.seat c.look.new.workspace c.look.ensures.pass c.look.ensures.won c.look.ensures.seat c.look.ensures.fresh c.look.result there c.look.ensures.ok c.look.ensures.full c.look.ensures.memory c.look.ensures.err
 
 pub invariant_of-self-2 : goal.invariant_of-self-2
 invariant_of-self-2 g c =
@@ -77,7 +77,7 @@ invariant_of-self-2 g c =
     let there : c.look.result ≡ Ok false → ⊥ = has_slot (seen c.args.heap.now c.args.collection.now) _ c.look.result (can_of v c.self.invariant c.args.t _ i.there c.args.heap.now c.args.collection.now (c.requires.heap ∙ ap (λ (x : InterleavedValue). x.heap) (sym c.self.view_is)) (c.requires.collection ∙ ap (λ (x : InterleavedValue). x.collection) (sym c.self.view_is)) i.can) c.look.ensures.none.0 in
     look_keeps v c.self.invariant c.args.t _ (behind c.self.inside.members.items c.args.t c.behind-self.view_is c.index_mut.ensures.value) (lawful_as (Look c.args.t) c.self.view_is c.requires.lawful)
     c.args.heap.now c.args.collection.now (c.requires.heap ∙ ap (λ (x : InterleavedValue). x.heap) (sym c.self.view_is)) (c.requires.collection ∙ ap (λ (x : InterleavedValue). x.collection) (sym c.self.view_is))
-    c.look.new.pass c.look.new.cells c.look.ensures.cells c.look.new.seat c.look.new.self c.look.ensures.pass c.look.ensures.won c.look.ensures.seat c.look.ensures.fresh c.look.result there c.look.ensures.ok c.look.ensures.full c.look.ensures.memory c.look.ensures.err
+    c.look.new.pass c.look.new.cells c.look.ensures.cells c.look.new.seat c.look.new.workspace c.look.ensures.pass c.look.ensures.won c.look.ensures.seat c.look.ensures.fresh c.look.result there c.look.ensures.ok c.look.ensures.full c.look.ensures.memory c.look.ensures.err
 
 pub returns-clause-ok : goal.returns-clause-ok
 returns-clause-ok g c =
@@ -86,7 +86,7 @@ returns-clause-ok g c =
     let there : c.look.result ≡ Ok false → ⊥ = has_slot (seen c.args.heap.now c.args.collection.now) _ c.look.result (can_of v c.self.invariant c.args.t _ i.there c.args.heap.now c.args.collection.now (c.requires.heap ∙ ap (λ (x : InterleavedValue). x.heap) (sym c.self.view_is)) (c.requires.collection ∙ ap (λ (x : InterleavedValue). x.collection) (sym c.self.view_is)) i.can) c.look.ensures.none.0 in
     goes_as c.self.view_is (look_does v c.self.invariant c.args.t _ (behind c.self.inside.members.items c.args.t c.behind-self.view_is c.index_mut.ensures.value) (lawful_as (Look c.args.t) c.self.view_is c.requires.lawful)
     c.args.heap.now c.args.collection.now (c.requires.heap ∙ ap (λ (x : InterleavedValue). x.heap) (sym c.self.view_is)) (c.requires.collection ∙ ap (λ (x : InterleavedValue). x.collection) (sym c.self.view_is))
-    c.look.new.pass c.look.new.cells c.look.ensures.cells c.look.new.seat c.look.new.self c.look.ensures.pass c.look.ensures.won c.look.ensures.seat c.look.ensures.fresh (c.look.ensures.ok (is_there c.look.result _ c.in_default.is there))).1
+    c.look.new.pass c.look.new.cells c.look.ensures.cells c.look.new.seat c.look.new.workspace c.look.ensures.pass c.look.ensures.won c.look.ensures.seat c.look.ensures.fresh (c.look.ensures.ok (is_there c.look.result _ c.in_default.is there))).1
 
 pub returns-in-Err-clause-full : goal.returns-in-Err-clause-full
 returns-in-Err-clause-full g c =

@@ -2,7 +2,7 @@ use Rattle.std.proofs.Common.{sym, ap, subst, ◌∙◌}
 use Rattle.heap_data.specs.HeapValue.{HeapValue}
 use Rattle.heap_data.specs.CollectionValue.{CollectionValue}
 use Rattle.model.specs.Live.{IsYoung}
-use Rattle.scavenge.specs.Told.{name_of}
+use Rattle.scavenge.specs.Shown.{name_of}
 use Rattle.workers.specs.System.{Race}
 use Rattle.interleaved.specs.InterleavedValue.{InterleavedValue}
 use Rattle.interleaved.proofs.Members.{lawful_as, goes_as, behind, is_in, on_ok}
@@ -37,7 +37,7 @@ invariant_of-self g c =
     let v : InterleavedValue = record { heap = c.self.inside.heap.value; collection = c.self.inside.collection.value; cells = c.self.inside.cells; pass = c.self.inside.pass; claims = c.self.inside.claims; draws = c.self.inside.draws; queues = c.self.inside.queues; workers = c.self.inside.workers; idlers = c.self.inside.idlers; members = c.self.inside.members.items } in
     race_keeps v c.self.invariant c.args.t _ (behind c.self.inside.members.items c.args.t c.behind-self.view_is c.index_mut.ensures.value) (lawful_as (Race c.args.t) c.self.view_is c.requires.lawful)
     c.args.heap.now c.args.collection.now (c.requires.heap ∙ ap (λ (x : InterleavedValue). x.heap) (sym c.self.view_is)) (c.requires.collection ∙ ap (λ (x : InterleavedValue). x.collection) (sym c.self.view_is))
-    c.race.new.cells c.race.new.pass c.race.new.self c.race.ensures.pass c.race.ensures.limit c.race.result c.race.ensures.ok c.race.ensures.err
+    c.race.new.cells c.race.new.pass c.race.new.workspace c.race.ensures.pass c.race.ensures.limit c.race.result c.race.ensures.ok c.race.ensures.err
 
 pub returns-clause-ok : goal.returns-clause-ok
 returns-clause-ok g c =
@@ -45,5 +45,5 @@ returns-clause-ok g c =
     on_ok c.race.result
     (λ r. goes_as c.self.view_is (race_does v c.self.invariant c.args.t _ (behind c.self.inside.members.items c.args.t c.behind-self.view_is c.index_mut.ensures.value) (lawful_as (Race c.args.t) c.self.view_is c.requires.lawful)
     c.args.heap.now c.args.collection.now (c.requires.heap ∙ ap (λ (x : InterleavedValue). x.heap) (sym c.self.view_is)) (c.requires.collection ∙ ap (λ (x : InterleavedValue). x.collection) (sym c.self.view_is))
-    c.race.new.cells c.race.new.pass c.race.new.self c.race.ensures.pass c.race.ensures.limit r).1)
+    c.race.new.cells c.race.new.pass c.race.new.workspace c.race.ensures.pass c.race.ensures.limit r).1)
     c.race.ensures.ok

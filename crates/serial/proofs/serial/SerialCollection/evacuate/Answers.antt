@@ -8,8 +8,8 @@ use Rattle.serial.proofs.Looked.{closed_of, places_of, untouched_of, can_look, s
 use Rattle.serial.proofs.Evacuation.{goes_once, goes_twice, stays, left_why, evacuated_keeps}
 use Rattle.serial.proofs.Readiness.{ready_of}
 use Rattle.scavenge.specs.Shown.{WorkspaceValue}
-use Rattle.scavenge.specs.declared.evacuate.Evacuated.{Evacuated}
-use Rattle.scavenge.specs.declared.evacuate.Evacuated.TheVariants.{Looked, Raced}
+use Rattle.scavenge.specs.declared.evacuating.Evacuated.{Evacuated}
+use Rattle.scavenge.specs.declared.evacuating.Evacuated.TheVariants.{Looked, Raced}
 use Rattle.serial.proofs.serial.SerialCollection.evacuate.Goals as goal
 
 two_ways : {r : Evacuated} → r ≡ Looked → r ≡ Raced → ⊥
@@ -45,7 +45,7 @@ invariant_of-self g c =
     let heap = c.requires.heap ∙ ap (λ (v : SerialValue). v.heap) (sym c.self.view_is) in
     let collection = c.requires.collection ∙ ap (λ (v : SerialValue). v.collection) (sym c.self.view_is) in
     let none = subst (λ (v : SerialValue). v.workspace.worker.proposal ≡ None) (sym c.self.view_is) c.requires.proposal in
-    evacuated_keeps _ c.self.invariant c.args.heap.now c.args.collection.now heap collection none c.evacuate.new.cells c.evacuate.new.pass c.evacuate.new.self c.evacuate.ensures.pass c.evacuate.ensures.limit
+    evacuated_keeps _ c.self.invariant c.args.heap.now c.args.collection.now heap collection none c.evacuate.new.cells c.evacuate.new.pass c.evacuate.new.workspace c.evacuate.ensures.pass c.evacuate.ensures.limit
     c.evacuate.result c.evacuate.ensures.left c.evacuate.ensures.none c.evacuate.ensures.cells c.evacuate.ensures.looked_slot c.evacuate.ensures.raced_slot c.evacuate.ensures.looked c.evacuate.ensures.raced
 
 pub returns-clause-left : goal.returns-clause-left
@@ -53,8 +53,8 @@ returns-clause-left g c = λ is.
     let heap = c.requires.heap ∙ ap (λ (v : SerialValue). v.heap) (sym c.self.view_is) in
     let collection = c.requires.collection ∙ ap (λ (v : SerialValue). v.collection) (sym c.self.view_is) in
     let none = subst (λ (v : SerialValue). v.workspace.worker.proposal ≡ None) (sym c.self.view_is) c.requires.proposal in
-    subst (λ (v : SerialValue). Stays v (record { heap = c.self.inside.heap.value; collection = c.self.inside.collection.value; cells = c.evacuate.new.cells; pass = c.evacuate.new.pass; claims = c.self.inside.claims; draws = c.self.inside.draws; queues = c.self.inside.queues; seat = c.self.inside.seat; workspace = c.evacuate.new.self })) c.self.view_is
-    (stays _ c.self.invariant c.args.heap.now c.args.collection.now heap collection none c.evacuate.new.cells c.evacuate.new.pass c.evacuate.new.self c.evacuate.ensures.pass c.evacuate.ensures.limit (c.evacuate.ensures.left is))
+    subst (λ (v : SerialValue). Stays v (record { heap = c.self.inside.heap.value; collection = c.self.inside.collection.value; cells = c.evacuate.new.cells; pass = c.evacuate.new.pass; claims = c.self.inside.claims; draws = c.self.inside.draws; queues = c.self.inside.queues; seat = c.self.inside.seat; workspace = c.evacuate.new.workspace })) c.self.view_is
+    (stays _ c.self.invariant c.args.heap.now c.args.collection.now heap collection none c.evacuate.new.cells c.evacuate.new.pass c.evacuate.new.workspace c.evacuate.ensures.pass c.evacuate.ensures.limit (c.evacuate.ensures.left is))
 
 pub returns-clause-left_why : goal.returns-clause-left_why
 returns-clause-left_why g c = λ is.
@@ -62,31 +62,31 @@ returns-clause-left_why g c = λ is.
     let collection = c.requires.collection ∙ ap (λ (v : SerialValue). v.collection) (sym c.self.view_is) in
     let none = subst (λ (v : SerialValue). v.workspace.worker.proposal ≡ None) (sym c.self.view_is) c.requires.proposal in
     subst IsLeft c.self.view_is
-    (left_why _ c.self.invariant c.args.heap.now c.args.collection.now heap collection none c.evacuate.new.cells c.evacuate.new.pass c.evacuate.new.self c.evacuate.ensures.pass c.evacuate.ensures.limit (c.evacuate.ensures.left_why is))
+    (left_why _ c.self.invariant c.args.heap.now c.args.collection.now heap collection none c.evacuate.new.cells c.evacuate.new.pass c.evacuate.new.workspace c.evacuate.ensures.pass c.evacuate.ensures.limit (c.evacuate.ensures.left_why is))
 
 pub returns-clause-none : goal.returns-clause-none
 returns-clause-none g c = λ is.
     let heap = c.requires.heap ∙ ap (λ (v : SerialValue). v.heap) (sym c.self.view_is) in
     let collection = c.requires.collection ∙ ap (λ (v : SerialValue). v.collection) (sym c.self.view_is) in
     let none = subst (λ (v : SerialValue). v.workspace.worker.proposal ≡ None) (sym c.self.view_is) c.requires.proposal in
-    subst (λ (v : SerialValue). Stays v (record { heap = c.self.inside.heap.value; collection = c.self.inside.collection.value; cells = c.evacuate.new.cells; pass = c.evacuate.new.pass; claims = c.self.inside.claims; draws = c.self.inside.draws; queues = c.self.inside.queues; seat = c.self.inside.seat; workspace = c.evacuate.new.self })) c.self.view_is
-    (stays _ c.self.invariant c.args.heap.now c.args.collection.now heap collection none c.evacuate.new.cells c.evacuate.new.pass c.evacuate.new.self c.evacuate.ensures.pass c.evacuate.ensures.limit (c.evacuate.ensures.none is))
+    subst (λ (v : SerialValue). Stays v (record { heap = c.self.inside.heap.value; collection = c.self.inside.collection.value; cells = c.evacuate.new.cells; pass = c.evacuate.new.pass; claims = c.self.inside.claims; draws = c.self.inside.draws; queues = c.self.inside.queues; seat = c.self.inside.seat; workspace = c.evacuate.new.workspace })) c.self.view_is
+    (stays _ c.self.invariant c.args.heap.now c.args.collection.now heap collection none c.evacuate.new.cells c.evacuate.new.pass c.evacuate.new.workspace c.evacuate.ensures.pass c.evacuate.ensures.limit (c.evacuate.ensures.none is))
 
 pub returns-clause-looked : goal.returns-clause-looked
 returns-clause-looked g c = λ is.
     let heap = c.requires.heap ∙ ap (λ (v : SerialValue). v.heap) (sym c.self.view_is) in
     let collection = c.requires.collection ∙ ap (λ (v : SerialValue). v.collection) (sym c.self.view_is) in
     let none = subst (λ (v : SerialValue). v.workspace.worker.proposal ≡ None) (sym c.self.view_is) c.requires.proposal in
-    subst (λ (v : SerialValue). Goes (Look 0) v (record { heap = c.self.inside.heap.value; collection = c.self.inside.collection.value; cells = c.evacuate.new.cells; pass = c.evacuate.new.pass; claims = c.self.inside.claims; draws = c.self.inside.draws; queues = c.self.inside.queues; seat = c.self.inside.seat; workspace = c.evacuate.new.self })) c.self.view_is
-    ((goes_once _ c.self.invariant c.args.heap.now c.args.collection.now heap collection none c.evacuate.new.cells c.evacuate.new.pass c.evacuate.new.self c.evacuate.ensures.pass c.evacuate.ensures.limit (c.evacuate.ensures.cells (λ e. two_ways is e)) (c.evacuate.ensures.looked_slot is) (c.evacuate.ensures.looked is)).1)
+    subst (λ (v : SerialValue). Goes (Look 0) v (record { heap = c.self.inside.heap.value; collection = c.self.inside.collection.value; cells = c.evacuate.new.cells; pass = c.evacuate.new.pass; claims = c.self.inside.claims; draws = c.self.inside.draws; queues = c.self.inside.queues; seat = c.self.inside.seat; workspace = c.evacuate.new.workspace })) c.self.view_is
+    ((goes_once _ c.self.invariant c.args.heap.now c.args.collection.now heap collection none c.evacuate.new.cells c.evacuate.new.pass c.evacuate.new.workspace c.evacuate.ensures.pass c.evacuate.ensures.limit (c.evacuate.ensures.cells (λ e. two_ways is e)) (c.evacuate.ensures.looked_slot is) (c.evacuate.ensures.looked is)).1)
 
 pub returns-clause-raced : goal.returns-clause-raced
 returns-clause-raced g c = λ is.
     let heap = c.requires.heap ∙ ap (λ (v : SerialValue). v.heap) (sym c.self.view_is) in
     let collection = c.requires.collection ∙ ap (λ (v : SerialValue). v.collection) (sym c.self.view_is) in
     let none = subst (λ (v : SerialValue). v.workspace.worker.proposal ≡ None) (sym c.self.view_is) c.requires.proposal in
-    subst (λ (v : SerialValue). LooksThenRaces v (record { heap = c.self.inside.heap.value; collection = c.self.inside.collection.value; cells = c.evacuate.new.cells; pass = c.evacuate.new.pass; claims = c.self.inside.claims; draws = c.self.inside.draws; queues = c.self.inside.queues; seat = c.self.inside.seat; workspace = c.evacuate.new.self })) c.self.view_is
-    ((goes_twice _ c.self.invariant c.args.heap.now c.args.collection.now heap collection none c.evacuate.new.cells c.evacuate.new.pass c.evacuate.new.self c.evacuate.ensures.pass c.evacuate.ensures.limit (c.evacuate.ensures.raced_slot is) (c.evacuate.ensures.raced is)).1)
+    subst (λ (v : SerialValue). LooksThenRaces v (record { heap = c.self.inside.heap.value; collection = c.self.inside.collection.value; cells = c.evacuate.new.cells; pass = c.evacuate.new.pass; claims = c.self.inside.claims; draws = c.self.inside.draws; queues = c.self.inside.queues; seat = c.self.inside.seat; workspace = c.evacuate.new.workspace })) c.self.view_is
+    ((goes_twice _ c.self.invariant c.args.heap.now c.args.collection.now heap collection none c.evacuate.new.cells c.evacuate.new.pass c.evacuate.new.workspace c.evacuate.ensures.pass c.evacuate.ensures.limit (c.evacuate.ensures.raced_slot is) (c.evacuate.ensures.raced is)).1)
 
 pub returns-clause-looked_slot : goal.returns-clause-looked_slot
 returns-clause-looked_slot g c = λ is.

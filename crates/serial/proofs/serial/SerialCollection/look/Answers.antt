@@ -47,7 +47,7 @@ invariant_of-self g c =
     let heap = c.requires.heap ∙ ap (λ (v : SerialValue). v.heap) (sym c.self.view_is) in
     let collection = c.requires.collection ∙ ap (λ (v : SerialValue). v.collection) (sym c.self.view_is) in
     look_keeps _ c.self.invariant c.args.heap.now c.args.collection.now heap collection
-    c.look.new.pass c.look.new.cells c.look.ensures.cells c.look.new.seat c.look.new.self c.look.ensures.pass c.look.ensures.seat c.look.ensures.fresh c.look.result
+    c.look.new.pass c.look.new.cells c.look.ensures.cells c.look.new.seat c.look.new.workspace c.look.ensures.pass c.look.ensures.seat c.look.ensures.fresh c.look.result
     (λ is. can_look _ c.self.invariant c.args.heap.now c.args.collection.now heap collection c.look.new.pass (subst (λ (v : SerialValue). v.workspace.worker.proposal ≡ None) (sym c.self.view_is) c.requires.proposal)
     (some_slot _ c.self.invariant c.args.heap.now c.args.collection.now heap collection c.look.new.pass c.look.result is c.look.ensures.none.1))
     c.look.ensures.ok (λ is. (c.look.ensures.nothing is).0) c.look.ensures.err
@@ -63,10 +63,10 @@ returns-clause-ok g c = λ is.
     let heap = c.requires.heap ∙ ap (λ (v : SerialValue). v.heap) (sym c.self.view_is) in
     let collection = c.requires.collection ∙ ap (λ (v : SerialValue). v.collection) (sym c.self.view_is) in
     subst
-    (λ (v : SerialValue). Goes (Look 0) v (record { heap = c.self.inside.heap.value; collection = c.self.inside.collection.value; cells = c.look.new.cells; pass = c.look.new.pass; claims = c.self.inside.claims; draws = c.look.new.seat; queues = c.self.inside.queues; seat = c.self.inside.seat; workspace = c.look.new.self }))
+    (λ (v : SerialValue). Goes (Look 0) v (record { heap = c.self.inside.heap.value; collection = c.self.inside.collection.value; cells = c.look.new.cells; pass = c.look.new.pass; claims = c.self.inside.claims; draws = c.look.new.seat; queues = c.self.inside.queues; seat = c.self.inside.seat; workspace = c.look.new.workspace }))
     c.self.view_is
     (look_goes _ c.self.invariant c.args.heap.now c.args.collection.now heap collection
-    c.look.new.pass c.look.new.cells c.look.ensures.cells c.look.new.seat c.look.new.self c.look.ensures.pass c.look.ensures.seat
+    c.look.new.pass c.look.new.cells c.look.ensures.cells c.look.new.seat c.look.new.workspace c.look.ensures.pass c.look.ensures.seat
     (can_look _ c.self.invariant c.args.heap.now c.args.collection.now heap collection c.look.new.pass (subst (λ (v : SerialValue). v.workspace.worker.proposal ≡ None) (sym c.self.view_is) c.requires.proposal)
     (some_slot _ c.self.invariant c.args.heap.now c.args.collection.now heap collection c.look.new.pass c.look.result is c.look.ensures.none.1))
     c.look.ensures.fresh (c.look.ensures.ok is)).1

@@ -3,7 +3,7 @@ use Rattle.std.specs.Prelude.{IsSome}
 use Rattle.heap_data.specs.HeapValue.{HeapValue}
 use Rattle.heap_data.specs.CollectionValue.{CollectionValue}
 use Rattle.model.specs.Live.{IsYoung}
-use Rattle.scavenge.specs.Told.{name_of}
+use Rattle.scavenge.specs.Shown.{name_of}
 use Rattle.workers.specs.System.{Race}
 use Rattle.serial.specs.SerialValue.{SerialValue, Goes}
 use Rattle.serial.proofs.Raced.{few_of, young_of, race_goes, race_keeps, on_ok}
@@ -28,13 +28,13 @@ pub invariant_of-self : goal.invariant_of-self
 invariant_of-self g c =
     race_keeps _ c.self.invariant (subst (λ (v : SerialValue). IsSome v.workspace.worker.proposal) (sym c.self.view_is) c.requires.proposal) c.args.heap.now c.args.collection.now
     (c.requires.heap ∙ ap (λ (v : SerialValue). v.heap) (sym c.self.view_is)) (c.requires.collection ∙ ap (λ (v : SerialValue). v.collection) (sym c.self.view_is))
-    c.race.new.cells c.race.new.pass c.race.new.self c.race.ensures.pass c.race.ensures.limit c.race.result c.race.ensures.ok c.race.ensures.err
+    c.race.new.cells c.race.new.pass c.race.new.workspace c.race.ensures.pass c.race.ensures.limit c.race.result c.race.ensures.ok c.race.ensures.err
 
 pub returns-clause-ok : goal.returns-clause-ok
 returns-clause-ok g c =
     on_ok c.race.result
-    (λ r. subst (λ (v : SerialValue). Goes (Race 0) v (record { heap = c.self.inside.heap.value; collection = c.self.inside.collection.value; cells = c.race.new.cells; pass = c.race.new.pass; claims = c.self.inside.claims; draws = c.self.inside.draws; queues = c.self.inside.queues; seat = c.self.inside.seat; workspace = c.race.new.self })) c.self.view_is
+    (λ r. subst (λ (v : SerialValue). Goes (Race 0) v (record { heap = c.self.inside.heap.value; collection = c.self.inside.collection.value; cells = c.race.new.cells; pass = c.race.new.pass; claims = c.self.inside.claims; draws = c.self.inside.draws; queues = c.self.inside.queues; seat = c.self.inside.seat; workspace = c.race.new.workspace })) c.self.view_is
     (race_goes _ c.self.invariant (subst (λ (v : SerialValue). IsSome v.workspace.worker.proposal) (sym c.self.view_is) c.requires.proposal) c.args.heap.now c.args.collection.now
     (c.requires.heap ∙ ap (λ (v : SerialValue). v.heap) (sym c.self.view_is)) (c.requires.collection ∙ ap (λ (v : SerialValue). v.collection) (sym c.self.view_is))
-    c.race.new.cells c.race.new.pass c.race.new.self c.race.ensures.pass c.race.ensures.limit r).1)
+    c.race.new.cells c.race.new.pass c.race.new.workspace c.race.ensures.pass c.race.ensures.limit r).1)
     c.race.ensures.ok

@@ -1,0 +1,100 @@
+//! The current slot's object is evacuated: looked at, and copied and raced for at once.
+ghost use Rattle.std.specs.Prelude.{◌≡◌, ◌<◌, ◌≤◌, ◌≢◌, None, IsSome};
+ghost use Rattle.model.specs.Graph.{IsClosed};
+ghost use Rattle.block_pool.specs.ClaimsValue.{SeatValue};
+ghost use Rattle.heap.specs.CollectionValue.{IsOpened};
+ghost use Rattle.heap.specs.NamesArePlaces.{NamesArePlaces};
+ghost use Rattle.workers.specs.WorkerSteps.{current_slot};
+ghost use Rattle.workspace.specs.Shown.{CanFinish};
+ghost use Rattle.scavenge.specs.Slots.{seen, IsUntouched, Looks};
+ghost use Rattle.scavenge.specs.Evacuates.{IsLeft, LooksAndRaces};
+ghost use Rattle.scavenge.specs.declared.evacuating.Evacuated.TheVariants.{Left, NoSlot, Looked, Raced};
+
+use crate::looking::standing;
+use crate::proposing::propose_there;
+use crate::racing::race_for;
+use crate::slots::slot;
+use cells::Cells;
+use heap::{Collection, Heap};
+use std::alloc::Allocator;
+use workspace::Workspace;
+
+/// What `evacuate` came to.
+#[derive(Clone, Copy, Debug, PartialEq, Eq)]
+pub enum Evacuated {
+    /// Nothing was done: the slot wants a look.
+    Left,
+    /// There is no slot.
+    NoSlot,
+    /// The slot was looked at. It is finished, or its object is proposed.
+    Looked,
+    /// The slot was looked at, its object copied, the race for it run, and the slot finished.
+    Raced,
+}
+
+/// Looks at the current slot of what is in hand, where no block is wanted for it: what `look` does, and where a small object
+/// has no copy yet, the race for its copy at once. It leaves to `look` the start list, large objects, and copies that don't
+/// fit where the last ones stand.
+#[inline(always)]
+pub fn evacuate<A: Allocator + Clone, C: Cells>(
+    workspace: &mut Workspace<A>,
+    heap: &Heap<A>,
+    collection: &Collection<A>,
+    cells: &mut C,
+    pass: &mut C::Pass,
+) -> Evacuated
+    requires opened { IsOpened heap.now collection.now.generation collection.now }
+    requires closed { IsClosed heap.now.graph }
+    requires places { NamesArePlaces heap.now.graph }
+    requires config { workspace.old.config ≡ heap.now.config }
+    requires proposal { workspace.old.worker.proposal ≡ None }
+    requires slot { IsSome (current_slot (seen heap.now collection.now) workspace.old.worker) → CanFinish workspace.old.worker workspace.old.worker.starts }
+    requires few { workspace.old.worker.fields < 4294967296 }
+    requires untouched { IsUntouched (seen heap.now collection.now) workspace.old.worker }
+    requires pass { C.fits cells.old pass.old }
+    requires limit { collection.now.cells ≤ C.limit cells.old }
+    ensures pass { C.fits cells.new pass.new }
+    ensures others { (other : C.Pass) → C.apart pass.old other → C.fits cells.old other → C.fits cells.new other }
+    ensures home { (other : C) → C.at_home other pass.old → C.at_home other pass.new }
+    ensures apart { (other : C.Pass) → C.apart pass.old other → C.apart pass.new other }
+    ensures apart_back { (other : C.Pass) → C.apart other pass.old → C.apart other pass.new }
+    ensures limit { C.limit cells.new ≡ C.limit cells.old }
+    ensures cells { result ≢ Raced → cells.new ≡ cells.old }
+    ensures won { result ≢ Raced → C.won pass.new ≡ C.won pass.old }
+    ensures left { result ≡ Left → workspace.new ≡ workspace.old }
+    ensures left_why { result ≡ Left → IsLeft heap.now collection.now (C.look_gives cells.old) workspace.old.worker }
+    ensures none { result ≡ NoSlot → workspace.new ≡ workspace.old }
+    ensures no_slot { result ≡ NoSlot → current_slot (seen heap.now collection.now) workspace.old.worker ≡ None }
+    ensures looked_slot { result ≡ Looked → IsSome (current_slot (seen heap.now collection.now) workspace.old.worker) }
+    ensures raced_slot { result ≡ Raced → IsSome (current_slot (seen heap.now collection.now) workspace.old.worker) }
+    ensures looked { result ≡ Looked → (seat : SeatValue) → Looks heap.now collection.now (C.look_gives cells.old) (C.known pass.old) (C.known pass.new) seat seat workspace.old workspace.new }
+    ensures raced { result ≡ Raced → LooksAndRaces heap.now collection.now (C.fits cells.old) C.known C.won (C.look_gives cells.old) (λ number at outcome. C.race_gives cells.old number at outcome cells.new) pass.old pass.new workspace.old workspace.new }
+{
+    if !workspace.is_started() {
+        return Evacuated::Left;
+    }
+    let Some(target) = slot(workspace, heap) else {
+        return Evacuated::NoSlot;
+    };
+    let Some(name) = target else {
+        workspace.finish(None);
+        return Evacuated::Looked;
+    };
+    let found = heap.find_there(collection, name);
+    let Some(number) = found.number else {
+        workspace.finish(Some(name));
+        return Evacuated::Looked;
+    };
+    if let Some(shown) = cells.look(pass, number) {
+        let place = standing(heap, name, found.object, shown);
+        workspace.finish(Some(place));
+        return Evacuated::Looked;
+    }
+    if !propose_there(workspace, heap, name, found) {
+        return Evacuated::Left;
+    }
+    match race_for(workspace, cells, pass, number) {
+        Ok(()) => Evacuated::Raced,
+        Err(_) => Evacuated::Looked,
+    }
+}

@@ -1,0 +1,2 @@
+-- One worker of a collection, as contracts see it.
+pub mod Shown

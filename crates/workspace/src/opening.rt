@@ -1,0 +1,45 @@
+//! What a worker begins with.
+ghost use Rattle.std.specs.Prelude.{◌≡◌, ◌<◌, IfOk, map};
+ghost use Rattle.layout.specs.Place.{place_word};
+ghost use Rattle.heap.specs.SlotView.{slot_value};
+ghost use Rattle.heap.specs.CollectionValue.{target_of_slot};
+ghost use Rattle.workers.specs.System.{every};
+ghost use Rattle.model.specs.Destination.{dest_count};
+
+use heap::Slot;
+use layout::Place;
+use std::alloc::{AllocError, Allocator};
+use steps::Config;
+
+/// What every n-th slot leads to, from slot `t` on.
+pub(crate) fn every_target<A: Allocator>(
+    alloc: A,
+    slots: &[Slot],
+    t: u32,
+    n: u32,
+) -> Result<Vec<Place, A>, AllocError>
+    requires { t < n }
+    ensures { IfOk result (λ targets. map place_word targets.items ≡ every n t 0 (map target_of_slot (map slot_value slots.now))) }
+{
+    let mut targets = Vec::new(alloc);
+    for i in 0..slots.len() {
+        if i % n as usize != t as usize {
+            continue;
+        }
+        targets.push(slots[i].target())?;
+    }
+    Ok(targets)
+}
+
+/// How many destinations a collection of the generations 0 to `g` has.
+pub(crate) fn destination_count(config: Config, g: u8) -> usize
+    ensures { result ≡ dest_count config.shape g }
+{
+    let oldest = config.generations() - 1;
+    let steps = config.steps();
+    let g = g as usize;
+    if g < oldest {
+        return (g + 1) * steps;
+    }
+    (oldest * steps).max(1)
+}
