@@ -9,5 +9,6 @@ mod large_object_tests;
 mod layout_tests;
 #[cfg(test)]
 mod number_set_tests;
+mod reference_tests;
 #[cfg(test)]
 mod remembered_tests;

@@ -1,4 +1,4 @@
-use number_sets::{NumberSet, RankedSet};
+use block_pool::{NumberSet, RankedSet};
 use std::alloc::{AllocError, Global};
 use std::test::Fail;
 

@@ -1,5 +1,5 @@
+use block_pool::Flags;
 use layout::Place;
-use number_sets::Flags;
 use remembered_set::Remembered;
 use std::alloc::{AllocError, Global};
 use std::test::Fail;

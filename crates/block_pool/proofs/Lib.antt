@@ -1,4 +1,16 @@
 -- Laws of objects in words, and of the numbers of a pool.
+
+-- Membership, and laws of flags, of bits, of words of flags, of ranks, of groups of words, and of the first flags.
+pub mod Containing
+pub mod FlagLemmas
+pub mod Bits
+pub mod NumberSetsWordLemmas
+pub mod Ranks
+pub mod FirstFlags
+pub mod Groups
+-- Each draw keeps the rule, and what gathered seats have drawn.
+pub mod DrawLemmas
+pub mod ClaimLemmas
 pub mod WordLemmas
 pub mod BlockLemmas
 pub mod PoolLemmas

@@ -1,5 +1,5 @@
 -- A pool as the numbers of its free blocks.
-pub use Rattle.claims.specs.Members.{numbers_below, without, insert_rising}
+pub use Rattle.block_pool.specs.Members.{numbers_below, without, insert_rising}
 use Rattle.std.specs.Prelude.{ℕ, List, refl}
 use Rattle.std.specs.Coded.{Coded, code_by, coded×, coded_list, coded_ℕ}
 

@@ -3,7 +3,7 @@ ghost use Rattle.std.specs.List.{Contains, All};
 ghost use Rattle.std.specs.List.Sorted.{IsStrictlyIncreasing};
 ghost use Rattle.block_pool.specs.PoolValue.{PoolValue, numbers_below, without, insert_rising};
 
-use claims::{NumberSet, RankedSet};
+use crate::claims::{NumberSet, RankedSet};
 use std::alloc::{AllocError, Allocator, Global};
 use std::marker::Model;
 use thiserror::Error;

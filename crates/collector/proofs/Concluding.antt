@@ -9,11 +9,11 @@ use Rattle.model.specs.LiveCount.{LiveCount, LiveWords}
 use Rattle.model.specs.SpaceBound.{space_bound}
 use Rattle.model.specs.Destination.{dest_count}
 use Rattle.layout.specs.Place.{small_word, large_word}
-use Rattle.heap_data.specs.HeapValue.{HeapValue}
-use Rattle.heap_data.specs.CollectionValue.{CollectionValue, AreFreeBlocks, target_of_slot, young_names}
-use Rattle.heap_data.specs.CollectedHeap.{CollectedHeap}
-use Rattle.heap_data.specs.ReportValue.{WorkerLists, renaming_of, all_won}
-use Rattle.heap_data.specs.declared.report.Delivery.{Delivery}
+use Rattle.steps.specs.HeapValue.{HeapValue}
+use Rattle.steps.specs.CollectionValue.{CollectionValue, AreFreeBlocks, target_of_slot, young_names}
+use Rattle.steps.specs.CollectedHeap.{CollectedHeap}
+use Rattle.steps.specs.ReportValue.{WorkerLists, renaming_of, all_won}
+use Rattle.steps.specs.declared.heap_data.report.Delivery.{Delivery}
 use Rattle.heap.proofs.SoundHeap.{heap_free, heap_large_name}
 use Rattle.workers.specs.Setting.{Setting, is_large_name}
 use Rattle.workers.specs.Worker.{Worker, Hand, Nothing, current_in, current_object}
@@ -28,15 +28,15 @@ use Rattle.workers.specs.Alone.{TellsSmall, ScannedInOrder}
 use Rattle.workers.proofs.OneMore.{stepped_more, reached_more}
 use Rattle.workers.proofs.AloneSteps.{ended_in_order}
 use Rattle.workers.proofs.RunBrings.{refused_below}
-use Rattle.to_space.specs.Named.{named}
+use Rattle.scavenge.specs.Named.{named}
 use Rattle.serial.specs.SerialValue.{SerialValue, WantsDraw, system_of, setting_in, targets_in, destinations_in, lane_of, waiting_in}
 use Rattle.serial.specs.IsSerial.{IsReadyToCollect}
-use Rattle.serial_settling.specs.Settling.{IsReportOf, ScansWhatItWon, exports_of, own_deliveries}
+use Rattle.collector.specs.Settling.{IsReportOf, ScansWhatItWon, exports_of, own_deliveries}
 use Rattle.serial.proofs.OpenBlocks.{none_open}
 use Rattle.serial.proofs.Starts.{targets_live}
-use Rattle.serial_steps.specs.Stepping.{IsOf, IsDone, IsFull, HasStepped}
+use Rattle.serial.specs.Stepping.{IsOf, IsDone, IsFull, HasStepped}
 use Rattle.collector.specs.Collects.{is_small_word, won_places, ScansInOrder, RunsAlone, ScansAlone, ScansOnce, CollectsAlone, IsShortOfBlocks}
-use Rattle.serial_steps.proofs.Going.{reached_of}
+use Rattle.serial.proofs.Going.{reached_of}
 
 pub begins : (v : SerialValue) → system_of v ≡ opening (destinations_in v) 1 (targets_in v) v.heap.free → HasStepped v
 begins v e =

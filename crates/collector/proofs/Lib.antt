@@ -1,1 +1,7 @@
+-- Collector.
+
+pub mod SettleBrings
+pub mod SettleLists
+pub mod SettleWhole
+pub mod ShownLarge
 mod Concluding

@@ -8,7 +8,7 @@ use Rattle.heap.specs.HeapValue.{HeapValue}
 use Rattle.heap.specs.ReportValue.{WorkerLists, all_won, renaming_of}
 use Rattle.heap.specs.CollectionValue.{young_names, slots_of, target_of_slot}
 use Rattle.heap.specs.CollectedHeap.{CollectedHeap}
-use Rattle.heap_data.specs.declared.report.Delivery.{Delivery}
+use Rattle.steps.specs.declared.heap_data.report.Delivery.{Delivery}
 use Rattle.workers.specs.Block.{Block}
 use Rattle.workers.specs.Setting.{Setting, setting_of}
 use Rattle.workers.specs.Worker.{Worker}
@@ -16,7 +16,7 @@ use Rattle.workers.specs.System.{System, opening}
 use Rattle.workers.specs.Total.{times, wins_of}
 use Rattle.workers.specs.Lawful.{AllEnded, next_alone}
 use Rattle.workers.specs.Finish.{Stepped}
-use Rattle.serial_settling.specs.Settling.{own_deliveries}
+use Rattle.collector.specs.Settling.{own_deliveries}
 
 -- the word of a small place is below those of the large ones
 abbrev pub is_small_word : ℕ → Bool

@@ -1,4 +1,7 @@
 -- Collections.
+
+-- How a collection by one worker ends.
+pub mod Settling
 pub mod Collects
 pub mod Together
 pub mod Errors

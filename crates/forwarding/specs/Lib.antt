@@ -1,8 +1,17 @@
 -- What cells of each kind tell their callers.
-pub use Rattle.cells.specs.Learned
-pub use Rattle.cells.specs.Settled
-pub use Rattle.cells.specs.Known
-pub use Rattle.plain_cells.specs.Plain
-pub use Rattle.word_cells.specs.Words
-pub use Rattle.box_cells.specs.Noted
-pub use Rattle.box_cells.specs.BoxSettled
+
+-- What a pass of cells learns, and what cells answer in the end.
+pub mod Learned
+pub mod Settled
+pub mod Known
+-- Plain cells as contracts see them.
+pub mod Plain
+pub mod Minds
+-- The rule of the words, and word cells as contracts see them.
+pub mod Kept
+pub mod Words
+-- Boxed cells and their passes as contracts see them.
+pub mod Noted
+pub mod Boxed
+pub mod Gathered
+pub mod BoxSettled

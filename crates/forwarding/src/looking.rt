@@ -1,8 +1,8 @@
 //! A caller that serves every kind of cells.
 ghost use Rattle.std.specs.Prelude.{◌<◌, ◌≡◌, Some, IfOk, OnErr};
-ghost use Rattle.cells.specs.Learned.{Learns};
+ghost use Rattle.forwarding.specs.Learned.{Learns};
 
-use cells::{Cells, Outcome};
+use crate::cells::{Cells, Outcome};
 use layout::Place;
 use std::alloc::AllocError;
 

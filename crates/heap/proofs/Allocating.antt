@@ -8,10 +8,10 @@ use Rattle.model.specs.Commands.{is_large_size}
 use Rattle.layout.specs.declared.place.Place.{Place}
 use Rattle.layout.specs.Place.{place_word}
 use Rattle.heap_objects.specs.Objects as objects
-use Rattle.heap_commit.specs.HeapView.{heap_with}
-use Rattle.heap_commit.specs.Roots.{roots_map}
+use Rattle.heap.specs.HeapView.{heap_with}
+use Rattle.heap.specs.Roots.{roots_map}
 use Rattle.heap.specs.Commands.{AllocatesSmall, AllocatesLarge, wanted_blocks}
-use Rattle.heap_commit.proofs.RootMap.{get-roots}
+use Rattle.heap.proofs.RootMap.{get-roots}
 
 pub small_size : (w p q : ℕ) → 1 + p + q ≤ w / 4 → nat_lt (w / 4) (1 + p + q) ≡ false
 small_size w p q small = grind (arith, nat_tests, small)

@@ -12,12 +12,12 @@ use Rattle.model.specs.Reached.{has}
 use Rattle.model.proofs.ClosedLemmas.{field_is}
 use Rattle.model.proofs.NatMap.{get-insert_same, get-insert_other}
 use Rattle.model.proofs.Options.{some_is, some_not_none}
-use Rattle.heap_data.specs.Remembered.{CoversYounger, object_of_generation}
-use Rattle.heap_graph.proofs.HeldObjects.{held}
+use Rattle.steps.specs.Remembered.{CoversYounger, object_of_generation}
+use Rattle.heap_objects.proofs.HeldObjects.{held}
 use Rattle.remembered_set.specs.Sets.{members_of}
-use Rattle.remembering.specs.Growth.{AreGrown}
-use Rattle.remembering.proofs.Grown.{grown_has}
-use Rattle.remembering.proofs.Holding.{PointsTo, younger_from, younger_is, holder_is}
+use Rattle.heap.specs.Growth.{AreGrown}
+use Rattle.heap.proofs.Grown.{grown_has}
+use Rattle.heap.proofs.Holding.{PointsTo, younger_from, younger_is, holder_is}
 
 -- an object of the same name and generation that pointed to a younger one
 pub record Pointed (old : Graph) (name : ℕ) (o : Object) : Type 0 where

@@ -11,13 +11,13 @@ use Rattle.layout.specs.ObjectRef.{raw_of}
 use Rattle.layout.specs.declared.object.ObjectRef.{ObjectRef}
 use Rattle.steps.specs.StepPairs.{step_pair, stands_at}
 use Rattle.steps.specs.declared.step_id.StepId.{StepId}
-use Rattle.heap_data.specs.CollectionValue.{CollectionValue, IsOpened}
-use Rattle.heap_data.specs.Words.{IsShownAs}
+use Rattle.steps.specs.CollectionValue.{CollectionValue, IsOpened}
+use Rattle.steps.specs.Words.{IsShownAs}
 use Rattle.heap_objects.specs.Objects.{ObjectsValue, graph_in}
 use Rattle.heap_objects.specs.Collecting.{IsNumbered}
-use Rattle.heap_commit.specs.HeapView.{heap_with}
+use Rattle.heap.specs.HeapView.{heap_with}
 use Rattle.heap.specs.Found.{IsFound, HasNumber}
-use Rattle.remembering.proofs.WithSets.{young_in, young_of}
+use Rattle.heap.proofs.WithSets.{young_in, young_of}
 
 pub found_here : (objects : ObjectsValue) (slots : List (Option Place)) (sets : List (List ℕ)) (c : CollectionValue) (name : ℕ) (object : ObjectRef) (at : StepId) (number : Option ℕ) → IsOpened (heap_with objects slots sets) c.generation c
     → IsSomeAnd (get objects.objects name) (λ o. IsShownAs o (raw_of object)) → Some (step_pair at) ≡ option_map stands_at (get objects.objects name)

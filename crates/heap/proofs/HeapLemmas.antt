@@ -9,9 +9,9 @@ use Rattle.model.specs.Census.{StepCount, census_of, points_younger, step_count}
 use Rattle.model.specs.Destination.{all_steps, numbers_from}
 use Rattle.model.specs.Slots.{slots_from}
 use Rattle.model.specs.Store.{full_rooms}
-use Rattle.heap_data.specs.HeapValue.{HeapValue, empty_heap, nursery_count}
-use Rattle.heap_commit.specs.HeapView.{heap_with}
-use Rattle.heap_commit.specs.Roots.{roots_map}
+use Rattle.steps.specs.HeapValue.{HeapValue, empty_heap, nursery_count}
+use Rattle.heap.specs.HeapView.{heap_with}
+use Rattle.heap.specs.Roots.{roots_map}
 use Rattle.heap_objects.specs.Objects.{empty_objects}
 
 empty_roots : roots_map [] ≡ empty

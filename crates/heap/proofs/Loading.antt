@@ -9,17 +9,17 @@ use Rattle.model.specs.Graph.{Graph, Object, object_at, root_at, IsClosed}
 use Rattle.layout.specs.declared.place.Place.{Place}
 use Rattle.layout.specs.Object.{Raw}
 use Rattle.layout.specs.Place.{place_word, pointer_word}
-use Rattle.heap_data.specs.HeapValue.{HeapValue}
-use Rattle.heap_data.specs.Words.{IsShownAs, target_of_word}
-use Rattle.heap_commit.specs.HeapView.{heap_of, heap_with}
-use Rattle.heap_commit.specs.IsHeap.{AreHeapObjects}
-use Rattle.heap_commit.specs.Roots.{roots_map}
+use Rattle.steps.specs.HeapValue.{HeapValue}
+use Rattle.steps.specs.Words.{IsShownAs, target_of_word}
+use Rattle.heap.specs.HeapView.{heap_of, heap_with}
+use Rattle.heap.specs.IsHeap.{AreHeapObjects}
+use Rattle.heap.specs.Roots.{roots_map}
 use Rattle.heap_objects.specs.Objects.{ObjectsValue}
 use Rattle.heap.specs.Commands.{pointer_of, AddsRoot}
 use Rattle.model.proofs.ClosedLemmas.{field_is, closed-with_root}
 use Rattle.model.proofs.Options.{some_is}
-use Rattle.block_table.proofs.TableSteps.{get_or_any}
-use Rattle.heap_commit.proofs.RootMap.{get-roots}
+use Rattle.nursery.proofs.TableSteps.{get_or_any}
+use Rattle.heap.proofs.RootMap.{get-roots}
 use Rattle.heap.proofs.SoundHeap.{objects_places}
 
 -- the pointer of that word, which leads where the graph's pointer does

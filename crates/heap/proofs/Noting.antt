@@ -9,7 +9,7 @@ use Rattle.steps.specs.StepPairs.{step_pair, stands_at}
 use Rattle.steps.specs.declared.step_id.StepId.{StepId}
 use Rattle.heap_objects.specs.Objects.{ObjectsValue, graph_in, heap_in}
 use Rattle.heap_objects.specs.Sound.{AreObjects}
-use Rattle.heap_commit.specs.HeapView.{heap_with}
+use Rattle.heap.specs.HeapView.{heap_with}
 use Rattle.remembered_set.specs.Sets.{noted}
 use Rattle.heap.specs.Commands.{leads_younger, remembered_after}
 

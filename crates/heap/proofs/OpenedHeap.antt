@@ -5,10 +5,10 @@ use Rattle.std.specs.FinMap.{entries}
 use Rattle.model.specs.OldSlots.{old_slots}
 use Rattle.layout.specs.declared.place.Place.{Place}
 use Rattle.heap_objects.specs.Objects.{ObjectsValue, graph_in}
-use Rattle.heap_data.specs.CollectionValue.{CollectionValue, IsNumbering, IsOpened, young_names, root_slot, field_slot_of}
-use Rattle.heap_commit.specs.HeapView.{heap_with}
-use Rattle.heap_commit.specs.Roots.{roots_map}
-use Rattle.remembering.proofs.WithSets.{numbering_of}
+use Rattle.steps.specs.CollectionValue.{CollectionValue, IsNumbering, IsOpened, young_names, root_slot, field_slot_of}
+use Rattle.heap.specs.HeapView.{heap_with}
+use Rattle.heap.specs.Roots.{roots_map}
+use Rattle.heap.proofs.WithSets.{numbering_of}
 
 pub opened_is : (objects : ObjectsValue) (slots : List (Option Place)) (sets : List (List ℕ)) (g : ℕ) (collection : CollectionValue) → g < objects.config.shape.generations → collection.generation ≡ g
     → collection.slots ≡ map (λ e. root_slot e.0 e.1) (entries (roots_map slots)) ++ map field_slot_of (old_slots (graph_in objects) objects.config.shape.generations g)

@@ -4,14 +4,14 @@ use Rattle.std.proofs.lemmas.Bool.{cases_lt}
 use Rattle.std.proofs.lemmas.List.{append_assoc, map-append, get_or-drop, get_or_past, drop-drop}
 use Rattle.std.specs.FinMap.{entries}
 use Rattle.model.proofs.Options.{some_is, some_not_none}
-use Rattle.roots.specs.RootsValue.{NoneFrom, IsFirstFrom}
+use Rattle.heap.specs.RootsValue.{NoneFrom, IsFirstFrom}
 use Rattle.layout.specs.declared.place.Place.{Place}
 use Rattle.layout.specs.Place.{place_word}
-use Rattle.heap_data.specs.CollectionValue.{SlotValue, root_slot}
-use Rattle.heap_data.specs.SlotView.{slot_value}
-use Rattle.heap_data.specs.declared.collection.Slot.{Slot}
-use Rattle.heap_commit.specs.Roots.{roots_map, words_of}
-use Rattle.heap_commit.proofs.RootMap.{entries-roots, root_pairs}
+use Rattle.steps.specs.CollectionValue.{SlotValue, root_slot}
+use Rattle.steps.specs.SlotView.{slot_value}
+use Rattle.steps.specs.declared.heap_data.collection.Slot.{Slot}
+use Rattle.heap.specs.Roots.{roots_map, words_of}
+use Rattle.heap.proofs.RootMap.{entries-roots, root_pairs}
 
 -- the slots of the roots from a number on
 abbrev pub slots_left : ℕ → List (Option Place) → List SlotValue

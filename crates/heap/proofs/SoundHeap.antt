@@ -8,15 +8,15 @@ use Rattle.layout.specs.declared.place.LargeNumber.{LargeNumber}
 use Rattle.layout.specs.declared.place.Place.{Place}
 use Rattle.layout.specs.declared.place.Place.TheVariants.{Small, Large}
 use Rattle.layout.specs.Place.{small_word, large_word, place_word}
-use Rattle.heap_data.specs.HeapValue.{HeapValue}
-use Rattle.heap_data.specs.CollectedHeap.{HoldsObject}
-use Rattle.heap_data.specs.CollectionValue.{AreFreeBlocks, FreeBlocksAreEmpty}
-use Rattle.heap_data.specs.NamesArePlaces.{NamesArePlaces}
-use Rattle.block_table.proofs.Areas.{has_at}
-use Rattle.block_table.proofs.TableSteps.{get_or_any}
-use Rattle.heap_space.specs.Space.{IsPlace}
+use Rattle.steps.specs.HeapValue.{HeapValue}
+use Rattle.steps.specs.CollectedHeap.{HoldsObject}
+use Rattle.steps.specs.CollectionValue.{AreFreeBlocks, FreeBlocksAreEmpty}
+use Rattle.steps.specs.NamesArePlaces.{NamesArePlaces}
+use Rattle.nursery.proofs.Areas.{has_at}
+use Rattle.nursery.proofs.TableSteps.{get_or_any}
+use Rattle.heap_objects.specs.Space.{IsPlace}
 use Rattle.heap_objects.specs.Sound.{IsHeapObject, IsLargePlace, AreObjects}
-use Rattle.heap_commit.specs.IsHeap.{IsHeap}
+use Rattle.heap.specs.IsHeap.{IsHeap}
 
 pub heap_closed : (heap : HeapValue) → IsHeap heap → IsClosed heap.graph
 heap_closed heap sound = sound.blocks.closed

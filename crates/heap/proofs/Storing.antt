@@ -7,7 +7,7 @@ use Rattle.model.proofs.ClosedLemmas.{closed-with_pointer, closed_same_pointers}
 use Rattle.layout.specs.declared.place.Place.{Place}
 use Rattle.layout.specs.Place.{place_word}
 use Rattle.heap.specs.Commands.{value_at}
-use Rattle.heap_commit.specs.HeapView.{heap_of}
+use Rattle.heap.specs.HeapView.{heap_of}
 use Rattle.heap_objects.specs.Objects.{ObjectsValue}
 
 -- the object that a root leads to

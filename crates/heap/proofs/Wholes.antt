@@ -12,16 +12,16 @@ use Rattle.model.specs.Census.{points_younger}
 use Rattle.model.specs.Reached.{has}
 use Rattle.model.proofs.ClosedLemmas.{closed_empty, closed_fresh}
 use Rattle.layout.specs.declared.place.Place.{Place}
-use Rattle.heap_data.specs.HeapValue.{HeapValue, empty_heap}
+use Rattle.steps.specs.HeapValue.{HeapValue, empty_heap}
 use Rattle.heap_objects.specs.Objects.{ObjectsValue, heap_in}
 use Rattle.heap_objects.specs.Sound.{AreObjects}
 use Rattle.heap_objects.proofs.WithRoots.{objects_at}
-use Rattle.heap_commit.specs.Roots.{roots_map}
-use Rattle.heap_commit.specs.HeapView.{heap_of, heap_with}
-use Rattle.heap_commit.specs.IsHeap.{IsHeap, AreHeapObjects}
+use Rattle.heap.specs.Roots.{roots_map}
+use Rattle.heap.specs.HeapView.{heap_of, heap_with}
+use Rattle.heap.specs.IsHeap.{IsHeap, AreHeapObjects}
 use Rattle.remembered_set.specs.Sets.{members_of, noted}
-use Rattle.remembering.proofs.Grown.{grown_same, grown_noted, noted_has}
-use Rattle.remembering.specs.Growth.{AreGrown}
+use Rattle.heap.proofs.Grown.{grown_same, grown_noted, noted_has}
+use Rattle.heap.specs.Growth.{AreGrown}
 use Rattle.heap.specs.Whole.{IsWhole}
 use Rattle.heap.specs.Commands.{AllocatesSmall, AllocatesLarge, leads_younger, remembered_after, value_at}
 use Rattle.heap.proofs.Covering.{covers-fresh, covers-same_pointers, covers-stored}

@@ -7,8 +7,8 @@ use Rattle.model.specs.Room.{Room, room_after}
 use Rattle.model.specs.Commands.{is_large_size}
 use Rattle.model.specs.Census.{Census, census_of, points_to}
 use Rattle.remembered_set.specs.Sets.{noted}
-use Rattle.heap_data.specs.HeapValue.{HeapValue}
-use Rattle.heap_data.specs.Remembered.{members_at}
+use Rattle.steps.specs.HeapValue.{HeapValue}
+use Rattle.steps.specs.Remembered.{members_at}
 use Rattle.heap_objects.specs.Objects.{wanted}
 
 -- how many blocks a large object takes

@@ -4,9 +4,9 @@ use Rattle.model.specs.Graph.{Object, object_at}
 use Rattle.model.specs.Live.{IsYoung}
 use Rattle.layout.specs.ObjectRef.{raw_of}
 use Rattle.steps.specs.StepPairs.{step_pair, stands_at}
-use Rattle.heap_data.specs.HeapValue.{HeapValue}
-use Rattle.heap_data.specs.CollectionValue.{CollectionValue, young_names}
-use Rattle.heap_data.specs.Words.{IsShownAs}
+use Rattle.steps.specs.HeapValue.{HeapValue}
+use Rattle.steps.specs.CollectionValue.{CollectionValue, young_names}
+use Rattle.steps.specs.Words.{IsShownAs}
 use Rattle.heap.specs.declared.found.Found.{Found}
 
 -- the name's number in the collection

@@ -1,8 +1,8 @@
 -- What a heap keeps from call to call.
 use Rattle.std.specs.Prelude.{◌≡◌, length}
 use Rattle.model.specs.Graph.{IsClosed}
-use Rattle.heap_data.specs.HeapValue.{HeapValue}
-use Rattle.heap_data.specs.Remembered.{CoversYounger}
+use Rattle.steps.specs.HeapValue.{HeapValue}
+use Rattle.steps.specs.Remembered.{CoversYounger}
 
 -- pointers and roots lead to objects; each generation has a remembered set, which has at least its objects with a pointer
 -- to a younger one

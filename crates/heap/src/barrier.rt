@@ -7,7 +7,7 @@ ghost use Rattle.model.specs.Reached.{has};
 ghost use Rattle.layout.specs.Place.{place_word};
 ghost use Rattle.remembered_set.specs.Sets.{members_of, noted};
 ghost use Rattle.heap_objects.specs.Objects.{graph_in};
-ghost use Rattle.heap_commit.specs.HeapView.{heap_with};
+ghost use Rattle.heap.specs.HeapView.{heap_with};
 ghost use Rattle.heap.specs.Commands.{leads_younger, remembered_after};
 
 use heap_objects::HeapObjects;

@@ -4,13 +4,13 @@ ghost use Rattle.std.specs.FinMap.{values};
 ghost use Rattle.model.specs.Census.{step_count};
 ghost use Rattle.model.specs.Destination.{all_steps};
 ghost use Rattle.steps.specs.StepPairs.{step_pair};
-ghost use Rattle.heap_data.specs.CensusView.{step_value};
+ghost use Rattle.steps.specs.CensusView.{step_value};
 
 use arrayvec::ArrayVec;
-use heap_data::{MOST_STEPS, StepCount};
 use heap_objects::HeapObjects;
 use std::alloc::Allocator;
 use steps::StepId;
+use steps::heap_data::{MOST_STEPS, StepCount};
 
 /// The objects of each of these steps.
 fn counts_of<A: Allocator + Clone>(

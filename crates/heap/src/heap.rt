@@ -4,34 +4,34 @@ ghost use Rattle.std.specs.Option.{option_map};
 ghost use Rattle.model.specs.Graph.{root_at, without_root};
 ghost use Rattle.model.specs.Commands.{is_too_big, is_large_size};
 ghost use Rattle.layout.specs.Place.{place_word};
-ghost use Rattle.heap_data.specs.HeapValue.{empty_heap, nursery_count};
+ghost use Rattle.steps.specs.HeapValue.{empty_heap, nursery_count};
 ghost use Rattle.heap.specs.Found.{IsFound};
-ghost use Rattle.heap_commit.specs.IsHeap.{IsHeap};
+ghost use Rattle.heap.specs.IsHeap.{IsHeap};
 ghost use Rattle.heap.specs.Commands.{Allocates, AllocatesSmall, AllocatesLarge, wanted_blocks, room_for, heap_census};
 ghost use Rattle.std.specs.Prelude.{MatchOption, IsSomeAnd, IsNone, ◌⊎◌, slice_get, slice_set, slice_index, length, sum_by, Err};
 ghost use Rattle.model.specs.Graph.{object_at};
 ghost use Rattle.model.specs.Live.{IsYoung};
 ghost use Rattle.model.specs.LiveCount.{LiveCount};
 ghost use Rattle.layout.specs.ObjectRef.{raw_of};
-ghost use Rattle.heap_data.specs.Words.{IsShownAs};
+ghost use Rattle.steps.specs.Words.{IsShownAs};
 ghost use Rattle.steps.specs.ConfigRange.{IsInRange};
 ghost use Rattle.steps.specs.StepPairs.{step_pair, stands_at};
-ghost use Rattle.heap_data.specs.CollectionValue.{IsOpened, young_names};
-ghost use Rattle.heap_data.specs.ReportValue.{all_won, renaming_of};
-ghost use Rattle.heap_data.specs.SettledValue.{IsSettled};
-ghost use Rattle.heap_data.specs.CollectedHeap.{CollectedHeap};
+ghost use Rattle.steps.specs.CollectionValue.{IsOpened, young_names};
+ghost use Rattle.steps.specs.ReportValue.{all_won, renaming_of};
+ghost use Rattle.steps.specs.SettledValue.{IsSettled};
+ghost use Rattle.steps.specs.CollectedHeap.{CollectedHeap};
 
 use crate::counts::step_counts;
 use crate::found::Found;
 use crate::opening::opened;
-use heap_data::{Census, Collection, Report, RootId, Settled};
+use crate::remembering::commit;
+use crate::roots::Roots;
 use heap_objects::HeapObjects;
 use layout::{ObjectRef, Place};
 use remembered_set::Remembered;
-use remembering::commit;
-use roots::Roots;
 use std::alloc::{AllocError, Allocator, Global};
 use std::marker::Model;
+use steps::heap_data::{Census, Collection, Report, RootId, Settled};
 use steps::{Config, StepId};
 use thiserror::Error;
 
@@ -125,13 +125,13 @@ pub struct Heap<A: Allocator = Global> {
 }
 
 impl<A: Allocator> Model for Heap<A> {
-    ghost use Rattle.heap_data.specs.HeapValue.{HeapValue, heap_code};
+    ghost use Rattle.steps.specs.HeapValue.{HeapValue, heap_code};
 
     ghost Value = { HeapValue };
 
     ghost coded = { heap_code };
 
-    ghost use Rattle.heap_commit.specs.HeapView.{heap_with};
+    ghost use Rattle.heap.specs.HeapView.{heap_with};
     ghost use Rattle.heap.specs.Whole.{IsWhole};
 
     ghost view = { λ h. heap_with h.objects h.roots.slots h.remembered };

@@ -6,13 +6,16 @@ mod counts;
 mod fields;
 mod found;
 mod heap;
+mod heap_commit;
 mod opening;
+mod remembering;
+mod roots;
 
 pub use found::Found;
 pub use heap::{
     AllocateError, FieldError, Heap, LoadError, MakeError, NoRoot, OpenError, StoreError,
 };
-pub use heap_data::{
+pub use steps::heap_data::{
     Census, Collection, Delivery, Report, RootId, Settled, Slot, StepCount, Won, WorkerReport,
 };
 pub use steps::{BadConfig, Config, Sizes, StepId};

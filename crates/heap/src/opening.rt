@@ -2,19 +2,19 @@
 ghost use Rattle.std.specs.Prelude.{◌≡◌, ◌<◌, length, map, IfOk};
 ghost use Rattle.std.specs.FinMap.{entries};
 ghost use Rattle.model.specs.Graph.{IsClosed};
-ghost use Rattle.heap_data.specs.CollectionValue.{root_slot, IsOpened};
-ghost use Rattle.heap_data.specs.Remembered.{CoversYounger};
-ghost use Rattle.heap_data.specs.SlotView.{slot_value};
+ghost use Rattle.steps.specs.CollectionValue.{root_slot, IsOpened};
+ghost use Rattle.steps.specs.Remembered.{CoversYounger};
+ghost use Rattle.steps.specs.SlotView.{slot_value};
 ghost use Rattle.heap_objects.specs.Objects.{graph_in};
-ghost use Rattle.heap_commit.specs.Roots.{roots_map};
-ghost use Rattle.heap_commit.specs.HeapView.{heap_with};
+ghost use Rattle.heap.specs.Roots.{roots_map};
+ghost use Rattle.heap.specs.HeapView.{heap_with};
 
-use heap_data::{Collection, RootId, Slot};
+use crate::remembering::push_old_slots;
+use crate::roots::Roots;
 use heap_objects::HeapObjects;
 use remembered_set::Remembered;
-use remembering::push_old_slots;
-use roots::Roots;
 use std::alloc::{AllocError, Allocator};
+use steps::heap_data::{Collection, RootId, Slot};
 
 /// The roots by rising number.
 fn root_slots<A: Allocator>(alloc: A, roots: &Roots<A>) -> Result<Vec<Slot, A>, AllocError>

@@ -5,10 +5,10 @@ use Rattle.std.specs.Prelude.{IfSome, IfNone, slice_set}
 use Rattle.model.specs.Graph.{fresh_object}
 use Rattle.layout.specs.declared.place.Place.{Place}
 use Rattle.layout.specs.Place.{place_word, large_word}
-use Rattle.heap_data.specs.HeapValue.{nursery_count}
+use Rattle.steps.specs.HeapValue.{nursery_count}
 use Rattle.large_objects.specs.LargeValue.{LargeValue}
-use Rattle.heap_graph.proofs.WithLarge.{get-small}
-use Rattle.heap_space.specs.Space.{SpaceValue, SpaceAllocates, IsSpace}
+use Rattle.heap_objects.proofs.WithLarge.{get-small}
+use Rattle.heap_objects.specs.Space.{SpaceValue, SpaceAllocates, IsSpace}
 use Rattle.heap_objects.specs.Inside.{AreApart}
 use Rattle.heap_objects.specs.Objects.{ObjectsValue, AllocatesSmall, objects_of}
 use Rattle.heap_objects.proofs.OwnBlocks.{blocks_map}

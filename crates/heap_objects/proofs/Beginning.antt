@@ -12,11 +12,11 @@ use Rattle.model.specs.Store.{full_rooms}
 use Rattle.model.proofs.Has.{has_numbers}
 use Rattle.model.proofs.Options.{some_not_none}
 use Rattle.block_pool.specs.PoolValue.{PoolValue}
-use Rattle.heap_data.specs.HeapValue.{nursery_count}
+use Rattle.steps.specs.HeapValue.{nursery_count}
 use Rattle.large_objects.specs.LargeValue.{LargeObject, LargeValue, large_at}
 use Rattle.large_objects.specs.PoolBlocks.{ArePoolBlocks, blocks_of}
-use Rattle.heap_graph.proofs.WithLarge.{with_none}
-use Rattle.heap_space.specs.Space.{SpaceValue, IsSpace, empty_space, pool_in}
+use Rattle.heap_objects.proofs.WithLarge.{with_none}
+use Rattle.heap_objects.specs.Space.{SpaceValue, IsSpace, empty_space, pool_in}
 use Rattle.heap_objects.specs.Objects.{ObjectsValue, objects_of, empty_objects, block_entries}
 use Rattle.heap_objects.specs.Inside.{AreApart}
 

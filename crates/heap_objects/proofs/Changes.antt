@@ -12,13 +12,13 @@ use Rattle.model.proofs.NatMap.{get-insert_same, get-insert_other, same_nat_map}
 use Rattle.model.proofs.Options.{some_not_none}
 use Rattle.model.proofs.Finds.{or_else}
 use Rattle.layout.specs.Place.{small_word, large_word}
-use Rattle.heap_data.specs.HeapValue.{nursery_count}
+use Rattle.steps.specs.HeapValue.{nursery_count}
 use Rattle.large_objects.specs.LargeValue.{LargeObject, LargeValue, large_at}
 use Rattle.large_objects.specs.PoolBlocks.{ArePoolBlocks, blocks_of, blocks_at}
-use Rattle.heap_graph.specs.WithLarge.{large_object, large_entries, with_large}
-use Rattle.heap_graph.proofs.WithLarge.{get-with_large, get-small, get-large}
-use Rattle.heap_space.specs.Space.{SpaceValue, IsSpace, pool_in}
-use Rattle.heap_space.specs.Collecting.{HoldsNone}
+use Rattle.heap_objects.specs.WithLarge.{large_object, large_entries, with_large}
+use Rattle.heap_objects.proofs.WithLarge.{get-with_large, get-small, get-large}
+use Rattle.heap_objects.specs.Space.{SpaceValue, IsSpace, pool_in}
+use Rattle.heap_objects.specs.HeapSpaceCollecting.{HoldsNone}
 use Rattle.heap_objects.specs.Inside.{AreApart, IsLargeObject}
 use Rattle.heap_objects.proofs.Sides.{same_sides}
 use Rattle.heap_objects.proofs.OwnBlocks.{blocks_map, get-blocks, blocks_below}

@@ -7,8 +7,8 @@ use Rattle.std.specs.FinMap.{values, entries}
 use Rattle.model.specs.Census.{StepCount, step_count, is_small_at}
 use Rattle.model.specs.Graph.{Object, size_of, is_large}
 use Rattle.large_objects.specs.LargeValue.{LargeObject, LargeValue}
-use Rattle.heap_graph.specs.WithLarge.{large_object, large_entries, with_large}
-use Rattle.heap_space.specs.Space.{SpaceValue, IsSpace}
+use Rattle.heap_objects.specs.WithLarge.{large_object, large_entries, with_large}
+use Rattle.heap_objects.specs.Space.{SpaceValue, IsSpace}
 use Rattle.heap_objects.specs.Inside.{AreApart}
 use Rattle.heap_objects.proofs.Sides.{entries_both}
 

@@ -12,13 +12,13 @@ use Rattle.layout.specs.ObjectRef.{raw_of}
 use Rattle.layout.specs.declared.object.ObjectRef.{ObjectRef}
 use Rattle.steps.specs.StepPairs.{stands_at}
 use Rattle.large_objects.specs.LargeValue.{LargeObject, LargeValue, large_at, NoneFrom, IsFirstFrom}
-use Rattle.heap_data.specs.CollectionValue.{IsNumbering}
-use Rattle.heap_data.specs.Numbering.{NumberingValue}
-use Rattle.heap_data.specs.Words.{IsShownAs}
-use Rattle.heap_graph.specs.WithLarge.{large_object}
-use Rattle.heap_graph.proofs.WithLarge.{get-small}
-use Rattle.heap_space.specs.Space.{SpaceValue, graph_in as small_graph}
-use Rattle.heap_space.specs.Collecting.{IsNumbered as IsSmallNumbered}
+use Rattle.steps.specs.CollectionValue.{IsNumbering}
+use Rattle.steps.specs.Numbering.{NumberingValue}
+use Rattle.steps.specs.Words.{IsShownAs}
+use Rattle.heap_objects.specs.WithLarge.{large_object}
+use Rattle.heap_objects.proofs.WithLarge.{get-small}
+use Rattle.heap_objects.specs.Space.{SpaceValue, graph_in as small_graph}
+use Rattle.heap_objects.specs.HeapSpaceCollecting.{IsNumbered as IsSmallNumbered}
 use Rattle.heap_objects.specs.Objects.{objects_of, graph_in}
 use Rattle.heap_objects.specs.Inside.{AreApart}
 use Rattle.heap_objects.specs.Collecting.{IsNumbered, NoLargeFrom, IsNextLarge}

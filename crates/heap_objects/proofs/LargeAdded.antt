@@ -10,14 +10,14 @@ use Rattle.model.specs.Reached.{has}
 use Rattle.model.proofs.Has.{has-append}
 use Rattle.model.proofs.Options.{some_is}
 use Rattle.layout.specs.Place.{large_word}
-use Rattle.heap_data.specs.Words.{target_of_word}
-use Rattle.block_table.proofs.TableCensus.{map-nil}
+use Rattle.steps.specs.Words.{target_of_word}
+use Rattle.nursery.proofs.TableCensus.{map-nil}
 use Rattle.large_objects.specs.LargeValue.{LargeObject, LargeValue, IsAdded, large_at, InUse, made, block_count}
 use Rattle.large_objects.specs.PoolBlocks.{ArePoolBlocks, blocks_of, blocks_at}
-use Rattle.heap_graph.specs.WithLarge.{large_object, with_large}
-use Rattle.heap_graph.proofs.WithLarge.{get-large}
-use Rattle.heap_space.specs.Space.{SpaceValue, IsSpace, pool_in}
-use Rattle.heap_space.proofs.Shapes.{first_step}
+use Rattle.heap_objects.specs.WithLarge.{large_object, with_large}
+use Rattle.heap_objects.proofs.WithLarge.{get-large}
+use Rattle.heap_objects.specs.Space.{SpaceValue, IsSpace, pool_in}
+use Rattle.heap_objects.proofs.Shapes.{first_step}
 use Rattle.heap_objects.specs.Inside.{AreApart, IsLargeObject}
 use Rattle.heap_objects.specs.Objects.{ObjectsValue, AllocatesLarge, objects_of, wanted}
 use Rattle.heap_objects.proofs.Sides.{none_large}

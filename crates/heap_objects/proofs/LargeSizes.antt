@@ -10,9 +10,9 @@ use Rattle.model.specs.Graph.{Object, size_of, is_large}
 use Rattle.model.proofs.RisingKeys.{entries-rise, find_entry}
 use Rattle.layout.specs.Place.{large_word}
 use Rattle.large_objects.specs.LargeValue.{LargeObject, LargeValue}
-use Rattle.heap_graph.specs.WithLarge.{large_object, large_entries, with_large}
-use Rattle.heap_graph.proofs.LargeCounts.{entries_below, entries_skip, entries_next}
-use Rattle.heap_space.specs.Space.{SpaceValue}
+use Rattle.heap_objects.specs.WithLarge.{large_object, large_entries, with_large}
+use Rattle.heap_objects.proofs.LargeCounts.{entries_below, entries_skip, entries_next}
+use Rattle.heap_objects.specs.Space.{SpaceValue}
 use Rattle.heap_objects.specs.Inside.{AreApart}
 use Rattle.heap_objects.proofs.Sides.{entries_both}
 

@@ -14,12 +14,12 @@ use Rattle.model.proofs.Options.{some_is, some_not_none}
 use Rattle.model.proofs.Rising.{KeysBelow}
 use Rattle.layout.specs.Place.{small_word, large_word}
 use Rattle.large_objects.specs.LargeValue.{LargeObject, LargeValue, large_at}
-use Rattle.heap_data.specs.CollectionValue.{IsNumbering, rank_below, young_names}
-use Rattle.heap_data.specs.Numbering.{NumberingValue}
-use Rattle.heap_graph.specs.WithLarge.{large_object, large_entries}
-use Rattle.heap_graph.proofs.WithLarge.{get-small}
-use Rattle.heap_space.specs.Space.{SpaceValue, graph_in as small_graph}
-use Rattle.heap_space.specs.Collecting.{AreBases, IsNumbered as IsSmallNumbered}
+use Rattle.steps.specs.CollectionValue.{IsNumbering, rank_below, young_names}
+use Rattle.steps.specs.Numbering.{NumberingValue}
+use Rattle.heap_objects.specs.WithLarge.{large_object, large_entries}
+use Rattle.heap_objects.proofs.WithLarge.{get-small}
+use Rattle.heap_objects.specs.Space.{SpaceValue, graph_in as small_graph}
+use Rattle.heap_objects.specs.HeapSpaceCollecting.{AreBases, IsNumbered as IsSmallNumbered}
 use Rattle.heap_objects.specs.Objects.{objects_of, graph_in}
 use Rattle.heap_objects.specs.Inside.{AreApart}
 use Rattle.heap_objects.specs.Large.{CoversYoungLarge, young_before}

@@ -9,13 +9,13 @@ use Rattle.layout.specs.ObjectRef.{raw_of}
 use Rattle.layout.specs.declared.object.ObjectRef.{ObjectRef}
 use Rattle.block_pool.specs.BlockValue.{BlockValue}
 use Rattle.steps.specs.StepPairs.{stands_at}
-use Rattle.heap_data.specs.Words.{IsShownAs}
-use Rattle.block_table.specs.Table.{objects_map, AreHeapBlocks}
+use Rattle.steps.specs.Words.{IsShownAs}
+use Rattle.nursery.specs.Table.{objects_map, AreHeapBlocks}
 use Rattle.large_objects.specs.LargeValue.{LargeObject, LargeValue}
-use Rattle.heap_graph.specs.WithLarge.{large_object, with_large}
-use Rattle.heap_graph.specs.HeapGraph.{IsHeapGraph}
-use Rattle.heap_graph.proofs.GraphObjects.{closed_leads}
-use Rattle.heap_space.specs.Space.{SpaceValue}
+use Rattle.heap_objects.specs.WithLarge.{large_object, with_large}
+use Rattle.heap_objects.specs.HeapGraph.{IsHeapGraph}
+use Rattle.heap_objects.proofs.GraphObjects.{closed_leads}
+use Rattle.heap_objects.specs.Space.{SpaceValue}
 use Rattle.heap_objects.specs.Objects.{objects_of, graph_in}
 use Rattle.heap_objects.specs.Inside.{AreApart}
 

@@ -8,11 +8,11 @@ use Rattle.std.specs.Option.{option_map}
 use Rattle.model.specs.Destination.{Shape, IsStep, dest, oldest, steps_in}
 use Rattle.model.specs.Reached.{has}
 use Rattle.model.proofs.Options.{some_is, some_not_none}
-use Rattle.heap_data.specs.HeapValue.{nursery_count}
+use Rattle.steps.specs.HeapValue.{nursery_count}
 use Rattle.large_objects.specs.LargeValue.{LargeObject, LargeValue, large_at, with_object, without_object}
 use Rattle.large_objects.specs.PoolBlocks.{ArePoolBlocks, blocks_of, blocks_at}
-use Rattle.heap_space.specs.Space.{SpaceValue, IsSpace, pool_in}
-use Rattle.heap_space.specs.Collecting.{HoldsNone}
+use Rattle.heap_objects.specs.Space.{SpaceValue, IsSpace, pool_in}
+use Rattle.heap_objects.specs.HeapSpaceCollecting.{HoldsNone}
 use Rattle.heap_objects.specs.Inside.{AreApart, IsLargeObject}
 use Rattle.heap_objects.specs.Renewing.{at_dest, renewed}
 

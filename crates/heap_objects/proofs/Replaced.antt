@@ -14,20 +14,20 @@ use Rattle.layout.specs.Object.{raw_size}
 use Rattle.layout.specs.Place.{small_word, large_word}
 use Rattle.layout.specs.declared.place.Place.{Place}
 use Rattle.block_pool.specs.BlockValue.{BlockValue}
-use Rattle.block_table.specs.Installed.{installed}
-use Rattle.block_table.specs.Table.{slot_objects}
-use Rattle.block_table.proofs.TableLemmas.{IsWordOf}
-use Rattle.block_table.proofs.Installed.{EachFits, each_fits, find-copies, installed-all}
-use Rattle.heap_data.specs.HeapValue.{nursery_count}
-use Rattle.heap_data.specs.BlockObjects.{copies_of}
-use Rattle.heap_data.specs.CollectionValue.{IsNumbering}
-use Rattle.heap_data.specs.Numbering.{NumberingValue}
+use Rattle.nursery.specs.Installed.{installed}
+use Rattle.nursery.specs.Table.{slot_objects}
+use Rattle.nursery.proofs.TableLemmas.{IsWordOf}
+use Rattle.nursery.proofs.Installed.{EachFits, each_fits, find-copies, installed-all}
+use Rattle.steps.specs.HeapValue.{nursery_count}
+use Rattle.steps.specs.BlockObjects.{copies_of}
+use Rattle.steps.specs.CollectionValue.{IsNumbering}
+use Rattle.steps.specs.Numbering.{NumberingValue}
 use Rattle.large_objects.specs.LargeValue.{LargeObject, LargeValue, large_at}
 use Rattle.large_objects.specs.PoolBlocks.{blocks_at}
-use Rattle.heap_graph.specs.WithLarge.{large_object}
-use Rattle.heap_graph.proofs.WithLarge.{get-small}
-use Rattle.heap_space.specs.Space.{SpaceValue, IsSpace}
-use Rattle.heap_space.specs.Collecting.{HoldsNone, StandsYoung, IsReplaced as AreReplaced}
+use Rattle.heap_objects.specs.WithLarge.{large_object}
+use Rattle.heap_objects.proofs.WithLarge.{get-small}
+use Rattle.heap_objects.specs.Space.{SpaceValue, IsSpace}
+use Rattle.heap_objects.specs.HeapSpaceCollecting.{HoldsNone, StandsYoung, IsReplaced as AreReplaced}
 use Rattle.heap_objects.specs.Objects.{objects_of, graph_in}
 use Rattle.heap_objects.specs.Inside.{AreApart, IsLargeObject}
 use Rattle.heap_objects.specs.Renewing.{at_dest, renewed}

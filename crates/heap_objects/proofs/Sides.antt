@@ -12,9 +12,9 @@ use Rattle.model.proofs.Rising.{KeysRise, KeysBelow, find_below}
 use Rattle.model.proofs.RisingKeys.{entries-rise}
 use Rattle.layout.specs.Place.{small_word, large_word}
 use Rattle.large_objects.specs.LargeValue.{LargeObject, LargeValue, large_at}
-use Rattle.heap_graph.specs.WithLarge.{large_object, large_entries, with_large}
-use Rattle.heap_graph.proofs.WithLarge.{FoundLarge, found_large, get-with_large, get-small, get-large, entries-with_large}
-use Rattle.heap_space.specs.Space.{SpaceValue, IsSpace}
+use Rattle.heap_objects.specs.WithLarge.{large_object, large_entries, with_large}
+use Rattle.heap_objects.proofs.WithLarge.{FoundLarge, found_large, get-with_large, get-small, get-large, entries-with_large}
+use Rattle.heap_objects.specs.Space.{SpaceValue, IsSpace}
 
 below_all : {X : Type 0} (low high : ℕ) (es : List (ℕ × X)) → KeysRise low es → ((q : ℕ) (x : X) → find nat_cmp q es ≡ Some x → q < high) → KeysBelow high es
 below_all low high [] rise each = tt

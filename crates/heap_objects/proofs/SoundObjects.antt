@@ -11,13 +11,13 @@ use Rattle.model.specs.Graph.{Object, size_of, is_large}
 use Rattle.model.specs.Reached.{has}
 use Rattle.model.proofs.Options.{some_not_none}
 use Rattle.layout.specs.Place.{small_word, large_word}
-use Rattle.heap_data.specs.CollectedHeap.{IsFreeBlock, HoldsObject}
-use Rattle.heap_data.specs.Words.{target_of_word}
+use Rattle.steps.specs.CollectedHeap.{IsFreeBlock, HoldsObject}
+use Rattle.steps.specs.Words.{target_of_word}
 use Rattle.large_objects.specs.LargeValue.{LargeObject, LargeValue, large_at, InUse}
 use Rattle.large_objects.specs.PoolBlocks.{blocks_of, blocks_at}
-use Rattle.heap_graph.specs.WithLarge.{large_object}
-use Rattle.heap_space.specs.Space.{SpaceValue}
-use Rattle.heap_space.specs.Collecting.{HoldsNone}
+use Rattle.heap_objects.specs.WithLarge.{large_object}
+use Rattle.heap_objects.specs.Space.{SpaceValue}
+use Rattle.heap_objects.specs.HeapSpaceCollecting.{HoldsNone}
 use Rattle.heap_objects.specs.Objects.{objects_of, graph_in, heap_in}
 use Rattle.heap_objects.specs.Blocks.{HaveBlocks}
 use Rattle.heap_objects.specs.Sound.{IsHeapObject, IsWellPlaced, AreObjects}

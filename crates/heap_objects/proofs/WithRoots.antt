@@ -3,8 +3,8 @@ use Rattle.std.proofs.Common.{ℕ, List}
 use Rattle.std.specs.Ordering.{nat_cmp}
 use Rattle.std.specs.FinMap.{FinMap}
 use Rattle.model.specs.Graph.{Object}
-use Rattle.heap_data.specs.HeapValue.{HeapValue}
-use Rattle.heap_data.specs.CollectedHeap.{HoldsObject, IsFreeBlock}
+use Rattle.steps.specs.HeapValue.{HeapValue}
+use Rattle.steps.specs.CollectedHeap.{HoldsObject, IsFreeBlock}
 use Rattle.heap_objects.specs.Objects.{ObjectsValue}
 use Rattle.heap_objects.specs.Blocks.{HasBlocks}
 use Rattle.heap_objects.specs.Sound.{AreObjects}

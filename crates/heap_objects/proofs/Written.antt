@@ -11,13 +11,13 @@ use Rattle.layout.specs.declared.place.Place.{Place}
 use Rattle.layout.specs.Place.{large_word, place_word, pointer_word}
 use Rattle.block_pool.specs.BlockValue.{with_pointer_word, with_plain_word}
 use Rattle.block_pool.specs.PoolValue.{PoolValue}
-use Rattle.heap_data.specs.Words.{target_of_word}
+use Rattle.steps.specs.Words.{target_of_word}
 use Rattle.large_objects.specs.LargeValue.{LargeObject, LargeValue, InUse, large_at, with_object, block_count}
 use Rattle.large_objects.specs.PoolBlocks.{ArePoolBlocks}
-use Rattle.heap_graph.specs.WithLarge.{large_object, with_large}
-use Rattle.heap_graph.proofs.WithLarge.{get-small}
-use Rattle.heap_space.specs.Space.{SpaceValue, IsSpace, pool_in}
-use Rattle.heap_space.proofs.FieldWrites.{some_and, target_of_pointer}
+use Rattle.heap_objects.specs.WithLarge.{large_object, with_large}
+use Rattle.heap_objects.proofs.WithLarge.{get-small}
+use Rattle.heap_objects.specs.Space.{SpaceValue, IsSpace, pool_in}
+use Rattle.heap_objects.proofs.FieldWrites.{some_and, target_of_pointer}
 use Rattle.heap_objects.specs.Inside.{AreApart, IsLargeObject}
 use Rattle.heap_objects.specs.Objects.{ObjectsValue, objects_of}
 use Rattle.heap_objects.proofs.Sides.{none_large, at_large}

@@ -8,7 +8,7 @@ use Rattle.std.specs.Prelude.{count_by, nat_le, nat_lt, slice_index, slice_index
 use Rattle.model.proofs.Options.{some_is, some_not_none}
 use Rattle.layout.specs.Place.{large_word}
 use Rattle.large_objects.specs.LargeValue.{LargeObject}
-use Rattle.heap_data.specs.CollectionValue.{rank_below}
+use Rattle.steps.specs.CollectionValue.{rank_below}
 use Rattle.heap_objects.specs.Large.{is_young_slot, young_before}
 
 -- the names of those of generation at most g, where the first has this number

@@ -4,8 +4,8 @@ use Rattle.std.specs.List.{IsDistinct}
 use Rattle.std.specs.FinMap.{get}
 use Rattle.model.specs.Graph.{Object, object_at, size_of, is_large}
 use Rattle.model.specs.Reached.{has}
-use Rattle.heap_data.specs.HeapValue.{HeapValue, nursery_count}
-use Rattle.heap_data.specs.CollectedHeap.{HoldsObject}
+use Rattle.steps.specs.HeapValue.{HeapValue, nursery_count}
+use Rattle.steps.specs.CollectedHeap.{HoldsObject}
 use Rattle.large_objects.specs.LargeValue.{block_count}
 
 -- exactly as many blocks of the pool as hold the large object, each once, and no small object stands in one

@@ -10,9 +10,9 @@ use Rattle.model.specs.Store.{full_rooms}
 use Rattle.layout.specs.Place.{large_word}
 use Rattle.layout.specs.declared.place.Place.{Place}
 use Rattle.block_pool.specs.BlockValue.{BlockValue}
-use Rattle.heap_data.specs.BlockObjects.{copies_of}
-use Rattle.heap_data.specs.CollectionValue.{rank_below, young_names}
-use Rattle.block_table.specs.Table.{IsHeapBlock}
+use Rattle.steps.specs.BlockObjects.{copies_of}
+use Rattle.steps.specs.CollectionValue.{rank_below, young_names}
+use Rattle.nursery.specs.Table.{IsHeapBlock}
 use Rattle.heap_objects.specs.Objects.{ObjectsValue, graph_in}
 
 -- the name's number among those of generation at most g

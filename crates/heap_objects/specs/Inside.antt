@@ -4,12 +4,12 @@ use Rattle.model.specs.Config.{Config}
 use Rattle.model.specs.Destination.{IsStep}
 use Rattle.model.specs.Graph.{is_large, size_of}
 use Rattle.model.specs.Reached.{has}
-use Rattle.heap_data.specs.HeapValue.{nursery_count}
+use Rattle.steps.specs.HeapValue.{nursery_count}
 use Rattle.large_objects.specs.LargeValue.{LargeObject, LargeValue, InUse, large_at, block_count}
 use Rattle.large_objects.specs.PoolBlocks.{ArePoolBlocks, blocks_at}
-use Rattle.heap_graph.specs.WithLarge.{large_object}
-use Rattle.heap_space.specs.Space.{SpaceValue, IsSpace, pool_in}
-use Rattle.heap_space.specs.Collecting.{HoldsNone}
+use Rattle.heap_objects.specs.WithLarge.{large_object}
+use Rattle.heap_objects.specs.Space.{SpaceValue, IsSpace, pool_in}
+use Rattle.heap_objects.specs.HeapSpaceCollecting.{HoldsNone}
 
 -- a large object of a heap of these sizes
 pub record IsLargeObject (config : Config) (o : LargeObject) : Type 0 where

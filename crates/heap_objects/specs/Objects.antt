@@ -11,10 +11,10 @@ use Rattle.model.specs.Room.{Room, room_after}
 use Rattle.model.specs.Store.{full_rooms}
 use Rattle.layout.specs.Header.{size_of}
 use Rattle.layout.specs.Place.{large_word}
-use Rattle.heap_data.specs.HeapValue.{HeapValue, room_code, nursery_count}
+use Rattle.steps.specs.HeapValue.{HeapValue, room_code, nursery_count}
 use Rattle.large_objects.specs.LargeValue.{LargeObject, LargeValue, block_count}
-use Rattle.heap_graph.specs.WithLarge.{with_large}
-use Rattle.heap_space.specs.Space.{SpaceValue}
+use Rattle.heap_objects.specs.WithLarge.{with_large}
+use Rattle.heap_objects.specs.Space.{SpaceValue}
 
 -- the objects; the room of each mutator's nursery; the free blocks, rising; the blocks of each large object
 pub record ObjectsValue : Type 0 where

@@ -7,9 +7,9 @@ use Rattle.model.specs.Graph.{Object, object_at, is_large}
 use Rattle.model.specs.Reached.{has}
 use Rattle.layout.specs.Place.{large_word}
 use Rattle.steps.specs.ConfigRange.{IsInRange}
-use Rattle.heap_data.specs.HeapValue.{HeapValue}
-use Rattle.heap_data.specs.CollectedHeap.{IsFreeBlock}
-use Rattle.heap_space.specs.Space.{IsRoom, IsPlace}
+use Rattle.steps.specs.HeapValue.{HeapValue}
+use Rattle.steps.specs.CollectedHeap.{IsFreeBlock}
+use Rattle.heap_objects.specs.Space.{IsRoom, IsPlace}
 use Rattle.heap_objects.specs.Blocks.{HaveBlocks}
 
 -- an object that a heap may hold: at a step of the shape, with at most so many pointers and plain words

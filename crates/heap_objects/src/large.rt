@@ -3,13 +3,13 @@ ghost use Rattle.std.specs.Prelude.{◌≡◌, ℕ, ◌+◌, ◌*◌, ◌<◌, �
 ghost use Rattle.std.specs.Option.{option_map_or};
 ghost use Rattle.model.specs.Graph.{size_of};
 ghost use Rattle.large_objects.specs.LargeValue.{LargeObject, large_at};
-ghost use Rattle.heap_graph.specs.WithLarge.{large_object, large_entries};
+ghost use Rattle.heap_objects.specs.WithLarge.{large_object, large_entries};
 ghost use Rattle.heap_objects.specs.Large.{young_before, CoversYoungLarge, AreInRange};
 
-use heap_data::LargeCount;
 use large_objects::LargeTable;
 use layout::LargeNumber;
 use std::alloc::{AllocError, Allocator};
+use steps::heap_data::LargeCount;
 
 /// Whether the large object with a number is of generation at most `g`.
 fn is_young<A: Allocator>(large: &LargeTable<A>, number: LargeNumber, g: u8) -> bool

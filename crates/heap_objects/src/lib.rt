@@ -1,6 +1,8 @@
 //! The objects of a heap: small ones in blocks, and large ones beside them.
 #![tactic(auto)]
 
+mod heap_graph;
+mod heap_space;
 mod large;
 mod objects;
 mod renewing;

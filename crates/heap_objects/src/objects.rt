@@ -9,27 +9,27 @@ ghost use Rattle.layout.specs.Place.{place_word, large_word};
 ghost use Rattle.layout.specs.ObjectRef.{raw_of};
 ghost use Rattle.steps.specs.ConfigRange.{IsInRange};
 ghost use Rattle.steps.specs.StepPairs.{step_pair, stands_at};
-ghost use Rattle.heap_data.specs.HeapValue.{nursery_count};
-ghost use Rattle.heap_data.specs.Remembered.{is_holder};
-ghost use Rattle.heap_data.specs.Words.{IsShownAs};
-ghost use Rattle.heap_data.specs.CensusView.{step_value};
-ghost use Rattle.heap_data.specs.SlotView.{slot_value};
-ghost use Rattle.heap_data.specs.CollectionValue.{IsNumbering, young_names, field_slot_of};
-ghost use Rattle.heap_graph.specs.HeapGraph.{slots_at};
+ghost use Rattle.steps.specs.HeapValue.{nursery_count};
+ghost use Rattle.steps.specs.Remembered.{is_holder};
+ghost use Rattle.steps.specs.Words.{IsShownAs};
+ghost use Rattle.steps.specs.CensusView.{step_value};
+ghost use Rattle.steps.specs.SlotView.{slot_value};
+ghost use Rattle.steps.specs.CollectionValue.{IsNumbering, young_names, field_slot_of};
+ghost use Rattle.heap_objects.specs.HeapGraph.{slots_at};
 ghost use Rattle.heap_objects.specs.Objects.{AllocatesSmall, AllocatesLarge, wanted, empty_objects, room_in, graph_in, heap_in};
 ghost use Rattle.heap_objects.specs.Sound.{AreObjects};
 ghost use Rattle.heap_objects.specs.Collecting.{IsNumbered, CanReplace, IsReplaced, NoLargeFrom, IsNextLarge};
 
+use crate::heap_graph::{count_remembered, is_holder, push_slots_of};
+use crate::heap_space::Space;
 use crate::large::{count_large, large_numbers};
 use crate::renewing::renew;
 use block_pool::{Block, GrantError, RankedSet};
-use heap_data::{LargeCount, Numbering, Slot, StepCount};
-use heap_graph::{count_remembered, is_holder, push_slots_of};
-use heap_space::Space;
 use large_objects::LargeTable;
 use layout::{LargeNumber, ObjectRef, Place, word_of};
 use std::alloc::{AllocError, Allocator, Global};
 use std::marker::Model;
+use steps::heap_data::{LargeCount, Numbering, Slot, StepCount};
 use steps::{Config, StepId};
 
 /// The objects of a heap. Small ones stand in blocks, one after the other. Each large one has blocks of its own, and never

@@ -5,7 +5,7 @@ ghost use Rattle.large_objects.specs.LargeValue.{LargeObject, InUse, large_at};
 ghost use Rattle.heap_objects.specs.Inside.{AreApart};
 ghost use Rattle.heap_objects.specs.Renewing.{renewed, CoversNumbers};
 
-use heap_space::Space;
+use crate::heap_space::Space;
 use large_objects::LargeTable;
 use layout::{LargeNumber, Place};
 use std::alloc::Allocator;

@@ -4,8 +4,8 @@ ghost use Rattle.std.specs.Io.KnownBytes.{Appends};
 ghost use Rattle.model.specs.Text.{step_line, census_text};
 ghost use Rattle.heap.specs.CensusView.{step_value};
 
+use crate::byte_streams::{Sink, write_all};
 use crate::error::WriteError;
-use byte_streams::{Sink, write_all};
 use heap::{Census, StepCount};
 use std::alloc::{AllocError, Allocator};
 use std::fmt::Write;

@@ -5,9 +5,9 @@ ghost use Rattle.arrayvec.specs.ArrayString.{array_string_len};
 ghost use Rattle.model.specs.Text.{collection_line};
 ghost use Rattle.heap_text.specs.CollectionLine.{cause_word};
 
+use crate::byte_streams::{Sink, WriteFailed, write_all};
 use crate::cause::Cause;
 use arrayvec::ArrayString;
-use byte_streams::{Sink, WriteFailed, write_all};
 use itoa::Buffer;
 
 /// Room for the line of a collection.

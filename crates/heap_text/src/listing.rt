@@ -10,9 +10,9 @@ ghost use Rattle.heap.specs.Words.{target_of_word};
 ghost use Rattle.heap_text.specs.HeapLines.{name_value, object_of_name, named_objects, heap_lines};
 ghost use Rattle.heap_text.specs.Numbering.{HasAllObjects, IsNumbering, IsClosedOrder, LeadsToNumbered};
 
+use crate::byte_streams::{Sink, write_all};
 use crate::error::WriteError;
 use crate::numbering::{Numbering, number_objects, target_of};
-use byte_streams::{Sink, write_all};
 use heap::{Collection, Heap, OpenError, RootId};
 use layout::Place;
 use std::alloc::{AllocError, Allocator};

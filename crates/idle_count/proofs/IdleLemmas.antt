@@ -7,8 +7,8 @@ use lib.ListN.{get_elem?}
 use prog.Atomic.{either}
 use Rattle.atomic_table.specs.Table.{State, Me, step, keeps, stepped, Seen, Allows, Splits, Joins}
 use Rattle.atomic_table.proofs.Lists.{at_set, at_snoc}
-use Rattle.views.specs.Total.{total}
-use Rattle.views.proofs.Totals.{total-set, total-same, total-snoc, total-at, total-below, total-whole}
+use Rattle.model.specs.Total.{total}
+use Rattle.model.proofs.Totals.{total-set, total-same, total-snoc, total-at, total-below, total-whole}
 use Rattle.idle_count.specs.declared.idle_plays.Share.{Share}
 use Rattle.idle_count.specs.Idled.{share, idles_in, IsSound, IsKept, newcomer, dealt, both, spent, Rested, Looked, after_wake, Woke}
 

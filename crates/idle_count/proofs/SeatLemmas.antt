@@ -5,7 +5,7 @@ use Rattle.std.proofs.lemmas.List.Elements.{All-pop, All-nil, All-cons, All-same
 use Rattle.std.proofs.lemmas.List.Sums.{sum_by_push, sum_by-cons, count_by-le-length}
 use Rattle.std.specs.List.{All, count_by}
 use Rattle.atomic_table.specs.Seated.{TableId}
-use Rattle.views.specs.Total.{one_if}
+use Rattle.model.specs.Total.{one_if}
 use Rattle.idle_count.specs.declared.idle_plays.Share.{Share}
 use Rattle.idle_count.proofs.IdleLemmas.{IsEnd}
 use Rattle.idle_count.specs.IdleValue.{IdleValue, IdleSeatValue, IsSeatOf, HasEnded}

@@ -3,7 +3,7 @@ use Rattle.std.specs.Prelude.{◌≡◌, ◌≢◌, ℕ, ◌+◌, ◌-◌, ◌<�
 use mathlib.Core.Option.{some}
 use lib.ListN.{get_elem?}
 use Rattle.atomic_table.specs.Table.{State, Me, Step}
-use Rattle.views.specs.Total.{total, one_if}
+use Rattle.model.specs.Total.{total, one_if}
 use Rattle.idle_count.specs.declared.idle_plays.Share.{Share}
 
 abbrev pub share : ℕ → ℕ → ℕ → ℕ → ℕ → Share

@@ -1,7 +1,7 @@
 //! The count of idle seats, and the seats.
 ghost use Rattle.std.specs.Prelude.{◌≡◌, ◌+◌, ◌<◌, ◌≤◌, ◌++◌, ◌∷◌, ◌↔◌, [], true, false, length, not, IfOk};
 ghost use Rattle.std.specs.List.{All, count_by};
-ghost use Rattle.views.specs.Total.{one_if};
+ghost use Rattle.model.specs.Total.{one_if};
 ghost use Rattle.idle_count.specs.Idled.{share};
 ghost use Rattle.idle_count.specs.IdleValue.{IsSeatOf, HasEnded, busy};
 ghost use Rattle.idle_count.specs.declared.polled.Polled.TheVariants.{Ended};

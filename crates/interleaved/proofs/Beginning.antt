@@ -8,15 +8,15 @@ use Rattle.std.proofs.lemmas.List.{map-append}
 use Rattle.std.proofs.lemmas.List.Elements.{All-head}
 use Rattle.std.proofs.lemmas.List.FromFn.{length-range_with_len, get_or-range_with_len}
 use Rattle.layout.specs.declared.place.Place.{Place}
-use Rattle.claims.specs.ClaimsValue.{SeatValue, unused}
-use Rattle.plain_cells.specs.Plain.{PlainPassValue, IsFit, IsWinOf, place_held, empty_cells}
-use Rattle.plain_cells.specs.Plain.{PlainValue as PlainCellsValue}
-use Rattle.plain_cells.specs.declared.held.Held.{Held}
-use Rattle.plain_queues.specs.PlainValue.{PlainLane, empty_lane, new_pending}
-use Rattle.plain_queues.specs.PlainValue.{PlainValue as PlainQueuesValue}
-use Rattle.heap_data.specs.HeapValue.{HeapValue}
-use Rattle.heap_data.specs.CollectionValue.{CollectionValue}
-use Rattle.copies.specs.Handed.{CopiesKeyValue}
+use Rattle.block_pool.specs.ClaimsValue.{SeatValue, unused}
+use Rattle.forwarding.specs.Plain.{PlainPassValue, IsFit, IsWinOf, place_held, empty_cells}
+use Rattle.forwarding.specs.Plain.{PlainValue as PlainCellsValue}
+use Rattle.forwarding.specs.declared.plain_cells.held.Held.{Held}
+use Rattle.pending_queues.specs.PlainValue.{PlainLane, empty_lane, new_pending}
+use Rattle.pending_queues.specs.PlainValue.{PlainValue as PlainQueuesValue}
+use Rattle.steps.specs.HeapValue.{HeapValue}
+use Rattle.steps.specs.CollectionValue.{CollectionValue}
+use Rattle.scavenge.specs.Handed.{CopiesKeyValue}
 use Rattle.workers.specs.Block.{Block}
 use Rattle.workers.specs.Worker.{Worker}
 use Rattle.workers.specs.WorkerRun.{WorkerRun, stay, no_history}

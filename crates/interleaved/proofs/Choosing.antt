@@ -6,7 +6,7 @@ use Rattle.std.proofs.lemmas.Option.{slice_get-get_or}
 use Rattle.workers.specs.Block.{Block}
 use Rattle.workers.specs.System.{System, Event}
 use Rattle.workers.specs.Lawful.{AllEnded, HasQueued, lowest_unset, next_of_worker, queue_at}
-use Rattle.heap_data.specs.HeapValue.{HeapValue}
+use Rattle.steps.specs.HeapValue.{HeapValue}
 use Rattle.scavenge.specs.Slots.{objects_of}
 use Rattle.std.specs.Option.{option_map, option_map_or}
 use Rattle.interleaved.specs.InterleavedValue.{InterleavedValue, MemberValue, worker_of, system_of, setting_in}

@@ -3,9 +3,9 @@ use Rattle.std.proofs.Common.{◌≡◌, ℕ, ◌<◌, true, false, List, [], �
 use Rattle.std.specs.Prelude.{slice_get, slice_set, slice_index_or}
 use Rattle.model.specs.Destination.{Shape}
 use Rattle.block_pool.specs.BlockValue.{BlockValue}
-use Rattle.plain_queues.specs.PlainValue.{PlainLane, lane_at, front_of, with_export, with_taker, after_export, after_take}
-use Rattle.plain_queues.specs.PlainValue.{PlainValue as PlainQueuesValue}
-use Rattle.copies.specs.Handed.{CopiesKeyValue, IsHandedFor}
+use Rattle.pending_queues.specs.PlainValue.{PlainLane, lane_at, front_of, with_export, with_taker, after_export, after_take}
+use Rattle.pending_queues.specs.PlainValue.{PlainValue as PlainQueuesValue}
+use Rattle.scavenge.specs.Handed.{CopiesKeyValue, IsHandedFor}
 use Rattle.workers.specs.Block.{updated}
 use Rattle.workers.specs.WorkerSteps.{after_aside}
 use Rattle.workers.specs.WorkerSteps.{after_take as after_take_of}
@@ -13,7 +13,7 @@ use Rattle.workers.specs.WorkerRun.{Exported, Took}
 use Rattle.workers.specs.System.{System, Export, Take}
 use Rattle.workers.specs.Lawful.{IsLawful}
 use Rattle.workers.specs.Ready.{IsHanded}
-use Rattle.to_space.specs.Named.{named}
+use Rattle.scavenge.specs.Named.{named}
 use Rattle.scavenge.specs.Shown.{WorkspaceValue, Begins}
 use Rattle.interleaved.specs.InterleavedValue.{InterleavedValue, MemberValue, Stays, queue_in, exports_in, system_of, setting_in}
 use Rattle.interleaved.specs.IsInterleaved.{IsInterleaved, IsLane, IsMember}

@@ -4,12 +4,12 @@ use Rattle.std.specs.Prelude.{slice_get, slice_set}
 use Rattle.std.proofs.lemmas.List.{map-append, drop-append-le}
 use Rattle.model.specs.Destination.{Shape, dest_count}
 use Rattle.block_pool.specs.BlockValue.{BlockValue}
-use Rattle.exports.specs.Labelled.{labelled}
-use Rattle.plain_queues.specs.PlainValue.{PlainLane, empty_lane, lane_at, front_of, with_export, with_taker}
-use Rattle.plain_queues.specs.PlainValue.{PlainValue as PlainQueuesValue}
-use Rattle.heap_data.specs.HeapValue.{HeapValue}
-use Rattle.heap_data.specs.CollectionValue.{CollectionValue, target_of_slot}
-use Rattle.copies.specs.Handed.{CopiesKeyValue, IsHandedFor}
+use Rattle.pending_queues.specs.Labelled.{labelled}
+use Rattle.pending_queues.specs.PlainValue.{PlainLane, empty_lane, lane_at, front_of, with_export, with_taker}
+use Rattle.pending_queues.specs.PlainValue.{PlainValue as PlainQueuesValue}
+use Rattle.steps.specs.HeapValue.{HeapValue}
+use Rattle.steps.specs.CollectionValue.{CollectionValue, target_of_slot}
+use Rattle.scavenge.specs.Handed.{CopiesKeyValue, IsHandedFor}
 use Rattle.workers.specs.Block.{Block, has_unscanned}
 use Rattle.workers.specs.Joined.{Each}
 use Rattle.workers.specs.Ready.{IsHanded}
@@ -17,7 +17,7 @@ use Rattle.workers.specs.Kept.{LiveOrOlder}
 use Rattle.workers.proofs.Starts.{opens, opening_each}
 use Rattle.workers.proofs.ReadyRuns.{exports_handed}
 use Rattle.workers.proofs.ReadyLemmas.{handed_alike, handed_labelled}
-use Rattle.to_space.specs.Named.{named, IsWhole}
+use Rattle.scavenge.specs.Named.{named, IsWhole}
 use Rattle.scavenge.specs.Shown.{Begins}
 use Rattle.serial.specs.SerialValue.{waiting_in}
 use Rattle.serial.specs.IsSerial.{IsReadyToCollect}

@@ -4,18 +4,18 @@ use Rattle.std.specs.Prelude.{IsTrue, IsSome, slice_get, slice_index_or}
 use Rattle.std.proofs.lemmas.Option.{slice_get-get_or}
 use Rattle.model.specs.Destination.{Shape}
 use Rattle.block_pool.specs.BlockValue.{BlockValue}
-use Rattle.plain_queues.specs.PlainValue.{PlainLane, lane_at, front_of}
+use Rattle.pending_queues.specs.PlainValue.{PlainLane, lane_at, front_of}
 use Rattle.workers.specs.Block.{Block}
 use Rattle.workers.specs.Worker.{Worker}
 use Rattle.workers.specs.Lawful.{MayAct, HasQueued, lowest_open}
 use Rattle.workers.specs.WorkerSteps.{IsFree, IsOutOfWork, CanLook, CanScan}
 use Rattle.model.specs.Graph.{IsClosed}
-use Rattle.heap_data.specs.HeapValue.{HeapValue}
-use Rattle.heap_data.specs.NamesArePlaces.{NamesArePlaces}
+use Rattle.steps.specs.HeapValue.{HeapValue}
+use Rattle.steps.specs.NamesArePlaces.{NamesArePlaces}
 use Rattle.heap.proofs.SoundHeap.{heap_closed, heap_places}
 use Rattle.scavenge.specs.Slots.{objects_of, IsUntouched}
 use Rattle.serial.proofs.OpenBlocks.{none_there, open_there}
-use Rattle.to_space.specs.Named.{named}
+use Rattle.scavenge.specs.Named.{named}
 use Rattle.interleaved.specs.InterleavedValue.{InterleavedValue, MemberValue, worker_of, queue_in, system_of, setting_in}
 use Rattle.interleaved.specs.IsInterleaved.{IsInterleaved}
 use Rattle.interleaved.proofs.Places.{found, get-map, get-within, length-map, index-or}

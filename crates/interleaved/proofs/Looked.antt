@@ -6,12 +6,12 @@ use Rattle.std.specs.Ordering.{nat_cmp}
 use Rattle.std.specs.FinMap.{find}
 use Rattle.model.specs.Graph.{IsClosed}
 use Rattle.layout.specs.declared.place.Place.{Place}
-use Rattle.claims.specs.ClaimsValue.{SeatValue, IsSeatOf}
-use Rattle.plain_cells.specs.Plain.{PlainPassValue, IsFit, place_held, known_by}
-use Rattle.plain_cells.specs.Plain.{PlainValue as PlainCellsValue}
-use Rattle.heap_data.specs.HeapValue.{HeapValue}
-use Rattle.heap_data.specs.CollectionValue.{CollectionValue}
-use Rattle.heap_data.specs.NamesArePlaces.{NamesArePlaces}
+use Rattle.block_pool.specs.ClaimsValue.{SeatValue, IsSeatOf}
+use Rattle.forwarding.specs.Plain.{PlainPassValue, IsFit, place_held, known_by}
+use Rattle.forwarding.specs.Plain.{PlainValue as PlainCellsValue}
+use Rattle.steps.specs.HeapValue.{HeapValue}
+use Rattle.steps.specs.CollectionValue.{CollectionValue}
+use Rattle.steps.specs.NamesArePlaces.{NamesArePlaces}
 use Rattle.heap.proofs.SoundHeap.{heap_closed, heap_places}
 use Rattle.workers.specs.Setting.{Setting}
 use Rattle.workers.specs.Worker.{Worker}

@@ -1,13 +1,13 @@
 -- A machine of which one member changed.
 use Rattle.std.proofs.Common.{◌≡◌, ℕ, Bool, List, map, Some, Result, Ok, Err, refl, sym, ap, subst, ◌∙◌}
 use Rattle.std.specs.Prelude.{slice_get, slice_set, slice_index_or, count_by, OnOk, OnErr}
-use Rattle.claims.specs.ClaimsValue.{SeatValue}
-use Rattle.plain_cells.specs.Plain.{PlainPassValue}
-use Rattle.plain_cells.specs.Plain.{PlainValue as PlainCellsValue}
-use Rattle.plain_queues.specs.PlainValue.{PlainValue as PlainQueuesValue}
-use Rattle.heap_data.specs.HeapValue.{HeapValue}
-use Rattle.heap_data.specs.CollectionValue.{CollectionValue}
-use Rattle.copies.specs.Handed.{CopiesKeyValue}
+use Rattle.block_pool.specs.ClaimsValue.{SeatValue}
+use Rattle.forwarding.specs.Plain.{PlainPassValue}
+use Rattle.forwarding.specs.Plain.{PlainValue as PlainCellsValue}
+use Rattle.pending_queues.specs.PlainValue.{PlainValue as PlainQueuesValue}
+use Rattle.steps.specs.HeapValue.{HeapValue}
+use Rattle.steps.specs.CollectionValue.{CollectionValue}
+use Rattle.scavenge.specs.Handed.{CopiesKeyValue}
 use Rattle.workers.specs.Block.{Block}
 use Rattle.workers.specs.Worker.{Worker}
 use Rattle.workers.specs.WorkerRun.{History, Act, after, CanAct, noted, go}

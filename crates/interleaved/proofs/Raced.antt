@@ -10,13 +10,13 @@ use Rattle.model.specs.OldSlots.{is_young_name}
 use Rattle.model.proofs.RisingKeys.{same_index, keys-filter_rise}
 use Rattle.layout.specs.declared.place.Place.{Place}
 use Rattle.layout.specs.Place.{place_word}
-use Rattle.cells.specs.declared.outcome.Outcome.{Outcome}
-use Rattle.cells.specs.declared.outcome.Outcome.TheVariants.{Won, Lost}
-use Rattle.cells.specs.Learned.{RaceEnds}
-use Rattle.plain_cells.specs.Plain.{PlainPassValue, IsFit, RacesTo, place_held, known_by}
-use Rattle.plain_cells.specs.Plain.{PlainValue as PlainCellsValue}
-use Rattle.heap_data.specs.HeapValue.{HeapValue}
-use Rattle.heap_data.specs.CollectionValue.{CollectionValue, young_names}
+use Rattle.forwarding.specs.declared.cells.outcome.Outcome.{Outcome}
+use Rattle.forwarding.specs.declared.cells.outcome.Outcome.TheVariants.{Won, Lost}
+use Rattle.forwarding.specs.Learned.{RaceEnds}
+use Rattle.forwarding.specs.Plain.{PlainPassValue, IsFit, RacesTo, place_held, known_by}
+use Rattle.forwarding.specs.Plain.{PlainValue as PlainCellsValue}
+use Rattle.steps.specs.HeapValue.{HeapValue}
+use Rattle.steps.specs.CollectionValue.{CollectionValue, young_names}
 use Rattle.workers.specs.Setting.{is_large_name}
 use Rattle.workers.specs.Worker.{Worker, Proposal, Copied, Claimed}
 use Rattle.workers.specs.WorkerSteps.{after_race}

@@ -1,10 +1,10 @@
 -- Each state is reached by a run.
 use Rattle.std.proofs.Common.{◌≡◌, ℕ, ◌+◌, ◌<◌, cond, nat_eq, List, [], ◌∷◌, map, refl, sym, ap, subst, arith}
-use Rattle.claims.specs.Drawn.{times_in}
-use Rattle.claims.proofs.ClaimLemmas.{IsDistinct-rising, times-distinct}
+use Rattle.block_pool.specs.Drawn.{times_in}
+use Rattle.block_pool.proofs.ClaimLemmas.{IsDistinct-rising, times-distinct}
 use Rattle.model.specs.Destination.{dest_count}
-use Rattle.heap_data.specs.HeapValue.{HeapValue}
-use Rattle.heap_data.specs.CollectionValue.{CollectionValue, target_of_slot}
+use Rattle.steps.specs.HeapValue.{HeapValue}
+use Rattle.steps.specs.CollectionValue.{CollectionValue, target_of_slot}
 use Rattle.heap.proofs.SoundHeap.{heap_free}
 use Rattle.workers.specs.System.{System, Event, opening}
 use Rattle.workers.specs.Steps.{Run, stay}

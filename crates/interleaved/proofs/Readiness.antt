@@ -5,8 +5,8 @@ use Rattle.std.specs.Option.{option_map_or}
 use Rattle.model.specs.Graph.{Object, object_at}
 use Rattle.model.specs.Live.{IsYoung}
 use Rattle.model.specs.Destination.{dest_count}
-use Rattle.heap_data.specs.HeapValue.{HeapValue}
-use Rattle.heap_data.specs.CollectionValue.{CollectionValue, target_of_slot}
+use Rattle.steps.specs.HeapValue.{HeapValue}
+use Rattle.steps.specs.CollectionValue.{CollectionValue, target_of_slot}
 use Rattle.heap.proofs.SoundHeap.{heap_fields}
 use Rattle.workers.specs.Setting.{is_collected, destination_of, old_pointers}
 use Rattle.workers.specs.Joined.{Roomy}

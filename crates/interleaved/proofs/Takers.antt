@@ -3,7 +3,7 @@ use Rattle.std.proofs.Common.{◌≡◌, ◌≢◌, ℕ, zero, suc, List, [], �
 use Rattle.std.proofs.lemmas.Bool.{cases_eq}
 use Rattle.std.specs.Prelude.{slice_get, slice_set}
 use Rattle.block_pool.specs.BlockValue.{BlockValue}
-use Rattle.plain_queues.specs.PlainValue.{PlainLane, with_taker}
+use Rattle.pending_queues.specs.PlainValue.{PlainLane, with_taker}
 use Rattle.interleaved.specs.InterleavedValue.{MemberValue}
 use Rattle.interleaved.specs.IsInterleaved.{HasTaken, AreTakenBy}
 use Rattle.interleaved.proofs.Places.{set-each, get-set, get-set_other}

@@ -4,22 +4,22 @@ use Rattle.std.specs.Coded.{Coded, code_by, coded×, coded_list, coded_bool, cod
 use Rattle.model.specs.Destination.{Shape, dest_count}
 use Rattle.layout.specs.declared.place.Place.{Place}
 use Rattle.layout.specs.Place.{place_word}
-use Rattle.claims.specs.ClaimsValue.{ClaimsValue, SeatValue, claims_code, seat_code}
-use Rattle.heap_data.specs.HeapValue.{HeapValue, heap_code}
-use Rattle.heap_data.specs.CollectionValue.{CollectionValue, target_of_slot, young_names}
-use Rattle.heap_data.specs.CollectionCode.{collection_code}
-use Rattle.plain_cells.specs.Plain.{PlainPassValue}
-use Rattle.plain_cells.specs.Plain.{PlainValue as PlainCellsValue}
-use Rattle.plain_queues.specs.PlainValue.{PlainLane}
-use Rattle.plain_queues.specs.PlainValue.{PlainValue as PlainQueuesValue}
-use Rattle.copies.specs.Handed.{CopiesKeyValue}
+use Rattle.block_pool.specs.ClaimsValue.{ClaimsValue, SeatValue, claims_code, seat_code}
+use Rattle.steps.specs.HeapValue.{HeapValue, heap_code}
+use Rattle.steps.specs.CollectionValue.{CollectionValue, target_of_slot, young_names}
+use Rattle.steps.specs.CollectionCode.{collection_code}
+use Rattle.forwarding.specs.Plain.{PlainPassValue}
+use Rattle.forwarding.specs.Plain.{PlainValue as PlainCellsValue}
+use Rattle.pending_queues.specs.PlainValue.{PlainLane}
+use Rattle.pending_queues.specs.PlainValue.{PlainValue as PlainQueuesValue}
+use Rattle.scavenge.specs.Handed.{CopiesKeyValue}
 use Rattle.workers.specs.Block.{Block}
 use Rattle.workers.specs.Setting.{Setting, setting_of, is_large_name}
 use Rattle.workers.specs.Worker.{Worker}
 use Rattle.workers.specs.System.{System, Event, cell_of}
 use Rattle.workers.specs.WorkerSteps.{cell_wanted, draw_wanted}
 use Rattle.workers.specs.Steps.{Step, IsAwake}
-use Rattle.to_space.specs.Named.{named}
+use Rattle.scavenge.specs.Named.{named}
 use Rattle.scavenge.specs.Shown.{WorkspaceValue}
 use Rattle.scavenge.specs.Slots.{seen}
 use Rattle.serial.specs.SerialCode.{cells_code, pass_code, queues_code, workspace_code}

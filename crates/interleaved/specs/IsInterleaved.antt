@@ -5,14 +5,14 @@ use Rattle.std.specs.FinMap.{find}
 use Rattle.model.specs.Destination.{dest_count}
 use Rattle.layout.specs.Place.{IsLargeAt}
 use Rattle.block_pool.specs.BlockValue.{BlockValue}
-use Rattle.claims.specs.ClaimsValue.{ClaimsValue, SeatValue, IsSeatOf}
-use Rattle.plain_cells.specs.Plain.{PlainPassValue, IsFit, place_held}
-use Rattle.plain_cells.specs.Plain.{PlainValue as PlainCellsValue}
-use Rattle.plain_queues.specs.PlainValue.{PlainLane}
-use Rattle.plain_queues.specs.PlainValue.{PlainValue as PlainQueuesValue}
-use Rattle.heap_data.specs.HeapValue.{HeapValue}
-use Rattle.heap_data.specs.CollectionValue.{CollectionValue, target_of_slot}
-use Rattle.copies.specs.Handed.{CopiesKeyValue}
+use Rattle.block_pool.specs.ClaimsValue.{ClaimsValue, SeatValue, IsSeatOf}
+use Rattle.forwarding.specs.Plain.{PlainPassValue, IsFit, place_held}
+use Rattle.forwarding.specs.Plain.{PlainValue as PlainCellsValue}
+use Rattle.pending_queues.specs.PlainValue.{PlainLane}
+use Rattle.pending_queues.specs.PlainValue.{PlainValue as PlainQueuesValue}
+use Rattle.steps.specs.HeapValue.{HeapValue}
+use Rattle.steps.specs.CollectionValue.{CollectionValue, target_of_slot}
+use Rattle.scavenge.specs.Handed.{CopiesKeyValue}
 use Rattle.workers.specs.System.{opening_worker, idle_count}
 use Rattle.workers.specs.Worker.{Worker}
 use Rattle.workers.specs.WorkerRun.{WorkerRun, History}

@@ -1,5 +1,5 @@
 -- A collection by several workers on one thread, event by event.
-pub use Rattle.copies.specs.Handed
+pub use Rattle.scavenge.specs.Handed
 pub use Rattle.serial.specs.SerialCode
 pub use Rattle.serial.specs.IsSerial
 pub mod InterleavedValue

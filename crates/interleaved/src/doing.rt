@@ -1,7 +1,7 @@
 //! What one worker can do.
 ghost use Rattle.std.specs.Prelude.{◌≡◌, ◌≢◌, ◌↔◌, [], true, List, None, IsTrue};
 ghost use Rattle.model.specs.Graph.{IsClosed};
-ghost use Rattle.heap_data.specs.NamesArePlaces.{NamesArePlaces};
+ghost use Rattle.steps.specs.NamesArePlaces.{NamesArePlaces};
 ghost use Rattle.workers.specs.WorkerSteps.{CanLook, CanScan, IsFree, IsOutOfWork, has_open_work};
 ghost use Rattle.workers.specs.Lawful.{lowest_open, next_of_worker};
 ghost use Rattle.workers.specs.Block.{Block};

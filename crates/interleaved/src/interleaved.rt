@@ -1,10 +1,10 @@
 //! What a collection by several workers has.
 use crate::member::Member;
 use block_pool::{ClaimSeat, Claims};
-use copies::Copies;
+use forwarding::{PlainCells, PlainPass};
 use heap::{Collection, Heap};
-use plain_cells::{PlainCells, PlainPass};
-use plain_queues::PlainPending;
+use pending_queues::PlainPending;
+use scavenge::Copies;
 use std::alloc::{Allocator, Global};
 use std::marker::Model;
 use std::snapshot::Snapshot;

@@ -1,5 +1,5 @@
 //! One worker among several.
-use plain_queues::PlainSeat;
+use pending_queues::PlainSeat;
 use scavenge::Workspace;
 use std::alloc::{Allocator, Global};
 use std::marker::Model;

@@ -9,11 +9,10 @@ ghost use Rattle.interleaved.specs.IsInterleaved.{AreFirst};
 use crate::interleaved::InterleavedCollection;
 use crate::member::Member;
 use block_pool::Claims;
-use copies::CopiesKey;
+use forwarding::PlainCells;
 use heap::{Collection, Heap};
-use plain_cells::PlainCells;
-use plain_queues::{PlainPending, PlainSeat};
-use scavenge::Workspace;
+use pending_queues::{PlainPending, PlainSeat};
+use scavenge::{CopiesKey, Workspace};
 use std::alloc::{AllocError, Allocator};
 use std::snapshot::Snapshot;
 

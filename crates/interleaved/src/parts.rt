@@ -4,10 +4,9 @@ ghost use Rattle.interleaved.specs.IsInterleaved.{IsInterleaved};
 
 use crate::interleaved::InterleavedCollection;
 use crate::member::Member;
-use copies::Copies;
-use plain_cells::{PlainCells, PlainPass};
-use plain_queues::{PlainPending, PlainSeat};
-use scavenge::Workspace;
+use forwarding::{PlainCells, PlainPass};
+use pending_queues::{PlainPending, PlainSeat};
+use scavenge::{Copies, Workspace};
 use std::alloc::{Allocator, Global};
 
 /// The cells and what is known of them, the queues, and each worker.

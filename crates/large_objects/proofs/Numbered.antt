@@ -1,7 +1,7 @@
 -- What the flags of the numbers in use say of the objects.
 use Rattle.std.proofs.Common.{◌≡◌, ℕ, ◌≤◌, Bool, true, false, List, Option, Some, None, is_some, get_or, refl, sym, ◌∙◌}
 use Rattle.std.proofs.lemmas.Bool.{true≢false}
-use Rattle.number_sets.specs.Words.{NoneSetBetween}
+use Rattle.block_pool.specs.NumberSetsWords.{NoneSetBetween}
 use Rattle.large_objects.specs.LargeValue.{LargeObject, LargeValue, IsFirstFrom}
 use Rattle.large_objects.specs.Stored.{AreNumbered}
 

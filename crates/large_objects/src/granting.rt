@@ -5,9 +5,8 @@ ghost use Rattle.slab.specs.Slab.{HasRoomFor};
 ghost use Rattle.model.specs.Reached.{has};
 
 use crate::stored::StoredObject;
-use block_pool::Pool;
+use block_pool::{Flags, Pool};
 use layout::LargeNumber;
-use number_sets::Flags;
 use slab::Slab;
 use std::alloc::{AllocError, Allocator};
 

@@ -11,9 +11,8 @@ ghost use Rattle.large_objects.specs.PoolBlocks.{ArePoolBlocks, blocks_at};
 
 use crate::granting::{give_back_all, make_room, zeros};
 use crate::stored::StoredObject;
-use block_pool::{GrantError, Pool};
+use block_pool::{Flags, GrantError, Pool};
 use layout::{LargeNumber, MOST_FIELDS, ObjectRef};
-use number_sets::Flags;
 use slab::Slab;
 use std::alloc::{AllocError, Allocator, Global};
 use std::marker::Model;

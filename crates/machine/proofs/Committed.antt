@@ -5,15 +5,15 @@ use Rattle.layout.specs.declared.place.Place.{Place}
 use Rattle.model.specs.LiveCount.{LiveCount}
 use Rattle.model.specs.Destination.{dest_count}
 use Rattle.block_pool.specs.BlockValue.{BlockValue}
-use Rattle.heap_data.specs.HeapValue.{HeapValue}
-use Rattle.heap_data.specs.CollectionValue.{CollectionValue, young_names, target_of_slot, slots_of}
-use Rattle.heap_data.specs.CollectedHeap.{CollectedHeap}
-use Rattle.heap_data.specs.ReportValue.{WorkerLists, all_won, renaming_of}
-use Rattle.heap_data.specs.declared.report.Delivery.{Delivery}
+use Rattle.steps.specs.HeapValue.{HeapValue}
+use Rattle.steps.specs.CollectionValue.{CollectionValue, young_names, target_of_slot, slots_of}
+use Rattle.steps.specs.CollectedHeap.{CollectedHeap}
+use Rattle.steps.specs.ReportValue.{WorkerLists, all_won, renaming_of}
+use Rattle.steps.specs.declared.heap_data.report.Delivery.{Delivery}
 use Rattle.workers.specs.System.{opening}
 use Rattle.workers.specs.Steps.{Run}
-use Rattle.interleaved_settling.specs.Collects.{setting_at, opening_at}
-use Rattle.interleaved_settling.specs.Together.{RunsTogether, CollectsTogether}
+use Rattle.machine.specs.Collects.{setting_at, opening_at}
+use Rattle.machine.specs.Together.{RunsTogether, CollectsTogether}
 use Rattle.machine.specs.MachineValue.{MachineValue, HasReached, setting_in}
 use Rattle.machine.specs.Settles.{Settles}
 

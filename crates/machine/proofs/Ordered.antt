@@ -2,15 +2,15 @@
 use Rattle.std.proofs.Common.{◌≤◌, ℕ, List, arith}
 use Rattle.workers.specs.Lawful.{AllEnded}
 use Rattle.workers.specs.Alone.{AreEmpty}
-use Rattle.heap_data.specs.HeapValue.{HeapValue}
-use Rattle.heap_data.specs.CollectionValue.{CollectionValue}
+use Rattle.steps.specs.HeapValue.{HeapValue}
+use Rattle.steps.specs.CollectionValue.{CollectionValue}
 use Rattle.heap.proofs.SoundHeap.{heap_empty}
 use Rattle.interleaved.specs.InterleavedValue.{InterleavedValue, setting_in, destinations_in, targets_in, system_of}
-use Rattle.interleaved_settling.proofs.SettleBrings.{stands_has}
-use Rattle.run_orders.specs.Scans.{ScansInBlocks}
-use Rattle.run_orders.specs.Taken.{AreTakenInOrder}
-use Rattle.run_orders.proofs.Scans.{scans_in_order}
-use Rattle.run_orders.proofs.Taken.{taken_in_order}
+use Rattle.collector.proofs.SettleBrings.{stands_has}
+use Rattle.workers.specs.Scans.{ScansInBlocks}
+use Rattle.workers.specs.Taken.{AreTakenInOrder}
+use Rattle.workers.proofs.Scans.{scans_in_order}
+use Rattle.workers.proofs.Taken.{taken_in_order}
 use Rattle.machine.specs.MachineValue.{MachineValue, IsMachine, machine_of}
 
 module _ (heap : HeapValue) (c : CollectionValue) (v : InterleavedValue) (k : IsMachine heap c v) where

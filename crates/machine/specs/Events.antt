@@ -3,15 +3,15 @@ use Rattle.std.specs.Prelude.{◌≡◌, ℕ, ◌<◌, List, Some, length, take,
 use Rattle.model.specs.LiveCount.{LiveWords}
 use Rattle.model.specs.SpaceBound.{space_bound}
 use Rattle.model.specs.Destination.{dest_count}
-use Rattle.heap_data.specs.HeapValue.{HeapValue}
-use Rattle.heap_data.specs.CollectionValue.{IsOpened}
+use Rattle.steps.specs.HeapValue.{HeapValue}
+use Rattle.steps.specs.CollectionValue.{IsOpened}
 use Rattle.workers.specs.System.{Event}
 use Rattle.workers.specs.Steps.{Step, Run}
 use Rattle.workers.specs.Lawful.{IsLawful, IsRefused, next_lawful}
 use Rattle.workers.specs.Finish.{Stepped}
 use Rattle.machine.specs.declared.step_error.StepError.{StepError}
 use Rattle.machine.specs.declared.step_error.StepError.TheVariants.{NotLawful, HeapFull}
-use Rattle.interleaved_settling.specs.Collects.{opening_at}
+use Rattle.machine.specs.Collects.{opening_at}
 use Rattle.machine.specs.MachineValue.{MachineValue, setting_in}
 
 -- n workers before the first event of a collection of the generations 0 to g

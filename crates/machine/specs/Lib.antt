@@ -1,12 +1,17 @@
 -- A machine of several workers, event by event.
+
+-- How a collection by several workers ends.
+pub use Rattle.collector.specs.Collects
+pub use Rattle.collector.specs.Together
+pub mod Telling
 pub use Rattle.layout.specs.declared.place.Place
 pub use Rattle.block_pool.specs.BlockValue
-pub use Rattle.heap_data.specs.HeapValue
-pub use Rattle.heap_data.specs.CollectionValue
-pub use Rattle.heap_data.specs.ReportValue
-pub use Rattle.heap_data.specs.SettledValue
-pub use Rattle.heap_data.specs.CollectedHeap
-pub use Rattle.heap_data.specs.declared.report.Delivery
+pub use Rattle.steps.specs.HeapValue
+pub use Rattle.steps.specs.CollectionValue
+pub use Rattle.steps.specs.ReportValue
+pub use Rattle.steps.specs.SettledValue
+pub use Rattle.steps.specs.CollectedHeap
+pub use Rattle.steps.specs.declared.heap_data.report.Delivery
 pub use Rattle.workers.specs.Setting
 pub use Rattle.workers.specs.System
 pub use Rattle.workers.specs.Steps
@@ -14,8 +19,6 @@ pub use Rattle.workers.specs.Lawful
 pub use Rattle.workers.specs.Finish
 pub use Rattle.interleaved.specs.InterleavedValue
 pub use Rattle.interleaved.specs.Events as InterleavedEvents
-pub use Rattle.interleaved_settling.specs.Collects
-pub use Rattle.interleaved_settling.specs.Together
 pub mod MachineValue
 pub mod Events
 pub mod Settles

@@ -2,9 +2,9 @@
 use Rattle.std.specs.Prelude.{◌≡◌, ℕ, Bool, List, map, refl}
 use Rattle.std.specs.Coded.{Coded, code_by, coded×, coded_list, coded_bool, coded_ℕ}
 use Rattle.model.specs.Destination.{dest_count}
-use Rattle.heap_data.specs.HeapValue.{HeapValue, heap_code}
-use Rattle.heap_data.specs.CollectionValue.{CollectionValue, target_of_slot}
-use Rattle.heap_data.specs.CollectionCode.{collection_code}
+use Rattle.steps.specs.HeapValue.{HeapValue, heap_code}
+use Rattle.steps.specs.CollectionValue.{CollectionValue, target_of_slot}
+use Rattle.steps.specs.CollectionCode.{collection_code}
 use Rattle.workers.specs.Block.{Block}
 use Rattle.workers.specs.Setting.{Setting}
 use Rattle.workers.specs.Worker.{Worker}

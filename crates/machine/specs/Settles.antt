@@ -2,14 +2,14 @@
 use Rattle.std.specs.Prelude.{◌≡◌, ℕ, List, Option}
 use Rattle.layout.specs.declared.place.Place.{Place}
 use Rattle.block_pool.specs.BlockValue.{BlockValue}
-use Rattle.heap_data.specs.CollectionValue.{CollectionValue}
-use Rattle.heap_data.specs.ReportValue.{WorkerLists, all_won}
-use Rattle.heap_data.specs.SettledValue.{IsSettled}
-use Rattle.heap_data.specs.declared.report.Delivery.{Delivery}
-use Rattle.interleaved_settling.specs.Collects.{ScansOnce}
-use Rattle.interleaved_settling.specs.Together.{Reports}
-use Rattle.run_orders.specs.Scans.{ScansInBlocks}
-use Rattle.run_orders.specs.Taken.{AreTakenInOrder}
+use Rattle.steps.specs.CollectionValue.{CollectionValue}
+use Rattle.steps.specs.ReportValue.{WorkerLists, all_won}
+use Rattle.steps.specs.SettledValue.{IsSettled}
+use Rattle.steps.specs.declared.heap_data.report.Delivery.{Delivery}
+use Rattle.machine.specs.Collects.{ScansOnce}
+use Rattle.machine.specs.Together.{Reports}
+use Rattle.workers.specs.Scans.{ScansInBlocks}
+use Rattle.workers.specs.Taken.{AreTakenInOrder}
 use Rattle.machine.specs.MachineValue.{MachineValue}
 
 -- it may be committed; each name was won once, and each copy was scanned once, in the order of its block; each export was taken once, in its order; and the lists and deliveries are those of where the workers stand

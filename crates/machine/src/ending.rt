@@ -4,9 +4,9 @@ ghost use Rattle.workers.specs.Lawful.{AllEnded};
 ghost use Rattle.machine.specs.MachineValue.{HasReached};
 ghost use Rattle.machine.specs.Settles.{Settles};
 
+use crate::interleaved_settling::{SettleError, settle};
 use crate::machine::Machine;
 use heap::Settled;
-use interleaved_settling::{SettleError, settle};
 use std::alloc::Allocator;
 
 impl<'a, A: Allocator + Clone> Machine<'a, A> {

@@ -3,14 +3,15 @@
 
 mod carrying;
 mod ending;
+mod interleaved_settling;
 mod machine;
 mod machine_error;
 mod running;
 mod step_error;
 mod stepping;
 
+pub use crate::interleaved_settling::SettleError;
 pub use interleaved::Event;
-pub use interleaved_settling::SettleError;
 pub use machine::Machine;
 pub use machine_error::MachineError;
 pub use scavenge::LookError;

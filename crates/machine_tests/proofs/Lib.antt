@@ -1,0 +1,3 @@
+-- MachineTests.
+
+mod Unscanned

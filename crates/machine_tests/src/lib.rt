@@ -5,6 +5,7 @@
 mod events;
 #[cfg(test)]
 mod graphs;
+mod scavenge_tests;
 #[cfg(test)]
 mod schedules;
 #[cfg(test)]

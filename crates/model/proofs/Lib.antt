@@ -1,4 +1,5 @@
 -- Lemmas on maps with numbers as keys, on graphs and on what a trace means.
+
 pub mod NatMap
 pub mod SlotMap
 pub mod LiveLemmas
@@ -22,3 +23,5 @@ pub mod RisingKeys
 pub mod MapKeys
 pub mod KeyLists
 pub mod Joined
+pub mod Totals
+pub mod Times

@@ -1,4 +1,5 @@
 -- What a heap, a collection and a trace mean.
+
 pub mod Graph
 pub mod GraphCode
 pub mod Slots
@@ -18,3 +19,4 @@ pub mod Text
 pub mod Commands
 pub mod Rows
 pub mod Laws
+pub mod Total

@@ -4,6 +4,7 @@
 mod command;
 mod kind;
 mod laws;
+mod views;
 
 pub use command::Command;
 pub use kind::Kind;

@@ -9,7 +9,7 @@ use Rattle.model.specs.Room.{Room, room_after}
 use Rattle.layout.specs.Object.{Raw, raw_size}
 use Rattle.layout.specs.Place.{small_word}
 use Rattle.block_pool.specs.BlockValue.{BlockValue, used_of, new_object}
-use Rattle.block_table.specs.Table.{slot_at, slot_words, with_more}
+use Rattle.nursery.specs.Table.{slot_at, slot_words, with_more}
 use Rattle.nursery.specs.NurseryValue.{NurseryValue, nursery_room, IsNursery, Pushes, block_after}
 
 new_object-size : (p q : ℕ) → raw_size (new_object p q) ≡ 1 + p + q

@@ -1,3 +1,10 @@
 -- What contracts see of a nursery.
+
+-- The objects of the blocks of a table.
+pub mod Table
+pub mod Areas
+pub mod Installed
+pub mod Begins
+pub mod Counts
 pub mod NurseryValue
 pub mod NurseryView

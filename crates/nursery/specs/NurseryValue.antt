@@ -4,7 +4,7 @@ use Rattle.std.specs.Coded.{Coded, code_by, coded×, coded_ℕ}
 use Rattle.model.specs.Room.{Room, room_after}
 use Rattle.layout.specs.Place.{small_word}
 use Rattle.block_pool.specs.BlockValue.{BlockValue, used_of, new_object}
-use Rattle.block_table.specs.Table.{slot_at, slot_words, with_more}
+use Rattle.nursery.specs.Table.{slot_at, slot_words, with_more}
 
 -- the number of its first block, how many there are, and which of them is filled now
 pub record NurseryValue : Type 0 where

@@ -4,7 +4,7 @@ ghost use Rattle.model.specs.Room.{room_after};
 ghost use Rattle.layout.specs.Header.{size_of};
 ghost use Rattle.layout.specs.Place.{place_word};
 ghost use Rattle.block_pool.specs.BlockValue.{BlockValue, used_of, new_object};
-ghost use Rattle.block_table.specs.Table.{slot_at, slot_words, with_more};
+ghost use Rattle.nursery.specs.Table.{slot_at, slot_words, with_more};
 ghost use Rattle.nursery.specs.NurseryValue.{NurseryValue, nursery_room, IsNursery, IsSmallIn, Pushes, block_after};
 
 use block_pool::Block;

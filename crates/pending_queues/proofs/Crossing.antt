@@ -4,14 +4,14 @@ use denote.Param.Send.{IsSend, IsSync, Frees, sendable}
 use Rattle.std.specs.declared.alloc.Allocator as alloc
 use Rattle.std.proofs.Crossing.{crosses}
 use Rattle.std.proofs.CrossingOver.{crosses as over}
-use Rattle.exports.specs.declared.cargo.Cargo as cargo
+use Rattle.pending_queues.specs.declared.exports.cargo.Cargo as cargo
 use Rattle.pending_queues.specs.contracts.ruled_pending.RuledPending as Ruled
 use Rattle.pending_queues.specs.contracts.seat.PendingSeat as Seat
-use Rattle.lanes.proofs.lane.Lane.TheSendSync as lane
-use Rattle.lanes.proofs.lane_pass.LanePass.TheSendSync as pass
-use Rattle.exports.proofs.label.Label.TheSendSync as label
-use Rattle.tally.proofs.tally.Tally.TheSendSync as tally
-use Rattle.tally.proofs.tally.TallySeat.TheSendSync as mark
+use Rattle.pending_queues.proofs.lanes.lane.Lane.TheSendSync as lane
+use Rattle.pending_queues.proofs.lanes.lane_pass.LanePass.TheSendSync as pass
+use Rattle.pending_queues.proofs.exports.label.Label.TheSendSync as label
+use Rattle.pending_queues.proofs.tally.tally.Tally.TheSendSync as tally
+use Rattle.pending_queues.proofs.tally.tally.TallySeat.TheSendSync as mark
 
 module _ (C A K : RattleType) (g : cargo.Ghosts C.Denot K.Denot) (h : alloc.Ghosts A.Denot) where
   pub ruled_sync : IsSend A → IsSync A → Frees h h.dealloc_token → IsSync (Ruled.the_row C A K g h)

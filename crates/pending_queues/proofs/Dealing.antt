@@ -8,13 +8,13 @@ use Rattle.std.proofs.lemmas.List.Elements.{All-append, All-cons, All-nil, All-p
 use Rattle.atomic_table.specs.Seated.{TableId}
 use Rattle.crossbeam_queue.specs.SegTies.{SegId}
 use Rattle.block_pool.specs.BlockValue.{BlockValue}
-use Rattle.views.specs.Total.{one_if}
-use Rattle.lanes.specs.PassValue.{PassValue, first_pass, after_deal, dealt}
-use Rattle.tally.specs.TallyValue.{TallySeatValue, unraised}
-use Rattle.pending_laws.specs.SeatPass.{AtEach, pass_of}
+use Rattle.model.specs.Total.{one_if}
+use Rattle.pending_queues.specs.PassValue.{PassValue, first_pass, after_deal, dealt}
+use Rattle.pending_queues.specs.TallyValue.{TallySeatValue, unraised}
+use Rattle.pending_queues.specs.SeatPass.{AtEach, pass_of}
 use Rattle.pending_queues.specs.Seated.{IsSeated, sent_by}
 use Rattle.pending_queues.specs.Dealt.{root_of, AreRoots, AreNewPasses, AreHeaps}
-use Rattle.pending_laws.proofs.Places.{get-set, get-snoc, map-kept}
+use Rattle.pending_queues.proofs.Places.{get-set, get-snoc, map-kept}
 
 pub snoc_each : {X : Type 0} (F : ℕ → X → Type 0) (xs : List X) (x : X) → AtEach F xs → F (length xs) x → AtEach F (xs ++ x ∷ [])
 snoc_each F xs x old new i y at =

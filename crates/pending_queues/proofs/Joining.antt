@@ -7,7 +7,7 @@ use Rattle.std.proofs.lemmas.List.{length-map, set-get_or}
 use mathlib.Core.Logic.{dite}
 use native.Mathlib.Decide.{ℕ_discrete}
 use Rattle.std.proofs.lemmas.Option.{slice_get_within, slice_get_read, slice_get-map, get_or_from_slice_get}
-use Rattle.pending_laws.proofs.Places.{get-set_here, inside, map-kept, some_at}
+use Rattle.pending_queues.proofs.Places.{get-set_here, inside, map-kept, some_at}
 
 abbrev tail : {X : Type 0} → List X → List X
 tail [] = []

@@ -6,19 +6,19 @@ use Rattle.std.specs.List.{slice_get}
 use Rattle.std.proofs.lemmas.Option.{slice_get_within, get_or_from_slice_get, slice_get-map, slice_get_read}
 use Rattle.std.specs.Option.{IsSomeAnd}
 use Rattle.std.proofs.lemmas.List.{map-append, length-map, get_or-map, get_or_read}
-use Rattle.pending_laws.specs.Delivered.{IsLabelledBelow}
+use Rattle.pending_queues.specs.Delivered.{IsLabelledBelow}
 use Rattle.std.proofs.lemmas.List.Elements.{filter-append, All-append, All-cons, All-nil}
 use Rattle.block_pool.specs.BlockValue.{BlockValue}
-use Rattle.lanes.specs.PassValue.{About, PassValue, Meets, position_of, Took}
-use Rattle.tally.specs.TallyValue.{TallySeatValue}
-use Rattle.exports.specs.declared.label.Label.{Label}
-use Rattle.pending_laws.specs.SeatPass.{AtEach, pass_of, taken_from, is_from}
+use Rattle.pending_queues.specs.PassValue.{About, PassValue, Meets, position_of, Took}
+use Rattle.pending_queues.specs.TallyValue.{TallySeatValue}
+use Rattle.pending_queues.specs.declared.exports.label.Label.{Label}
+use Rattle.pending_queues.specs.SeatPass.{AtEach, pass_of, taken_from, is_from}
 use Rattle.pending_queues.specs.Seated.{IsSeated, sent_by}
 use Rattle.crossbeam_queue.specs.SegTies.{SegId}
-use Rattle.pending_laws.specs.PendingValue.{Source, SeatValue, IsSeatOf, after_export, after_take}
-use Rattle.exports.specs.Labelled.{labelled}
-use Rattle.pending_laws.proofs.Places.{get-set, get-set_here, set-same, map-kept}
-use Rattle.pending_laws.proofs.Kept.{filtered}
+use Rattle.pending_queues.specs.PendingValue.{Source, SeatValue, IsSeatOf, after_export, after_take}
+use Rattle.pending_queues.specs.Labelled.{labelled}
+use Rattle.pending_queues.proofs.Places.{get-set, get-set_here, set-same, map-kept}
+use Rattle.pending_queues.proofs.Kept.{filtered}
 
 -- one more block of that exporter, or of another
 from-here : (u : ℕ) (taken : List BlockValue) (b : BlockValue) → is_from u b ≡ true → taken_from u (taken ++ b ∷ []) ≡ taken_from u taken ++ b ∷ []

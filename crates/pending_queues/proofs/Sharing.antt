@@ -3,14 +3,14 @@ use Rattle.std.proofs.Common.{◌≡◌, ◌≤◌, ℕ, List, [], ◌∷◌, le
 use Rattle.std.proofs.lemmas.List.{length-map}
 use Rattle.std.proofs.lemmas.List.Elements.{All-cons, All-nil}
 use Rattle.block_pool.specs.BlockValue.{BlockValue}
-use Rattle.lanes.specs.PassValue.{PassValue}
-use Rattle.pending_laws.specs.PendingValue.{SeatValue}
-use Rattle.tally.specs.TallyValue.{TallySeatValue}
-use Rattle.pending_laws.specs.SeatPass.{AtEach, pass_of, taken_from}
+use Rattle.pending_queues.specs.PassValue.{PassValue}
+use Rattle.pending_queues.specs.PendingValue.{SeatValue}
+use Rattle.pending_queues.specs.TallyValue.{TallySeatValue}
+use Rattle.pending_queues.specs.SeatPass.{AtEach, pass_of, taken_from}
 use Rattle.pending_queues.specs.Seated.{IsSeated, sent_by}
-use Rattle.pending_laws.specs.Gathered.{AreGathered, IsGatheredMark}
-use Rattle.exports.specs.declared.label.Label.{Label}
-use Rattle.pending_laws.proofs.Gathering.{one_pass}
+use Rattle.pending_queues.specs.Gathered.{AreGathered, IsGatheredMark}
+use Rattle.pending_queues.specs.declared.exports.label.Label.{Label}
+use Rattle.pending_queues.proofs.Gathering.{one_pass}
 
 module _ {A K : Type 0} where
   pub one_passes : (key : K) (index : ℕ) (passes : List (PassValue A K)) (marks : List TallySeatValue) (sizes : List ℕ) (log : List Label) (taken : List BlockValue) (cleared : ℕ) (seat : SeatValue A K)

@@ -2,9 +2,9 @@
 use Rattle.std.specs.Prelude.{◌≡◌, ℕ, ◌-◌, if◌then◌else◌, List, [], All, length, map, nat_lt, slice_get, Some}
 use Rattle.atomic_table.specs.Seated.{TableId}
 use Rattle.crossbeam_queue.specs.SegTies.{SegId}
-use Rattle.lanes.specs.PassValue.{PassValue}
-use Rattle.tally.specs.TallyValue.{TallySeatValue, unraised}
-use Rattle.pending_laws.specs.SeatPass.{AtEach, pass_of}
+use Rattle.pending_queues.specs.PassValue.{PassValue}
+use Rattle.pending_queues.specs.TallyValue.{TallySeatValue, unraised}
+use Rattle.pending_queues.specs.SeatPass.{AtEach, pass_of}
 
 module _ {A K : Type 0} where
   -- the first pass of a queue, of which so many seats have their part

@@ -1,16 +1,22 @@
 -- Queues of blocks, as callers see them, and the rules that they keep.
-pub use Rattle.exports.specs.Labelled
-pub use Rattle.exports.specs.Written
-pub use Rattle.lanes.specs.PassValue
-pub use Rattle.lanes.specs.LaneRule
-pub use Rattle.tally.specs.TallyValue
-pub use Rattle.tally.specs.Tallied
-pub use Rattle.plain_queues.specs.PlainValue
-pub use Rattle.plain_queues.specs.PlainKept
-pub use Rattle.pending_laws.specs.PendingValue
-pub use Rattle.pending_laws.specs.SeatPass
-pub use Rattle.pending_laws.specs.Delivered
-pub use Rattle.pending_laws.specs.Telling
-pub use Rattle.pending_laws.specs.Gathered
+
+-- A tally and its seats, as callers see them, and the rule that they keep.
+pub mod TallyValue
+pub mod Tallied
+-- The labels of exported blocks, and how what became of each block is written down.
+pub mod Labelled
+pub mod Written
+-- One queue, as callers see it, and the rule that it keeps.
+pub mod PassValue
+pub mod LaneRule
+-- Queues of one thread, as callers see them, and what they keep.
+pub mod PlainValue
+pub mod PlainKept
+-- Queues that threads share and their seats, as callers see them, and what closing tells of them.
+pub mod PendingValue
+pub mod SeatPass
+pub mod Delivered
+pub mod Telling
+pub mod Gathered
 pub mod Seated
 pub mod Dealt

@@ -1,10 +1,10 @@
 -- What a seat keeps of the queues.
 use Rattle.std.specs.Prelude.{◌≡◌, ℕ, ◌<◌, ◌≤◌, List, [], All, length, map, slice_index_or, Some}
 use Rattle.block_pool.specs.BlockValue.{BlockValue}
-use Rattle.lanes.specs.PassValue.{PassValue}
-use Rattle.tally.specs.TallyValue.{TallySeatValue}
-use Rattle.pending_laws.specs.SeatPass.{AtEach, pass_of, sizes_of, taken_from}
-use Rattle.exports.specs.declared.label.Label.{Label}
+use Rattle.pending_queues.specs.PassValue.{PassValue}
+use Rattle.pending_queues.specs.TallyValue.{TallySeatValue}
+use Rattle.pending_queues.specs.SeatPass.{AtEach, pass_of, sizes_of, taken_from}
+use Rattle.pending_queues.specs.declared.exports.label.Label.{Label}
 
 module _ {A K : Type 0} where
   -- what was sent by the pass of a seat's own queue

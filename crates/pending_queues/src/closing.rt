@@ -1,15 +1,15 @@
 //! The end of the queues that threads share.
 ghost use Rattle.std.specs.Prelude.{◌≡◌, ◌<◌, ◌++◌, ◌∷◌, [], ℕ, All, length, map, IfOk};
-ghost use Rattle.pending_laws.specs.PendingValue.{IsSeatOf};
-ghost use Rattle.pending_laws.specs.SeatPass.{AtEach};
-ghost use Rattle.pending_laws.specs.Gathered.{AreGathered, IsGatheredMark, IsTold};
-ghost use Rattle.pending_laws.specs.Delivered.{AreDelivered};
+ghost use Rattle.pending_queues.specs.PendingValue.{IsSeatOf};
+ghost use Rattle.pending_queues.specs.SeatPass.{AtEach};
+ghost use Rattle.pending_queues.specs.Gathered.{AreGathered, IsGatheredMark, IsTold};
+ghost use Rattle.pending_queues.specs.Delivered.{AreDelivered};
 
+use crate::exports::{Cargo, Deliveries};
 use crate::ruled_pending::RuledPending;
 use crate::seat::PendingSeat;
 use crate::shares::{Shares, gather_marks, gather_passes, settle_marks, settle_passes};
 use crate::telling::{name_all, tell_all};
-use exports::{Cargo, Deliveries};
 use std::alloc::{AllocError, Allocator};
 use std::sync::Wait;
 

@@ -2,13 +2,20 @@
 #![tactic(auto)]
 
 mod closing;
+mod exports;
+mod lanes;
 mod opening;
+mod pending_laws;
+mod plain_queues;
 mod ruled_pending;
 mod seat;
 mod shares;
+mod tally;
 mod telling;
 
-pub use exports::{Cargo, Deliveries, Delivery};
-pub use plain_queues::{PlainPending, PlainSeat};
+pub use crate::exports::{Cargo, Deliveries, Delivery};
+pub use crate::plain_queues::{PlainPending, PlainSeat};
+pub use lanes::{Lane, LanePass};
 pub use ruled_pending::RuledPending;
 pub use seat::PendingSeat;
+pub use tally::{Tally, TallySeat};

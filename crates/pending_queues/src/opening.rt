@@ -1,15 +1,15 @@
 //! How the queues are opened, and how the seats get their parts of them.
 ghost use Rattle.std.specs.Prelude.{◌≡◌, ◌+◌, ◌-◌, ◌<◌, All, length, map, IfOk, OnOk};
-ghost use Rattle.tally.specs.TallyValue.{unraised};
-ghost use Rattle.pending_laws.specs.PendingValue.{new_seats};
+ghost use Rattle.pending_queues.specs.TallyValue.{unraised};
+ghost use Rattle.pending_queues.specs.PendingValue.{new_seats};
 ghost use Rattle.pending_queues.specs.Dealt.{AreRoots, AreNewPasses, AreHeaps};
 
+use crate::exports::Cargo;
+use crate::lanes::{Lane, LanePass};
 use crate::ruled_pending::RuledPending;
 use crate::seat::PendingSeat;
-use exports::Cargo;
-use lanes::{Lane, LanePass};
+use crate::tally::{Tally, TallySeat};
 use std::alloc::{AllocError, Allocator};
-use tally::{Tally, TallySeat};
 
 /// Queues, and the first pass of each.
 pub type Lanes<C: Cargo, A> = (Vec<Lane<C, A>, A>, Vec<LanePass<C::Key, A>, A>);

@@ -1,20 +1,20 @@
 //! Queues of blocks under their rule, one for each exporter, which threads share.
 ghost use Rattle.std.specs.Prelude.{◌≡◌, ◌≤◌, ◌<◌, ℕ, Some, All, length, is_some, true, slice_get, IfOk, IfSome, MatchBool, MatchOption, MatchResult};
-ghost use Rattle.lanes.specs.PassValue.{position_of};
-ghost use Rattle.pending_laws.specs.PendingValue.{IsSeatOf, new_seats, next_export, after_export, after_take, after_none};
-ghost use Rattle.exports.specs.declared.label.Label.{Label};
+ghost use Rattle.pending_queues.specs.PassValue.{position_of};
+ghost use Rattle.pending_queues.specs.PendingValue.{IsSeatOf, new_seats, next_export, after_export, after_take, after_none};
+ghost use Rattle.pending_queues.specs.declared.exports.label.Label.{Label};
 
+use crate::exports::{Cargo, Label};
+use crate::lanes::Lane;
 use crate::opening::{open_lanes, open_tallies};
 use crate::seat::PendingSeat;
+use crate::tally::Tally;
 use block_pool::Block;
 use crossbeam_utils::Backoff;
-use exports::{Cargo, Label};
-use lanes::Lane;
 use std::alloc::{AllocError, Allocator, Global};
 use std::marker::Model;
 use std::snapshot::Snapshot;
 use std::sync::Wait;
-use tally::Tally;
 
 /// Queues that threads share: one for each exporter.
 #[derive(Drop)]
@@ -26,7 +26,7 @@ pub struct RuledPending<C: Cargo, A: Allocator = Global> {
 
 impl<C: Cargo, A: Allocator> Model for RuledPending<C, A> {
     ghost use Rattle.std.specs.Prelude.{◌≡◌, All, length, map};
-    ghost use Rattle.pending_laws.specs.PendingValue.{Source};
+    ghost use Rattle.pending_queues.specs.PendingValue.{Source};
 
     ghost Value = { Source A C.Key };
 

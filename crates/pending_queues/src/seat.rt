@@ -1,11 +1,11 @@
 //! What one worker has of the queues: a pass and a mark for each, and a log of what it sent and took.
+use crate::exports::{Cargo, Label};
+use crate::lanes::LanePass;
+use crate::tally::TallySeat;
 use block_pool::Block;
-use exports::{Cargo, Label};
-use lanes::LanePass;
 use std::alloc::{AllocError, Allocator, Global};
 use std::marker::Model;
 use std::snapshot::Snapshot;
-use tally::TallySeat;
 
 /// One worker's right to export to its own queue and to take from each.
 #[derive(Drop)]
@@ -22,7 +22,7 @@ pub struct PendingSeat<C: Cargo, A: Allocator = Global> {
 
 impl<C: Cargo, A: Allocator> Model for PendingSeat<C, A> {
     ghost use Rattle.std.specs.Prelude.{map};
-    ghost use Rattle.pending_laws.specs.PendingValue.{SeatValue};
+    ghost use Rattle.pending_queues.specs.PendingValue.{SeatValue};
     ghost use Rattle.pending_queues.specs.Seated.{IsSeated, sent_by};
 
     ghost Value = { SeatValue A C.Key };
@@ -62,8 +62,8 @@ impl<A: Allocator + Clone> Logs<A> {
 
 impl<C: Cargo, A: Allocator + Clone> PendingSeat<C, A> {
     ghost use Rattle.std.specs.Prelude.{◌≡◌, length, map, IfOk};
-    ghost use Rattle.tally.specs.TallyValue.{unraised};
-    ghost use Rattle.pending_laws.specs.PendingValue.{new_seat};
+    ghost use Rattle.pending_queues.specs.TallyValue.{unraised};
+    ghost use Rattle.pending_queues.specs.PendingValue.{new_seat};
     ghost use Rattle.pending_queues.specs.Dealt.{AreNewPasses};
 
     /// A seat that has exported and taken nothing.

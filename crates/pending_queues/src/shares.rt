@@ -1,15 +1,15 @@
 //! What several seats have of the queues together.
 ghost use Rattle.std.specs.Prelude.{◌≡◌, ◌<◌, ◌≤◌, ℕ, All, Some, length, map, slice_get};
-ghost use Rattle.lanes.specs.PassValue.{PassValue, both};
-ghost use Rattle.pending_laws.specs.SeatPass.{AtEach};
-ghost use Rattle.pending_laws.specs.Gathered.{IsSettled};
-ghost use Rattle.tally.specs.TallyValue.{TallySeatValue, both_seats};
+ghost use Rattle.pending_queues.specs.PassValue.{PassValue, both};
+ghost use Rattle.pending_queues.specs.SeatPass.{AtEach};
+ghost use Rattle.pending_queues.specs.Gathered.{IsSettled};
+ghost use Rattle.pending_queues.specs.TallyValue.{TallySeatValue, both_seats};
 
-use exports::Cargo;
-use lanes::{Lane, LanePass};
+use crate::exports::Cargo;
+use crate::lanes::{Lane, LanePass};
+use crate::tally::{Tally, TallySeat};
 use std::alloc::Allocator;
 use std::sync::Wait;
-use tally::{Tally, TallySeat};
 
 /// A pass of each queue, and a mark in each tally.
 #[derive(Drop)]

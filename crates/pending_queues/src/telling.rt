@@ -1,11 +1,11 @@
 //! How what became of each block is written down when the queues are closed.
 ghost use Rattle.std.specs.Prelude.{◌≡◌, ◌<◌, All, length, map, slice_set, OnOk};
-ghost use Rattle.exports.specs.Written.{with_takers};
-ghost use Rattle.pending_laws.specs.Delivered.{IsLabelledBelow};
-ghost use Rattle.pending_laws.specs.Telling.{all_left, placed, named};
+ghost use Rattle.pending_queues.specs.Written.{with_takers};
+ghost use Rattle.pending_queues.specs.Delivered.{IsLabelledBelow};
+ghost use Rattle.pending_queues.specs.Telling.{all_left, placed, named};
 
+use crate::exports::{Cargo, Deliveries};
 use crate::seat::PendingSeat;
-use exports::{Cargo, Deliveries};
 use std::alloc::{AllocError, Allocator};
 
 impl<C: Cargo, A: Allocator + Clone> PendingSeat<C, A> {

@@ -11,7 +11,7 @@ use Rattle.model.specs.Graph.{Object, size_of}
 use Rattle.model.specs.Destination.{numbers_from}
 use Rattle.model.specs.Reached.{reached_list}
 use Rattle.model.specs.Store.{Store, object_at, targets, targets_of, is_young_at, old_targets}
-use Rattle.reference_data.specs.Table.{row}
+use Rattle.reference.specs.Table.{row}
 use Rattle.reference.specs.Plain.{old_of, steps_within, is_young_slot, in_part, is_slot_in, words_in, is_slot_remembered, totals_text}
 use Rattle.model.specs.Census.{points_younger}
 use Rattle.model.proofs.Has.{numbers_from-append}

@@ -1,4 +1,8 @@
 -- The forms in which the plain program computes, and its store as contracts see it.
-pub use Rattle.reference_data.specs.Table
+
+-- The parts of a store as data, and how names and rows are looked up.
+pub mod Table
+pub mod NamePlace
+pub mod RoomCode
 pub mod Plain
 pub mod StoreCode

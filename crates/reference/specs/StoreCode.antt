@@ -5,7 +5,7 @@ use Rattle.model.specs.Graph.{Object}
 use Rattle.model.specs.GraphCode.{object_code}
 use Rattle.model.specs.Room.{Room}
 use Rattle.model.specs.Store.{Store}
-use Rattle.reference_data.specs.RoomCode.{room_code}
+use Rattle.reference.specs.RoomCode.{room_code}
 
 abbrev pub store_code : Coded Store
 store_code =

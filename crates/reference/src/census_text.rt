@@ -6,8 +6,8 @@ ghost use Rattle.model.specs.Store.{present, store_census};
 ghost use Rattle.model.specs.Text.{step_line, census_text};
 ghost use Rattle.reference.specs.Plain.{totals_text};
 
+use crate::reference_data::Config;
 use crate::store::Store;
-use reference_data::Config;
 use std::alloc::{AllocError, Allocator};
 use std::fmt::Write;
 

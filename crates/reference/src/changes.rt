@@ -7,9 +7,9 @@ ghost use Rattle.model.specs.Commands as meant;
 ghost use Rattle.model.specs.Commands.{carried, named, with_object, target_of};
 ghost use Rattle.reference.specs.Plain.{IsSilent};
 
+use crate::reference_data::{Config, Object, drop_name, find_name};
 use crate::store::Store;
 use model::Kind;
-use reference_data::{Config, Object, drop_name, find_name};
 use std::alloc::Allocator;
 
 fn set_pointer_in<A: Allocator>(slot: &mut Option<Object<A>>, field: usize, target: Option<usize>)

@@ -5,8 +5,8 @@ ghost use Rattle.model.specs.Commands.{line_of};
 ghost use Rattle.model.specs.Text.{collection_line};
 ghost use Rattle.reference.specs.Plain.{is_young_slot};
 
+use crate::reference_data::{Config, Object, full_rooms, has};
 use crate::store::Store;
-use reference_data::{Config, Object, full_rooms, has};
 use std::alloc::{AllocError, Allocator};
 use std::fmt::Write;
 

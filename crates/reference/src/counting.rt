@@ -5,8 +5,8 @@ ghost use Rattle.model.specs.Store.{object_at, present};
 ghost use Rattle.model.specs.Census.{points_to, points_younger};
 ghost use Rattle.reference.specs.Plain.{in_part, is_slot_in, words_in, is_slot_remembered};
 
+use crate::reference_data::{Config, Object};
 use crate::store::Store;
-use reference_data::{Config, Object};
 use std::alloc::Allocator;
 
 /// The large objects, or the small ones of a generation and step.

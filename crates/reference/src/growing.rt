@@ -4,10 +4,10 @@ ghost use Rattle.model.specs.Commands as meant;
 ghost use Rattle.model.specs.Commands.{carried, named, with_new, with_room, room_in, placed, placed_at_size, is_large_size};
 ghost use Rattle.reference.specs.Plain.{IsDone, IfFault};
 
+use crate::reference_data::{Config, Named, Object, Room, add_name};
 use crate::refusal::Refusal;
 use crate::store::Store;
 use model::Kind;
-use reference_data::{Config, Named, Object, Room, add_name};
 use std::alloc::{AllocError, Allocator};
 
 impl<A: Allocator + Clone> Store<A> {

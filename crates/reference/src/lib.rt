@@ -6,9 +6,10 @@ mod changes;
 mod collecting;
 mod counting;
 mod growing;
+mod reference_data;
 mod refusal;
 mod store;
 
-pub use reference_data::Config;
+pub use crate::reference_data::Config;
 pub use refusal::Refusal;
 pub use store::Store;

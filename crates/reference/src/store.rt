@@ -5,7 +5,7 @@ ghost use Rattle.model.specs.Destination.{numbers_from};
 ghost use Rattle.model.specs.Store.{object_at, is_young_at, targets_of, old_targets, present, live_list};
 ghost use Rattle.reference.specs.Plain.{old_of, steps_within, starts};
 
-use reference_data::{Named, Object, Room, reached};
+use crate::reference_data::{Named, Object, Room, reached};
 use std::alloc::{AllocError, Allocator, Global};
 use std::marker::Model;
 

@@ -7,8 +7,8 @@ ghost use Rattle.model.specs.Reached.{has};
 ghost use Rattle.remembered_set.specs.Sets.{with_member};
 ghost use Rattle.remembered_set.specs.Marks.{mark_of};
 
+use block_pool::Flags;
 use layout::Place;
-use number_sets::Flags;
 use std::alloc::{AllocError, Allocator, Global};
 use std::marker::Model;
 

@@ -1,1 +1,3 @@
+-- Rows.
+
 pub mod Fronts

@@ -2,6 +2,7 @@
 #![tactic(auto)]
 
 mod fronts;
+mod trace_tests;
 
 pub use fronts::is_front_in_lines;
 

@@ -13,7 +13,7 @@ use Rattle.heap.specs.CollectionValue.{CollectionValue}
 use Rattle.workers.specs.Setting.{is_collected}
 use Rattle.workers.specs.Worker.{Worker}
 use Rattle.workers.specs.WorkerSteps.{current_slot, cell_wanted, collected_target, draw_at, after_look, look_slot, look_at, finish_slot}
-use Rattle.workspace.specs.Shown.{WorkspaceValue}
+use Rattle.scavenge.specs.Shown.{WorkspaceValue}
 use Rattle.scavenge.specs.Told.{Tells}
 use Rattle.scavenge.specs.Slots.{seen, objects_of, Looks, Proposes, IsTold, cell_of, seat_after}
 

@@ -1,3 +1,15 @@
+-- Scavenge.
+
+-- Lemmas on the blocks and slots of a worker.
+pub mod Fields
+mod Winning
+mod Scans
+mod Made
+pub mod WorkspaceSlotLemmas
+mod Renewing
+mod Copying
+mod Pushing
+mod Begun
 mod SlotLemmas
 mod Seeing
 mod Placing

@@ -13,9 +13,9 @@ use Rattle.workers.specs.Setting.{Setting, words_of, old_pointers, old_plain, is
 use Rattle.workers.specs.Worker.{Worker, Proposal, Copied, Claimed, allocation_at}
 use Rattle.workers.specs.WorkerSteps.{propose_copy, propose_into, draws_for, with_new_block, look_at}
 use Rattle.layout.specs.Place.{small_word}
-use Rattle.workspace.specs.Shown.{has_place_for, copied_into, propose_in, with_copy_proposed}
+use Rattle.scavenge.specs.Shown.{has_place_for, copied_into, propose_in, with_copy_proposed}
 use Rattle.scavenge.specs.Slots.{objects_of}
-use Rattle.workspace.proofs.Fields.{length-map}
+use Rattle.scavenge.proofs.Fields.{length-map}
 
 -- an object of the heap, as its words show it
 pub record Facts (heap : HeapValue) (name : ℕ) (raw : Raw) : Type 0 where

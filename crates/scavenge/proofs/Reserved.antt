@@ -2,7 +2,7 @@
 use Rattle.std.proofs.Common.{◌≡◌, ℕ, ◌+◌, ◌-◌, Option, ap, ◌∙◌, arith}
 use Rattle.workers.specs.Worker.{Proposal}
 use Rattle.workers.specs.WorkerSteps.{after_race}
-use Rattle.workspace.specs.Shown.{WorkspaceValue}
+use Rattle.scavenge.specs.Shown.{WorkspaceValue}
 
 back : (n : ℕ) → n + 1 - 1 ≡ n
 back n = omega arith

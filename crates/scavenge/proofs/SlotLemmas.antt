@@ -8,9 +8,9 @@ use Rattle.layout.specs.Object.{Raw}
 use Rattle.layout.specs.Place.{place_word, pointer_word}
 use Rattle.heap.specs.NamesArePlaces.{NamesArePlaces}
 use Rattle.heap.specs.Words.{target_of_word, IsShownAs}
-use Rattle.to_space.specs.Fronts.{IsPointer}
-use Rattle.workspace.proofs.Fields.{target_of_pointer}
-use Rattle.workspace.proofs.SlotLemmas.{get_map}
+use Rattle.scavenge.specs.Fronts.{IsPointer}
+use Rattle.scavenge.proofs.Fields.{target_of_pointer}
+use Rattle.scavenge.proofs.WorkspaceSlotLemmas.{get_map}
 
 pub get_none : {A : Type 0} (xs : List A) (i : ℕ) → length xs ≤ i → slice_get xs i ≡ None
 get_none [] i l = refl

@@ -2,14 +2,14 @@
 use Rattle.std.specs.Prelude.{◌≡◌, ◌≢◌, ℕ, true, List, [], Option, Some, None, IsSome, ◌⊎◌}
 use Rattle.layout.specs.declared.place.Place.{Place}
 use Rattle.block_pool.specs.ClaimsValue.{SeatValue}
-use Rattle.cells.specs.declared.outcome.Outcome.{Outcome}
+use Rattle.forwarding.specs.declared.cells.outcome.Outcome.{Outcome}
 use Rattle.heap.specs.HeapValue.{HeapValue}
 use Rattle.heap.specs.CollectionValue.{CollectionValue}
 use Rattle.workers.specs.Block.{Block}
 use Rattle.workers.specs.Setting.{Setting, copy_into, is_large_name}
 use Rattle.workers.specs.Worker.{Worker, Copied, allocation_at}
 use Rattle.workers.specs.WorkerSteps.{current_slot, draws_for}
-use Rattle.workspace.specs.Shown.{WorkspaceValue}
+use Rattle.scavenge.specs.Shown.{WorkspaceValue}
 use Rattle.scavenge.specs.Slots.{seen, objects_of, Proposes, Looks}
 use Rattle.scavenge.specs.Told.{IsNumberOf, Races}
 

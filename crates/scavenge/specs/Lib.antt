@@ -1,5 +1,12 @@
 -- One worker of a collection, and what all bring back.
-pub use Rattle.workspace.specs.Shown
+
+-- A block of copies as workers see it, and blocks by destination.
+pub mod Named
+pub mod Fronts
+-- One worker of a collection, as contracts see it.
+pub mod Shown
+-- What queues hand over in a collection.
+pub mod Handed
 pub mod Told
 pub mod Slots
 pub mod Evacuates

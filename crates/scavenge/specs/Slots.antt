@@ -10,8 +10,8 @@ use Rattle.workers.specs.Block.{Copy}
 use Rattle.workers.specs.Setting.{Setting, setting_of, old_field, is_collected, destination_of, destination_number, is_large_name}
 use Rattle.workers.specs.Worker.{Worker}
 use Rattle.workers.specs.WorkerSteps.{cell_wanted, draw_wanted, draws_for, with_new_block, look_at, after_look}
-use Rattle.to_space.specs.Named.{IsDestination}
-use Rattle.workspace.specs.Shown.{WorkspaceValue, copy_in}
+use Rattle.scavenge.specs.Named.{IsDestination}
+use Rattle.scavenge.specs.Shown.{WorkspaceValue, copy_in}
 use Rattle.scavenge.specs.Told.{Tells}
 
 -- what workers see of a heap that is collected; how many they are is of no account to a step

@@ -5,11 +5,11 @@ use Rattle.layout.specs.Place.{place_word}
 use Rattle.heap.specs.HeapValue.{HeapValue}
 use Rattle.workers.specs.Worker.{Proposal}
 use Rattle.workers.specs.WorkerSteps.{after_race}
-use Rattle.workspace.specs.Shown.{WorkspaceValue, IsBid, lost_to, name_of}
+use Rattle.scavenge.specs.Shown.{WorkspaceValue, IsBid, lost_to, name_of}
 use Rattle.heap.specs.CollectionValue.{CollectionValue, young_names}
-use Rattle.cells.specs.declared.outcome.Outcome.{Outcome}
-use Rattle.cells.specs.declared.outcome.Outcome.TheVariants.{Won, Lost}
-use Rattle.cells.specs.Learned.{Learns, RaceEnds, place_after}
+use Rattle.forwarding.specs.declared.cells.outcome.Outcome.{Outcome}
+use Rattle.forwarding.specs.declared.cells.outcome.Outcome.TheVariants.{Won, Lost}
+use Rattle.forwarding.specs.Learned.{Learns, RaceEnds, place_after}
 
 -- the name's number in the collection
 pub record IsNumberOf (heap : HeapValue) (c : CollectionValue) (name number : ℕ) : Type 0 where

@@ -5,7 +5,7 @@ ghost use Rattle.block_pool.specs.ClaimsValue.{SeatValue};
 ghost use Rattle.heap.specs.CollectionValue.{IsOpened};
 ghost use Rattle.heap.specs.NamesArePlaces.{NamesArePlaces};
 ghost use Rattle.workers.specs.WorkerSteps.{current_slot};
-ghost use Rattle.workspace.specs.Shown.{CanFinish};
+ghost use Rattle.scavenge.specs.Shown.{CanFinish};
 ghost use Rattle.scavenge.specs.Slots.{seen, IsUntouched, Looks};
 ghost use Rattle.scavenge.specs.Evacuates.{IsLeft, LooksAndRaces};
 ghost use Rattle.scavenge.specs.declared.evacuating.Evacuated.TheVariants.{Left, NoSlot, Looked, Raced};
@@ -14,10 +14,10 @@ use crate::looking::standing;
 use crate::proposing::propose_there;
 use crate::racing::race_for;
 use crate::slots::slot;
-use cells::Cells;
+use crate::workspace::Workspace;
+use forwarding::Cells;
 use heap::{Collection, Heap};
 use std::alloc::Allocator;
-use workspace::Workspace;
 
 /// What `evacuate` came to.
 #[derive(Clone, Copy, Debug, PartialEq, Eq)]

@@ -2,15 +2,20 @@
 #![tactic(auto)]
 
 mod bound;
+mod copies;
 mod evacuating;
 mod looking;
 mod proposing;
 mod racing;
 mod slots;
+mod to_space;
+mod workspace;
 
+pub use crate::workspace::{Parts, Workspace};
 pub use bound::space_bound;
+pub use copies::{Copies, CopiesKey};
 pub use evacuating::{Evacuated, evacuate};
 pub use looking::{LookError, look};
 pub use racing::race;
 pub use slots::has_slot;
-pub use workspace::{Parts, Workspace};
+pub use to_space::AllocationBlocks;

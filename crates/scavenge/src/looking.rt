@@ -12,18 +12,18 @@ ghost use Rattle.heap.specs.NamesArePlaces.{NamesArePlaces};
 ghost use Rattle.heap.specs.Words.{IsShownAs};
 ghost use Rattle.workers.specs.Setting.{is_large_name};
 ghost use Rattle.workers.specs.WorkerSteps.{current_slot};
-ghost use Rattle.workspace.specs.Shown.{CanFinish};
+ghost use Rattle.scavenge.specs.Shown.{CanFinish};
 ghost use Rattle.scavenge.specs.Slots.{seen, objects_of, IsUntouched, HasRoomFor, Looks, WantsBlock};
 
 use crate::proposing::propose;
 use crate::slots::slot;
+use crate::workspace::Workspace;
 use block_pool::{ClaimSeat, Claims};
-use cells::Cells;
+use forwarding::Cells;
 use heap::{Collection, Found, Heap};
 use layout::{ObjectRef, Place};
 use std::alloc::{AllocError, Allocator};
 use thiserror::Error;
-use workspace::Workspace;
 
 /// Why a worker didn't look. It is as before.
 #[derive(Clone, Copy, Debug, PartialEq, Eq, Error)]

@@ -11,17 +11,17 @@ ghost use Rattle.heap.specs.StepPairs.{step_pair, stands_at};
 ghost use Rattle.heap.specs.Words.{IsShownAs};
 ghost use Rattle.workers.specs.Setting.{is_large_name, destination_of, destination_number};
 ghost use Rattle.workers.specs.WorkerSteps.{draws_for};
-ghost use Rattle.to_space.specs.Named.{IsDestination};
+ghost use Rattle.scavenge.specs.Named.{IsDestination};
 ghost use Rattle.scavenge.specs.Slots.{objects_of, Renews, Proposes, GoesTo};
 ghost use Rattle.scavenge.specs.Evacuates.{WantsMore, ProposesThere};
 
 use crate::looking::LookError;
 use crate::slots::{destination, number_of};
+use crate::workspace::Workspace;
 use block_pool::{Block, ClaimSeat, Claims};
 use heap::{Found, Heap, StepId};
 use layout::Place;
 use std::alloc::Allocator;
-use workspace::Workspace;
 
 /// Where a small object goes, and the number of that destination. A large one stays.
 #[inline(always)]

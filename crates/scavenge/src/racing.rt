@@ -2,13 +2,13 @@
 ghost use Rattle.std.specs.Prelude.{◌≡◌, ◌<◌, ◌≤◌, IsSome, OnOk, OnErr};
 ghost use Rattle.model.specs.Live.{IsYoung};
 ghost use Rattle.heap.specs.CollectionValue.{IsOpened};
-ghost use Rattle.workspace.specs.Shown.{CanFinish, name_of};
+ghost use Rattle.scavenge.specs.Shown.{CanFinish, name_of};
 ghost use Rattle.scavenge.specs.Told.{Races, RacesAt};
 
-use cells::{Cells, Outcome};
+use crate::workspace::Workspace;
+use forwarding::{Cells, Outcome};
 use heap::{Collection, Heap};
 use std::alloc::{AllocError, Allocator};
-use workspace::Workspace;
 
 /// Races for what is proposed, which has this number. An error says that memory ran out, and changes nothing.
 #[inline(always)]

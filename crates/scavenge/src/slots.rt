@@ -9,11 +9,11 @@ ghost use Rattle.workers.specs.Setting.{destination_number};
 ghost use Rattle.workers.specs.WorkerSteps.{current_slot};
 ghost use Rattle.scavenge.specs.Slots.{objects_of, IsUntouched};
 
+use crate::to_space::pointer_of;
+use crate::workspace::{Current, Workspace};
 use heap::{Config, Heap, StepId};
 use layout::Place;
 use std::alloc::Allocator;
-use to_space::pointer_of;
-use workspace::{Current, Workspace};
 
 /// Pointer `i` of an object of the heap, where it has one.
 pub(crate) fn heap_pointer<A: Allocator + Clone>(

@@ -2,8 +2,8 @@
 use Rattle.std.proofs.Common.{◌≡◌, ◌≢◌, ℕ, ◌+◌, ◌<◌, ◌≤◌, Bool, true, false, cond, nat_eq, not, ◌||◌, List, [], ◌∷◌, ◌++◌, length, take, refl, sym, ap, subst, ◌∙◌, ⊎_elim, arith, eq-eqb, ne_eqb}
 use Rattle.std.proofs.lemmas.Bool.{cases_eq}
 use Rattle.std.proofs.Math.Seq.{take-length}
-use Rattle.claims.specs.Drawn.{times_in}
-use Rattle.claims.specs.ClaimsValue.{SeatValue, all_drawn, any_out}
+use Rattle.block_pool.specs.Drawn.{times_in}
+use Rattle.block_pool.specs.ClaimsValue.{SeatValue, all_drawn, any_out}
 use Rattle.workers.specs.System.{without_number}
 use Rattle.serial.specs.SerialValue.{left_of}
 

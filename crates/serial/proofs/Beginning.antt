@@ -5,19 +5,19 @@ use Rattle.std.specs.Ordering.{nat_cmp}
 use Rattle.std.specs.FinMap.{find}
 use Rattle.layout.specs.Place.{IsLargeAt}
 use Rattle.block_pool.specs.BlockValue.{BlockValue}
-use Rattle.claims.specs.ClaimsValue.{SeatValue, unused}
-use Rattle.plain_cells.specs.Plain.{IsFit, place_held, empty_cells}
-use Rattle.plain_cells.specs.Plain.{PlainValue as PlainCellsValue}
-use Rattle.plain_queues.specs.PlainValue.{PlainLane, empty_lane, lane_at, new_pending}
-use Rattle.plain_queues.specs.PlainValue.{PlainValue as PlainQueuesValue}
-use Rattle.heap_data.specs.HeapValue.{HeapValue}
-use Rattle.heap_data.specs.CollectionValue.{CollectionValue, target_of_slot}
+use Rattle.block_pool.specs.ClaimsValue.{SeatValue, unused}
+use Rattle.forwarding.specs.Plain.{IsFit, place_held, empty_cells}
+use Rattle.forwarding.specs.Plain.{PlainValue as PlainCellsValue}
+use Rattle.pending_queues.specs.PlainValue.{PlainLane, empty_lane, lane_at, new_pending}
+use Rattle.pending_queues.specs.PlainValue.{PlainValue as PlainQueuesValue}
+use Rattle.steps.specs.HeapValue.{HeapValue}
+use Rattle.steps.specs.CollectionValue.{CollectionValue, target_of_slot}
 use Rattle.model.specs.Destination.{dest_count}
-use Rattle.copies.specs.Handed.{CopiesKeyValue}
+use Rattle.scavenge.specs.Handed.{CopiesKeyValue}
 use Rattle.workers.specs.System.{System, opening, opening_worker}
 use Rattle.workers.specs.Worker.{Worker}
 use Rattle.workers.specs.WorkerRun.{WorkerRun, stay, no_history}
-use Rattle.to_space.specs.Named.{named}
+use Rattle.scavenge.specs.Named.{named}
 use Rattle.scavenge.specs.Slots.{cell_of}
 use Rattle.serial.specs.SerialValue.{SerialValue, lane_of, waiting_in, positions_below, left_of, system_of, setting_in, targets_in, destinations_in}
 use Rattle.serial.specs.IsSerial.{IsSerial, IsReadyToCollect}

@@ -2,11 +2,11 @@
 use Rattle.std.proofs.Common.{sym, ◌≡◌, ℕ, [], ◌∷◌, ◌++◌, length, Option, None, refl, ap, arith, length-append, Contains, Some, ⊎_elim, inl, inr, subst, ◌∙◌}
 use Rattle.std.specs.Prelude.{IsSome}
 use Rattle.layout.specs.declared.place.Place.{Place}
-use Rattle.claims.specs.ClaimsValue.{SeatValue}
-use Rattle.plain_cells.specs.Plain.{PlainPassValue, IsFit, RacesTo, place_held, known_by}
-use Rattle.plain_cells.specs.Plain.{PlainValue as PlainCellsValue}
-use Rattle.heap_data.specs.HeapValue.{HeapValue}
-use Rattle.heap_data.specs.CollectionValue.{CollectionValue}
+use Rattle.block_pool.specs.ClaimsValue.{SeatValue}
+use Rattle.forwarding.specs.Plain.{PlainPassValue, IsFit, RacesTo, place_held, known_by}
+use Rattle.forwarding.specs.Plain.{PlainValue as PlainCellsValue}
+use Rattle.steps.specs.HeapValue.{HeapValue}
+use Rattle.steps.specs.CollectionValue.{CollectionValue}
 use Rattle.workers.specs.WorkerSteps.{current_slot}
 use Rattle.workers.specs.System.{Look}
 use Rattle.scavenge.specs.Shown.{WorkspaceValue}

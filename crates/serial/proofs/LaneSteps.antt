@@ -8,10 +8,10 @@ use Rattle.std.proofs.lemmas.Option.{slice_get_within}
 use Rattle.model.specs.Destination.{Shape}
 use Rattle.layout.specs.Place.{IsLargeAt}
 use Rattle.block_pool.specs.BlockValue.{BlockValue}
-use Rattle.exports.specs.Labelled.{labelled}
-use Rattle.plain_queues.specs.PlainValue.{PlainLane, empty_lane, lane_at, front_of, with_export, with_taker, after_export, after_take}
-use Rattle.plain_queues.specs.PlainValue.{PlainValue as PlainQueuesValue}
-use Rattle.copies.specs.Handed.{CopiesKeyValue, IsHandedFor}
+use Rattle.pending_queues.specs.Labelled.{labelled}
+use Rattle.pending_queues.specs.PlainValue.{PlainLane, empty_lane, lane_at, front_of, with_export, with_taker, after_export, after_take}
+use Rattle.pending_queues.specs.PlainValue.{PlainValue as PlainQueuesValue}
+use Rattle.scavenge.specs.Handed.{CopiesKeyValue, IsHandedFor}
 use Rattle.workers.specs.Block.{Block, has_unscanned}
 use Rattle.workers.specs.Worker.{Worker}
 use Rattle.workers.specs.WorkerSteps.{IsFree, after_aside, after_take as after_take_of, without_oldest}
@@ -23,7 +23,7 @@ use Rattle.workers.specs.Kept.{LiveOrOlder}
 use Rattle.workers.proofs.Starts.{opens, opening_each}
 use Rattle.workers.proofs.ReadyRuns.{exports_handed}
 use Rattle.workers.proofs.ReadyLemmas.{handed_alike, handed_labelled}
-use Rattle.to_space.specs.Named.{named, IsWhole}
+use Rattle.scavenge.specs.Named.{named, IsWhole}
 use Rattle.scavenge.specs.Shown.{WorkspaceValue, Begins}
 use Rattle.serial.specs.SerialValue.{SerialValue, lane_of, waiting_in, positions_below, system_of, setting_in, targets_in, destinations_in, Goes}
 use Rattle.serial.specs.IsSerial.{IsSerial}

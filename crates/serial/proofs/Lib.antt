@@ -1,3 +1,7 @@
+-- Serial.
+
+mod Entries
+pub mod Bridge
 pub mod AllDrawn
 pub mod Beginning
 pub mod Drawn
@@ -9,3 +13,5 @@ pub mod OpenBlocks
 pub mod Raced
 pub mod Readiness
 pub mod Starts
+mod Order
+pub mod Going

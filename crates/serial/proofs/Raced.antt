@@ -12,13 +12,13 @@ use Rattle.model.specs.OldSlots.{is_young_name}
 use Rattle.model.proofs.RisingKeys.{same_index, keys-filter_rise}
 use Rattle.layout.specs.declared.place.Place.{Place}
 use Rattle.layout.specs.Place.{place_word}
-use Rattle.claims.specs.ClaimsValue.{SeatValue, IsSeatOf}
-use Rattle.cells.specs.declared.outcome.Outcome.{Outcome}
-use Rattle.cells.specs.declared.outcome.Outcome.TheVariants.{Won, Lost}
-use Rattle.plain_cells.specs.Plain.{PlainPassValue, IsFit, RacesTo, place_held, known_by}
-use Rattle.plain_cells.specs.Plain.{PlainValue as PlainCellsValue}
-use Rattle.heap_data.specs.HeapValue.{HeapValue}
-use Rattle.heap_data.specs.CollectionValue.{CollectionValue, young_names}
+use Rattle.block_pool.specs.ClaimsValue.{SeatValue, IsSeatOf}
+use Rattle.forwarding.specs.declared.cells.outcome.Outcome.{Outcome}
+use Rattle.forwarding.specs.declared.cells.outcome.Outcome.TheVariants.{Won, Lost}
+use Rattle.forwarding.specs.Plain.{PlainPassValue, IsFit, RacesTo, place_held, known_by}
+use Rattle.forwarding.specs.Plain.{PlainValue as PlainCellsValue}
+use Rattle.steps.specs.HeapValue.{HeapValue}
+use Rattle.steps.specs.CollectionValue.{CollectionValue, young_names}
 use Rattle.workers.specs.Setting.{is_large_name, old_pointers}
 use Rattle.workers.specs.Worker.{Worker, Proposal, Copied, Claimed, Hand, Nothing, Open, Holding, HoldingLarge}
 use Rattle.workers.specs.WorkerSteps.{write_hand, finish_first, finish_slot, race_of, after_race}

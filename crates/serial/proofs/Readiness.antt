@@ -5,8 +5,8 @@ use Rattle.std.specs.Prelude.{All}
 use Rattle.std.specs.Option.{option_map_or}
 use Rattle.model.specs.Graph.{Object, object_at}
 use Rattle.model.specs.Destination.{Shape, IsStep, dest, dest_count, oldest}
-use Rattle.heap_data.specs.HeapValue.{HeapValue}
-use Rattle.heap_data.specs.CollectionValue.{CollectionValue}
+use Rattle.steps.specs.HeapValue.{HeapValue}
+use Rattle.steps.specs.CollectionValue.{CollectionValue}
 use Rattle.heap.proofs.SoundHeap.{heap_free, heap_object}
 use Rattle.workers.specs.Setting.{setting_of, is_collected, destination_of, destination_number}
 use Rattle.workers.specs.System.{opening_worker}

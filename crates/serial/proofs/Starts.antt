@@ -13,8 +13,8 @@ use Rattle.model.proofs.OldSlotsExact.{old_slots_exact}
 use Rattle.model.proofs.NatMap.{find_same, find_other}
 use Rattle.model.proofs.Options.{some_not_none}
 use Rattle.model.proofs.RisingKeys.{find_entry, entries-rise}
-use Rattle.heap_data.specs.HeapValue.{HeapValue}
-use Rattle.heap_data.specs.CollectionValue.{CollectionValue, IsOpened, SlotValue, root_slot, field_slot_of, target_of_slot}
+use Rattle.steps.specs.HeapValue.{HeapValue}
+use Rattle.steps.specs.CollectionValue.{CollectionValue, IsOpened, SlotValue, root_slot, field_slot_of, target_of_slot}
 use Rattle.heap.proofs.SoundHeap.{heap_closed, heap_object}
 use Rattle.workers.specs.Total.{one_if, times}
 use Rattle.workers.specs.Joined.{Each}

@@ -4,11 +4,11 @@ use Rattle.std.specs.Ordering.{nat_cmp}
 use Rattle.std.specs.FinMap.{find}
 use Rattle.layout.specs.Place.{IsLargeAt}
 use Rattle.block_pool.specs.BlockValue.{BlockValue}
-use Rattle.claims.specs.ClaimsValue.{IsSeatOf}
-use Rattle.plain_cells.specs.Plain.{IsFit, place_held}
+use Rattle.block_pool.specs.ClaimsValue.{IsSeatOf}
+use Rattle.forwarding.specs.Plain.{IsFit, place_held}
 use Rattle.steps.specs.ConfigRange.{IsInRange}
-use Rattle.heap_data.specs.HeapValue.{HeapValue}
-use Rattle.heap_data.specs.CollectionValue.{CollectionValue, IsOpened}
+use Rattle.steps.specs.HeapValue.{HeapValue}
+use Rattle.steps.specs.CollectionValue.{CollectionValue, IsOpened}
 use Rattle.heap.specs.IsHeap.{IsHeap}
 use Rattle.workers.specs.System.{opening_worker}
 use Rattle.workers.specs.WorkerRun.{WorkerRun, History}

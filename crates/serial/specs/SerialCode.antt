@@ -8,12 +8,12 @@ use Rattle.layout.specs.declared.place.Place.{Place}
 use Rattle.layout.specs.Place.{place_word}
 use Rattle.layout.proofs.Pointers.{place_word-one_to_one}
 use Rattle.block_pool.specs.BlockValue.{BlockValue, block_code}
-use Rattle.plain_cells.specs.declared.held.Held.{Held}
-use Rattle.plain_cells.specs.Plain.{PlainPassValue}
-use Rattle.plain_cells.specs.Plain.{PlainValue as PlainCellsValue}
-use Rattle.plain_queues.specs.PlainValue.{PlainLane}
-use Rattle.plain_queues.specs.PlainValue.{PlainValue as PlainQueuesValue}
-use Rattle.copies.specs.Handed.{CopiesKeyValue, key_code}
+use Rattle.forwarding.specs.declared.plain_cells.held.Held.{Held}
+use Rattle.forwarding.specs.Plain.{PlainPassValue}
+use Rattle.forwarding.specs.Plain.{PlainValue as PlainCellsValue}
+use Rattle.pending_queues.specs.PlainValue.{PlainLane}
+use Rattle.pending_queues.specs.PlainValue.{PlainValue as PlainQueuesValue}
+use Rattle.scavenge.specs.Handed.{CopiesKeyValue, key_code}
 use Rattle.workers.specs.Block.{Block, Copy}
 use Rattle.workers.specs.Worker.{Worker, Proposal, Copied, Claimed, Hand, Nothing, Open, Holding, HoldingLarge}
 use Rattle.scavenge.specs.Shown.{WorkspaceValue}

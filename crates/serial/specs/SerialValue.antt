@@ -3,20 +3,20 @@ use Rattle.std.specs.Prelude.{◌≡◌, ℕ, zero, suc, true, false, List, [], 
 use Rattle.std.specs.Coded.{Coded, code_by, coded×, coded_ℕ}
 use Rattle.model.specs.Destination.{dest_count}
 use Rattle.block_pool.specs.BlockValue.{BlockValue}
-use Rattle.claims.specs.ClaimsValue.{ClaimsValue, SeatValue, claims_code, seat_code}
-use Rattle.heap_data.specs.HeapValue.{HeapValue, heap_code}
-use Rattle.heap_data.specs.CollectionValue.{CollectionValue, target_of_slot}
-use Rattle.heap_data.specs.CollectionCode.{collection_code}
-use Rattle.plain_cells.specs.Plain.{PlainPassValue}
-use Rattle.plain_cells.specs.Plain.{PlainValue as PlainCellsValue}
-use Rattle.plain_queues.specs.PlainValue.{PlainLane, lane_at}
-use Rattle.plain_queues.specs.PlainValue.{PlainValue as PlainQueuesValue}
-use Rattle.copies.specs.Handed.{CopiesKeyValue}
+use Rattle.block_pool.specs.ClaimsValue.{ClaimsValue, SeatValue, claims_code, seat_code}
+use Rattle.steps.specs.HeapValue.{HeapValue, heap_code}
+use Rattle.steps.specs.CollectionValue.{CollectionValue, target_of_slot}
+use Rattle.steps.specs.CollectionCode.{collection_code}
+use Rattle.forwarding.specs.Plain.{PlainPassValue}
+use Rattle.forwarding.specs.Plain.{PlainValue as PlainCellsValue}
+use Rattle.pending_queues.specs.PlainValue.{PlainLane, lane_at}
+use Rattle.pending_queues.specs.PlainValue.{PlainValue as PlainQueuesValue}
+use Rattle.scavenge.specs.Handed.{CopiesKeyValue}
 use Rattle.workers.specs.Setting.{Setting, setting_of}
 use Rattle.workers.specs.System.{System, Event, Look, Race, cell_of, without_number}
 use Rattle.workers.specs.WorkerSteps.{current_slot, cell_wanted, draw_wanted}
 use Rattle.workers.specs.Steps.{Step}
-use Rattle.to_space.specs.Named.{named}
+use Rattle.scavenge.specs.Named.{named}
 use Rattle.scavenge.specs.Shown.{WorkspaceValue}
 use Rattle.scavenge.specs.Evacuates.{WantsMore}
 use Rattle.serial.specs.SerialCode.{cells_code, pass_code, queues_code, workspace_code}

@@ -8,7 +8,10 @@ mod queueing;
 mod racing;
 mod readers;
 mod serial;
+mod serial_steps;
+mod settling;
 mod taking;
 
 pub use parts::SerialParts;
 pub use serial::SerialCollection;
+pub use serial_steps::run_to_end;

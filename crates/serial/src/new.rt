@@ -6,11 +6,10 @@ ghost use Rattle.serial.specs.IsSerial.{IsReadyToCollect};
 
 use crate::serial::SerialCollection;
 use block_pool::Claims;
-use copies::CopiesKey;
+use forwarding::PlainCells;
 use heap::{Collection, Heap};
-use plain_cells::PlainCells;
-use plain_queues::PlainPending;
-use scavenge::Workspace;
+use pending_queues::PlainPending;
+use scavenge::{CopiesKey, Workspace};
 use std::alloc::{AllocError, Allocator};
 use std::snapshot::Snapshot;
 

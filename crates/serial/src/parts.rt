@@ -3,10 +3,9 @@ ghost use Rattle.std.specs.Prelude.{◌≡◌};
 ghost use Rattle.serial.specs.IsSerial.{IsSerial};
 
 use crate::serial::SerialCollection;
-use copies::Copies;
-use plain_cells::{PlainCells, PlainPass};
-use plain_queues::{PlainPending, PlainSeat};
-use scavenge::Workspace;
+use forwarding::{PlainCells, PlainPass};
+use pending_queues::{PlainPending, PlainSeat};
+use scavenge::{Copies, Workspace};
 use std::alloc::{Allocator, Global};
 
 /// The cells and what the worker knows of them, its queue, and its own part.

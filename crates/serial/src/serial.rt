@@ -1,10 +1,9 @@
 //! What a collection by one worker has.
 use block_pool::{ClaimSeat, Claims};
-use copies::Copies;
+use forwarding::{PlainCells, PlainPass};
 use heap::{Collection, Heap};
-use plain_cells::{PlainCells, PlainPass};
-use plain_queues::{PlainPending, PlainSeat};
-use scavenge::Workspace;
+use pending_queues::{PlainPending, PlainSeat};
+use scavenge::{Copies, Workspace};
 use std::alloc::{Allocator, Global};
 use std::marker::Model;
 use std::snapshot::Snapshot;

@@ -1,5 +1,5 @@
 ghost use Rattle.std.specs.Prelude.{◌≡◌, ◌<◌, IfOk, length};
-ghost use Rattle.box_cells.specs.Noted.{IsPassOf, IsApart};
+ghost use Rattle.forwarding.specs.Noted.{IsPassOf, IsApart};
 
 use crate::cell_tests::{first_place_stays, is_second};
 use forwarding::{BoxCells, BoxPass, Cells, Forwards, Outcome, SettleError, look_then_race};

@@ -1,6 +1,6 @@
 ghost use Rattle.std.specs.Prelude.{◌≡◌, ◌<◌, IfOk, length};
 ghost use Rattle.std.specs.Thread.{IsSync};
-ghost use Rattle.box_cells.specs.Noted.{IsPassOf};
+ghost use Rattle.forwarding.specs.Noted.{IsPassOf};
 
 use forwarding::{BoxCells, BoxPass, Forwards, Outcome, SettleError};
 use layout::Place;

@@ -1,5 +1,5 @@
 ghost use Rattle.std.specs.Prelude.{◌≡◌, ◌<◌, length, IfOk};
-ghost use Rattle.plain_cells.specs.Plain.{IsFit, Differ};
+ghost use Rattle.forwarding.specs.Plain.{IsFit, Differ};
 
 use forwarding::{
     Cells, Forwards, Outcome, PlainCells, PlainPass, SettleError, WordCells, WordPass,

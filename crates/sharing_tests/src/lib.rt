@@ -13,6 +13,7 @@ mod claim_tests;
 mod idle_tests;
 #[cfg(test)]
 mod idle_thread_tests;
+mod queue_tests;
 #[cfg(test)]
 mod verdict_tests;
 #[cfg(test)]

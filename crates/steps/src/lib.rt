@@ -4,6 +4,7 @@
 mod all_steps;
 mod config;
 mod destinations;
+pub mod heap_data;
 mod step_id;
 
 pub use all_steps::MOST_STEPS;

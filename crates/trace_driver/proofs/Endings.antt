@@ -2,13 +2,13 @@
 use Rattle.std.proofs.Common.{◌≡◌, ℕ, List, Option, Some, None, sym, subst, arith}
 use Rattle.std.specs.Prelude.{IfSome}
 use Rattle.model.specs.Config.{Config}
-use Rattle.command_line.specs.declared.words.Options.{Options}
-use Rattle.command_line.specs.declared.words.Task.{Task}
-use Rattle.command_line.specs.declared.words.Task.TheVariants.{Replay}
-use Rattle.trace_lines.specs.declared.fault.Fault.{Fault}
-use Rattle.trace_lines.specs.declared.fault.Fault.TheVariants.{BadTrace, BadSchedule, HeapFull, NoMemory, ReadFailed, WriteFailed}
-use Rattle.trace_lines.specs.Faults.{MatchEachFault}
-use Rattle.trace_lines.specs.Outcome.{outcome}
+use Rattle.trace_driver.specs.declared.command_line.words.Options.{Options}
+use Rattle.trace_driver.specs.declared.command_line.words.Task.{Task}
+use Rattle.trace_driver.specs.declared.command_line.words.Task.TheVariants.{Replay}
+use Rattle.trace_session.specs.declared.trace_lines.fault.Fault.{Fault}
+use Rattle.trace_session.specs.declared.trace_lines.fault.Fault.TheVariants.{BadTrace, BadSchedule, HeapFull, NoMemory, ReadFailed, WriteFailed}
+use Rattle.trace_session.specs.Faults.{MatchEachFault}
+use Rattle.trace_session.specs.Outcome.{outcome}
 use Rattle.trace_replay.specs.ReplayStops.{HasTraceFault, HasScheduleFault, Quietly, Stops}
 use Rattle.trace_driver.specs.Program.{config_of, ByTask, AreInRange, PrintsFaulty, StopsFaulty, in_trace, in_schedule, IsFaulty, EndsAs}
 

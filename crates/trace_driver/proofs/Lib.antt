@@ -1,2 +1,3 @@
 -- How a replay ends.
+
 pub mod Endings

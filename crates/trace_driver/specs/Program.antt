@@ -5,11 +5,11 @@ use Rattle.model.specs.Config.{Config}
 use Rattle.model.specs.declared.kind.Kind.{Kind}
 use Rattle.model.specs.Commands.{Run as Meant}
 use Rattle.heap.specs.ConfigRange.{IsInRange, sizes_of}
-use Rattle.trace_lines.specs.Outcome.{outcome}
-use Rattle.trace_lines.specs.Carried.{Prints}
-use Rattle.command_line.specs.declared.words.Options.{Options}
-use Rattle.command_line.specs.declared.words.Task.{Task}
-use Rattle.command_line.specs.declared.words.Task.TheVariants.{Run, Replay}
+use Rattle.trace_session.specs.Outcome.{outcome}
+use Rattle.trace_session.specs.Carried.{Prints}
+use Rattle.trace_driver.specs.declared.command_line.words.Options.{Options}
+use Rattle.trace_driver.specs.declared.command_line.words.Task.{Task}
+use Rattle.trace_driver.specs.declared.command_line.words.Task.TheVariants.{Run, Replay}
 use Rattle.trace_text.specs.declared.schedule.ScheduleKind.{ScheduleKind}
 use Rattle.trace_replay.specs.Replays.{IsReplayed}
 use Rattle.trace_replay.specs.ReplayStops.{HasTraceFault, HasScheduleFault, Quietly, Stops}

@@ -1,14 +1,15 @@
 //! Reads a trace, carries it out, with schedules or without, and writes what it prints.
 #![tactic(auto)]
 
+mod command_line;
 mod config;
 mod program;
 mod replaying;
 mod running;
 
-pub use byte_streams::{CountedReader, ReadFailed, Source};
 pub use config::RunConfig;
+pub use heap_text::{CountedReader, ReadFailed, Source};
 pub use program::main_with;
 pub use replaying::replay;
 pub use running::{run, run_one};
-pub use trace_lines::Fault;
+pub use trace_session::Fault;

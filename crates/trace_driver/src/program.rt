@@ -1,20 +1,20 @@
 //! The whole program over memory: the words of a command line, and what is read and written.
 ghost use Rattle.std.specs.Prelude.{◌≡◌, ◌+◌, ◌-◌, ◌^◌, ◌<◌, ◌≤◌, ◌⊎◌, ◌↔◌, IfOk, IsOk};
 ghost use Rattle.std.specs.Io.KnownBytes.{Appends};
-ghost use Rattle.trace_lines.specs.Faults.{MatchEachFault};
-ghost use Rattle.trace_lines.specs.FaultText.{fault_line};
+ghost use Rattle.trace_session.specs.Faults.{MatchEachFault};
+ghost use Rattle.trace_session.specs.FaultText.{fault_line};
 ghost use Rattle.trace_driver.specs.Program.{config_of, AreInRange, EndsAs};
-ghost use Rattle.command_line.specs.declared.words.Options.{Options as Asked};
+ghost use Rattle.trace_driver.specs.declared.command_line.words.Options.{Options as Asked};
 
+use crate::command_line::{Options, Refused, Task, read_words};
 use crate::config::RunConfig;
 use crate::replaying::replay;
 use crate::running::run;
-use byte_streams::{Sink, Source, write_all};
-use command_line::{Options, Refused, Task, read_words};
 use heap::{BadConfig, Config};
+use heap_text::{Sink, Source, write_all};
 use std::alloc::Global;
 use std::convert::AsStr;
-use trace_lines::{Fault, write_fault};
+use trace_session::{Fault, write_fault};
 
 /// The settings that the words ask for. So far only a replay has more than one worker.
 fn run_config(options: &Options) -> Result<RunConfig, BadConfig>

@@ -1,13 +1,13 @@
 //! A replay from bytes to bytes.
 ghost use Rattle.std.specs.Prelude.{◌≡◌, ◌+◌, ◌-◌, ◌^◌, ◌<◌, ◌≤◌, ◌⊎◌, ◌*◌, length, MatchOption, IfSome, OnOk, IfErr};
-ghost use Rattle.trace_lines.specs.Faults.{MatchEachFault};
+ghost use Rattle.trace_session.specs.Faults.{MatchEachFault};
 ghost use Rattle.trace_replay.specs.Replays.{IsReplayed};
 ghost use Rattle.trace_replay.specs.ReplayStops.{HasTraceFault, HasScheduleFault, WantsBlocks, IsSoundAt, Quietly, Stops};
 
 use crate::config::RunConfig;
-use byte_streams::{Sink, Source};
+use heap_text::{Sink, Source};
 use std::alloc::Allocator;
-use trace_lines::Fault;
+use trace_session::Fault;
 
 /// Reads a whole trace whose collections have schedules, carries it out and writes what it prints. It makes the heap
 /// first. The workers take turns on one thread.

@@ -1,19 +1,19 @@
 //! A run from bytes to bytes.
 ghost use Rattle.std.specs.Prelude.{◌≡◌, ℕ, ◌+◌, ◌-◌, ◌^◌, ◌<◌, ◌≤◌, ◌⊎◌, ◌*◌, None, Some, length, MatchOption, IfSome, IfOk, OnOk, IfErr};
-ghost use Rattle.trace_lines.specs.CollectsFirst.{IsSoundSoFar};
-ghost use Rattle.trace_lines.specs.Faults.{MatchFault};
-ghost use Rattle.trace_lines.specs.Outcome.{outcome_from, outcome};
-ghost use Rattle.trace_lines.specs.Pieces.{HasNoFeed, pieces};
-ghost use Rattle.trace_lines.specs.Carried.{StopsAt, Silently, LeavesBefore, LeavesOutput, Prints, PrintsFront};
-ghost use Rattle.trace_lines.specs.Stepped.{AtEach, CarriesOutTo};
+ghost use Rattle.trace_session.specs.CollectsFirst.{IsSoundSoFar};
+ghost use Rattle.trace_session.specs.Faults.{MatchFault};
+ghost use Rattle.trace_session.specs.Outcome.{outcome_from, outcome};
+ghost use Rattle.trace_session.specs.Pieces.{HasNoFeed, pieces};
+ghost use Rattle.trace_session.specs.Carried.{StopsAt, Silently, LeavesBefore, LeavesOutput, Prints, PrintsFront};
+ghost use Rattle.trace_session.specs.Stepped.{AtEach, CarriesOutTo};
 ghost use Rattle.trace_replay.specs.Refusals.{MayBeFull};
 ghost use Rattle.trace_replay.specs.Session.{Stands};
 
 use crate::config::RunConfig;
-use byte_streams::{Sink, Source};
+use heap_text::{Sink, Source};
 use std::alloc::Allocator;
-use trace_lines::{Fault, read_all, split_line};
 use trace_replay::{Session, carry_out};
+use trace_session::{Fault, read_all, split_line};
 use trace_text::Kind;
 
 /// The most bytes that a line has before its line feed.

@@ -8,20 +8,20 @@ use Rattle.model.specs.Config.{Config}
 use Rattle.model.specs.LiveCount.{LiveCount}
 use Rattle.model.specs.Text.{collection_line}
 use Rattle.model.specs.Store.{Store, collected, kept_count}
-use Rattle.heap_data.specs.HeapValue.{HeapValue}
-use Rattle.heap_data.specs.CollectionValue.{CollectionValue, young_names}
-use Rattle.heap_data.specs.CollectedHeap.{CollectedHeap}
-use Rattle.heap_data.specs.ReportValue.{WorkerLists, all_won, renaming_of}
-use Rattle.heap_data.specs.declared.report.Delivery.{Delivery}
+use Rattle.steps.specs.HeapValue.{HeapValue}
+use Rattle.steps.specs.CollectionValue.{CollectionValue, young_names}
+use Rattle.steps.specs.CollectedHeap.{CollectedHeap}
+use Rattle.steps.specs.ReportValue.{WorkerLists, all_won, renaming_of}
+use Rattle.steps.specs.declared.heap_data.report.Delivery.{Delivery}
 use Rattle.workers.proofs.OneMore.{stepped_run}
-use Rattle.schedules.specs.Collects.{Collects, setting_at}
-use Rattle.schedules.specs.Together.{CollectsTogether}
-use Rattle.report_lines.specs.ReportText.{workers_text}
-use Rattle.trace_lines.specs.Stepped.{Writes}
-use Rattle.trace_step.specs.Made as made_by
-use Rattle.trace_step.specs.Stands.{StandsFor}
-use Rattle.trace_step.proofs.StandsCollected.{stands_collected, kept_same, freed_same}
-use Rattle.schedules.specs.Brought.{ComesToCommit}
+use Rattle.trace_replay.specs.Collects.{Collects, setting_at}
+use Rattle.trace_replay.specs.Together.{CollectsTogether}
+use Rattle.heap_text.specs.ReportText.{workers_text}
+use Rattle.trace_session.specs.Stepped.{Writes}
+use Rattle.trace_session.specs.Made as made_by
+use Rattle.trace_session.specs.Stands.{StandsFor}
+use Rattle.trace_session.proofs.trace_step.StandsCollected.{stands_collected, kept_same, freed_same}
+use Rattle.trace_replay.specs.Brought.{ComesToCommit}
 use Rattle.trace_replay.specs.Replays.{MakesRoom}
 use Rattle.trace_replay.proofs.BySchedule.{is_collected}
 

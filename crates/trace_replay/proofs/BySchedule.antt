@@ -12,37 +12,37 @@ use Rattle.model.specs.LiveCount.{LiveCount}
 use Rattle.model.specs.Text.{collection_line}
 use Rattle.model.specs.Store.{Store, collected, kept_count, freed_count}
 use Rattle.model.specs.Commands.{Command as Written, Collect}
-use Rattle.heap_data.specs.HeapValue.{HeapValue}
-use Rattle.heap_data.specs.CollectionValue.{CollectionValue, young_names}
-use Rattle.heap_data.specs.CollectedHeap.{CollectedHeap}
-use Rattle.heap_data.specs.ReportValue.{WorkerLists, all_won, renaming_of}
-use Rattle.heap_data.specs.declared.report.Delivery.{Delivery}
+use Rattle.steps.specs.HeapValue.{HeapValue}
+use Rattle.steps.specs.CollectionValue.{CollectionValue, young_names}
+use Rattle.steps.specs.CollectedHeap.{CollectedHeap}
+use Rattle.steps.specs.ReportValue.{WorkerLists, all_won, renaming_of}
+use Rattle.steps.specs.declared.heap_data.report.Delivery.{Delivery}
 use Rattle.workers.specs.Setting.{Setting}
 use Rattle.workers.specs.System.{System, Event as Happens}
 use Rattle.workers.specs.Steps as steps
 use Rattle.workers.proofs.OneMore.{stepped_run}
-use Rattle.schedules.specs.Collects.{Collects, setting_at, opening_at}
-use Rattle.schedules.specs.Together.{CollectsTogether}
-use Rattle.schedules.specs.Events.{IsShortOfBlocks}
-use Rattle.report_lines.specs.ReportText.{report_text}
+use Rattle.trace_replay.specs.Collects.{Collects, setting_at, opening_at}
+use Rattle.trace_replay.specs.Together.{CollectsTogether}
+use Rattle.trace_replay.specs.Events.{IsShortOfBlocks}
+use Rattle.heap_text.specs.ReportText.{report_text}
 use Rattle.heap_text.specs.declared.cause.Cause.TheVariants.{Command}
 use Rattle.trace_text.specs.Grammar.{entry_of, ◌>>=◌}
 use Rattle.trace_text.specs.declared.schedule.ScheduleLine.{ScheduleLine}
 use Rattle.trace_text.specs.declared.schedule.ScheduleKind.{ScheduleKind}
 use Rattle.trace_text.specs.declared.schedule.ScheduleLine.TheVariants.{Nothing, Event, Finish, Commit}
-use Rattle.trace_lines.specs.declared.fault.Fault.{Fault}
-use Rattle.trace_lines.specs.declared.fault.Fault.TheVariants.{BadTrace, BadSchedule, HeapFull, NoMemory, ReadFailed, WriteFailed}
-use Rattle.trace_lines.specs.Faults.{MatchEachFault}
-use Rattle.trace_lines.specs.Pieces.{finished, pieces}
-use Rattle.trace_lines.specs.Outcome.{line_step, entry_step, command_step}
-use Rattle.trace_lines.specs.Sound.{IsSoundCommand}
-use Rattle.trace_lines.specs.Stepped.{AtEach}
-use Rattle.trace_step.specs.Made as made_by
-use Rattle.trace_step.specs.Stands.{StandsFor}
-use Rattle.trace_step.proofs.StandsCollected.{stands_collected, kept_same, freed_same}
-use Rattle.schedules.specs.Runs.{Brings, LinesRun, stay, go}
-use Rattle.schedules.specs.Stops.{IsUnreadable, IsRefusedBlocks, IsSoundLine, OfLine, StopsAt, StopsWith}
-use Rattle.schedules.specs.Brought.{IsBrought, BringsToCommit}
+use Rattle.trace_session.specs.declared.trace_lines.fault.Fault.{Fault}
+use Rattle.trace_session.specs.declared.trace_lines.fault.Fault.TheVariants.{BadTrace, BadSchedule, HeapFull, NoMemory, ReadFailed, WriteFailed}
+use Rattle.trace_session.specs.Faults.{MatchEachFault}
+use Rattle.trace_session.specs.Pieces.{finished, pieces}
+use Rattle.trace_session.specs.Outcome.{line_step, entry_step, command_step}
+use Rattle.trace_session.specs.Sound.{IsSoundCommand}
+use Rattle.trace_session.specs.Stepped.{AtEach}
+use Rattle.trace_session.specs.Made as made_by
+use Rattle.trace_session.specs.Stands.{StandsFor}
+use Rattle.trace_session.proofs.trace_step.StandsCollected.{stands_collected, kept_same, freed_same}
+use Rattle.trace_replay.specs.Runs.{Brings, LinesRun, stay, go}
+use Rattle.trace_replay.specs.Stops.{IsUnreadable, IsRefusedBlocks, IsSoundLine, OfLine, StopsAt, StopsWith}
+use Rattle.trace_replay.specs.Brought.{IsBrought, BringsToCommit}
 use Rattle.trace_replay.specs.Replays.{State, HasCollected}
 use Rattle.trace_replay.specs.ReplayStops.{OpensSchedule, AfterCollect, HasTraceFault, HasScheduleFault, WantsBlocks, IsSoundAt, outside, inside}
 use Rattle.trace_replay.specs.ReplayStops as stops

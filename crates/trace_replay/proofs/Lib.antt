@@ -1,4 +1,8 @@
 -- How a replay goes on, and where it stops.
+
+-- How a schedule goes on, where it stops, and what it brings to a commit.
+pub mod SchedulesLineByLine
+pub mod FromMachine
 pub mod BySchedule
 pub mod ByRoom
 pub mod RoomSteps

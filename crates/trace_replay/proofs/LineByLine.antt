@@ -9,15 +9,15 @@ use Rattle.model.specs.Config.{Config}
 use Rattle.model.specs.Store.{Store}
 use Rattle.model.specs.Commands.{Collect}
 use Rattle.trace_text.specs.Grammar.{entry_of}
-use Rattle.trace_lines.specs.declared.fault.Fault.{Fault}
-use Rattle.trace_lines.specs.declared.fault.Fault.TheVariants.{BadTrace, BadSchedule, HeapFull, NoMemory, ReadFailed, WriteFailed}
-use Rattle.trace_lines.specs.Faults.{MatchFault, MatchEachFault}
-use Rattle.trace_lines.specs.Pieces.{HasNoFeed, Piece, finished, unfinished, pieces}
-use Rattle.trace_lines.specs.Outcome.{line_step}
-use Rattle.trace_lines.specs.Stepped.{AtEach, Writes}
-use Rattle.trace_lines.proofs.PieceLemmas.{pieces_line, pieces_last}
-use Rattle.trace_step.specs.SessionType.{Session}
-use Rattle.trace_step.specs.Session.{Stands}
+use Rattle.trace_session.specs.declared.trace_lines.fault.Fault.{Fault}
+use Rattle.trace_session.specs.declared.trace_lines.fault.Fault.TheVariants.{BadTrace, BadSchedule, HeapFull, NoMemory, ReadFailed, WriteFailed}
+use Rattle.trace_session.specs.Faults.{MatchFault, MatchEachFault}
+use Rattle.trace_session.specs.Pieces.{HasNoFeed, Piece, finished, unfinished, pieces}
+use Rattle.trace_session.specs.Outcome.{line_step}
+use Rattle.trace_session.specs.Stepped.{AtEach, Writes}
+use Rattle.trace_session.proofs.PieceLemmas.{pieces_line, pieces_last}
+use Rattle.trace_session.specs.SessionType.{Session}
+use Rattle.trace_session.specs.Session.{Stands}
 use Rattle.trace_replay.specs.Replays.{State, state_of, Steps, StepsWithRoom, Replays, stay, step, with_room, collection, CollectsTo, LineReplayed, ReplaysTo, ReplaysAll}
 use Rattle.trace_replay.specs.ReplayStops.{AfterCollect, HasTraceFault, HasScheduleFault, WantsRoom, WantsBlocks, IsLineSoFar, IsSoundAt, Quietly, StopsIn, outside}
 use Rattle.trace_replay.specs.ReplayStops as stops

@@ -3,11 +3,11 @@ use Rattle.std.proofs.Common.{◌≡◌, ℕ, List, Option, Ok, subst, inl, inr}
 use Rattle.model.specs.Config.{Config}
 use Rattle.model.specs.Store.{Store, collected}
 use Rattle.trace_text.specs.Grammar.{entry_of}
-use Rattle.trace_lines.specs.CollectsFirst.{LineCollectsFirst, auto_line}
-use Rattle.trace_lines.specs.Outcome.{line_step}
-use Rattle.trace_lines.specs.Stepped.{AtEach, StepsTo, Writes}
-use Rattle.trace_step.specs.SessionType.{Session}
-use Rattle.trace_step.specs.Session.{Stands}
+use Rattle.trace_session.specs.CollectsFirst.{LineCollectsFirst, auto_line}
+use Rattle.trace_session.specs.Outcome.{line_step}
+use Rattle.trace_session.specs.Stepped.{AtEach, StepsTo, Writes}
+use Rattle.trace_session.specs.SessionType.{Session}
+use Rattle.trace_session.specs.Session.{Stands}
 use Rattle.trace_replay.specs.Replays.{state_of, IsNoCollection, MakesRoom, HasMadeRoom, LineReplayed}
 
 -- a line that needed no room

@@ -3,13 +3,13 @@ use Rattle.std.proofs.Common.{◌≡◌, ℕ, List, Option, Some, None, Result, 
 use Rattle.std.specs.Prelude.{MatchOption, IfSome, IfErr, OnOk}
 use Rattle.model.specs.Config.{Config}
 use Rattle.model.specs.Store.{empty_store}
-use Rattle.trace_lines.specs.declared.fault.Fault.{Fault}
-use Rattle.trace_lines.specs.declared.fault.Fault.TheVariants.{BadTrace, BadSchedule, HeapFull, NoMemory, ReadFailed, WriteFailed}
-use Rattle.trace_lines.specs.Faults.{MatchEachFault}
-use Rattle.trace_lines.specs.Pieces.{Piece, pieces}
-use Rattle.trace_lines.specs.Stepped.{AtEach}
-use Rattle.trace_step.specs.SessionType.{Session}
-use Rattle.trace_step.specs.Session.{Stands}
+use Rattle.trace_session.specs.declared.trace_lines.fault.Fault.{Fault}
+use Rattle.trace_session.specs.declared.trace_lines.fault.Fault.TheVariants.{BadTrace, BadSchedule, HeapFull, NoMemory, ReadFailed, WriteFailed}
+use Rattle.trace_session.specs.Faults.{MatchEachFault}
+use Rattle.trace_session.specs.Pieces.{Piece, pieces}
+use Rattle.trace_session.specs.Stepped.{AtEach}
+use Rattle.trace_session.specs.SessionType.{Session}
+use Rattle.trace_session.specs.Session.{Stands}
 use Rattle.trace_replay.specs.Replays.{State, state_of, ReplaysAll, IsReplayed}
 use Rattle.trace_replay.specs.ReplayStops.{HasTraceFault, HasScheduleFault, WantsBlocks, IsSoundAt, Quietly, StopsIn, Stops}
 

@@ -5,16 +5,16 @@ use Rattle.model.specs.Config.{Config}
 use Rattle.model.specs.Store.{empty_store}
 use Rattle.model.specs.Commands.{Collect}
 use Rattle.model.specs.declared.kind.Kind.{Kind}
-use Rattle.schedules.specs.Collects.{setting_at, opening_at}
-use Rattle.schedules.specs.Events.{IsShortOfBlocks}
+use Rattle.trace_replay.specs.Collects.{setting_at, opening_at}
+use Rattle.trace_replay.specs.Events.{IsShortOfBlocks}
 use Rattle.trace_text.specs.Grammar.{entry_of}
 use Rattle.trace_text.specs.declared.schedule.ScheduleKind.{ScheduleKind}
-use Rattle.trace_lines.specs.Pieces.{Piece, finished, pieces}
-use Rattle.trace_lines.specs.Outcome.{piece_step}
-use Rattle.trace_lines.specs.Sound.{IsSound, IsSoundCommand}
-use Rattle.trace_lines.specs.CollectsFirst.{LineCollectsFirst}
-use Rattle.trace_step.specs.Refusals.{IsFullFor}
-use Rattle.schedules.specs.Stops.{IsUnreadable, IsRefusedBlocks, IsSoundLine, OfLine, StopsAt, StopsWith}
+use Rattle.trace_session.specs.Pieces.{Piece, finished, pieces}
+use Rattle.trace_session.specs.Outcome.{piece_step}
+use Rattle.trace_session.specs.Sound.{IsSound, IsSoundCommand}
+use Rattle.trace_session.specs.CollectsFirst.{LineCollectsFirst}
+use Rattle.trace_session.specs.Refusals.{IsFullFor}
+use Rattle.trace_replay.specs.Stops.{IsUnreadable, IsRefusedBlocks, IsSoundLine, OfLine, StopsAt, StopsWith}
 use Rattle.trace_replay.specs.Replays.{State, Holds, IsNoCollection, HasMadeRoom, Replays}
 
 -- a `collect` line without a fault, and the text after it

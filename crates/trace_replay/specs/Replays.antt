@@ -5,22 +5,22 @@ use Rattle.model.specs.Config.{Config}
 use Rattle.model.specs.Store.{Store, empty_store}
 use Rattle.model.specs.Commands.{Command, Collect}
 use Rattle.model.specs.declared.kind.Kind.{Kind}
-use Rattle.heap_data.specs.HeapValue.{HeapValue}
-use Rattle.heap_data.specs.ReportValue.{WorkerLists}
-use Rattle.heap_data.specs.declared.report.Delivery.{Delivery}
+use Rattle.steps.specs.HeapValue.{HeapValue}
+use Rattle.steps.specs.ReportValue.{WorkerLists}
+use Rattle.steps.specs.declared.heap_data.report.Delivery.{Delivery}
 use Rattle.workers.specs.System.{System}
-use Rattle.schedules.specs.Collects.{Collects, setting_at, opening_at}
-use Rattle.schedules.specs.Together.{Reports}
-use Rattle.report_lines.specs.ReportText.{workers_text}
+use Rattle.trace_replay.specs.Collects.{Collects, setting_at, opening_at}
+use Rattle.trace_replay.specs.Together.{Reports}
+use Rattle.heap_text.specs.ReportText.{workers_text}
 use Rattle.trace_text.specs.Grammar.{entry_of}
 use Rattle.trace_text.specs.ScheduleGrammar.{schedule_line_of}
 use Rattle.trace_text.specs.declared.schedule.ScheduleLine.TheVariants.{Commit}
-use Rattle.trace_lines.specs.Pieces.{Piece, finished, pieces}
-use Rattle.trace_lines.specs.CollectsFirst.{LineCollectsFirst, auto_line}
-use Rattle.trace_lines.specs.Outcome.{line_step, command_step}
-use Rattle.trace_step.specs.Stands.{StandsFor}
-use Rattle.trace_step.specs.SessionType.{Session}
-use Rattle.schedules.specs.Runs.{Finishes, LinesRun}
+use Rattle.trace_session.specs.Pieces.{Piece, finished, pieces}
+use Rattle.trace_session.specs.CollectsFirst.{LineCollectsFirst, auto_line}
+use Rattle.trace_session.specs.Outcome.{line_step, command_step}
+use Rattle.trace_session.specs.Stands.{StandsFor}
+use Rattle.trace_session.specs.SessionType.{Session}
+use Rattle.trace_replay.specs.Runs.{Finishes, LinesRun}
 
 -- a heap with its named roots, and the store that they stand for
 pub record State : Type 0 where

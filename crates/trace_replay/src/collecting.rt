@@ -1,20 +1,19 @@
 //! Collections by several workers in turn: by a schedule, and by themselves.
 ghost use Rattle.std.specs.Prelude.{◌≡◌, ◌+◌, ◌-◌, ◌^◌, ◌<◌, ◌≤◌, [], Some, length, MatchOption, IfOk, OnOk, IfErr};
 ghost use Rattle.model.specs.Store.{collected};
-ghost use Rattle.schedules.specs.Events.{IsShortOfBlocks};
-ghost use Rattle.trace_lines.specs.Faults.{MatchFault, MatchEachFault};
-ghost use Rattle.trace_lines.specs.Stepped.{AtEach, Writes};
-ghost use Rattle.trace_step.specs.Session.{Stands};
+ghost use Rattle.trace_replay.specs.Events.{IsShortOfBlocks};
+ghost use Rattle.trace_session.specs.Faults.{MatchFault, MatchEachFault};
+ghost use Rattle.trace_session.specs.Stepped.{AtEach, Writes};
+ghost use Rattle.trace_session.specs.Session.{Stands};
 ghost use Rattle.trace_replay.specs.Replays.{CollectsTo, MakesRoom, state_of};
 ghost use Rattle.trace_replay.specs.ReplayStops.{AfterCollect, HasTraceFault, HasScheduleFault, WantsBlocks, IsSoundAt};
 
-use byte_streams::{Sink, WriteFailed};
+use crate::schedules::{settled_by_itself, settled_by_schedule};
+use heap_text::{Cause, Sink, WriteFailed, workers_text, write_report};
 use model::Kind;
-use report_lines::{Cause, workers_text, write_report};
-use schedules::{settled_by_itself, settled_by_schedule};
 use std::alloc::Allocator;
-use trace_lines::Fault;
-use trace_step::Session;
+use trace_session::Fault;
+use trace_session::trace_step::Session;
 
 /// Collects the generations 0 to `generation` by so many workers, 1 to 16, as the schedule says that follows line
 /// `number`, and writes what was kept and freed and what each worker did. It gives the number of the line after the

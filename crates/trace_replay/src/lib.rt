@@ -3,6 +3,8 @@
 
 mod collecting;
 mod replaying;
+mod schedule_events;
+mod schedules;
 
 pub use replaying::replay;
-pub use trace_step::{Session, carry_out};
+pub use trace_session::trace_step::{Session, carry_out};

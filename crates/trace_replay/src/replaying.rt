@@ -2,21 +2,21 @@
 ghost use Rattle.std.specs.Prelude.{◌≡◌, ◌+◌, ◌-◌, ◌^◌, ◌*◌, ◌<◌, ◌≤◌, ◌⊎◌, ◌∷◌, Some, Ok, Err, length, MatchOption, IfSome, IfNone, IfOk, OnOk, IfErr};
 ghost use Rattle.model.specs.Commands.{Collect};
 ghost use Rattle.trace_text.specs.Grammar.{entry_of};
-ghost use Rattle.trace_lines.specs.Faults.{MatchFault, MatchEachFault};
-ghost use Rattle.trace_lines.specs.Outcome.{line_step};
-ghost use Rattle.trace_lines.specs.Pieces.{HasNoFeed, finished, pieces};
-ghost use Rattle.trace_lines.specs.Stepped.{AtEach, Writes};
-ghost use Rattle.trace_step.specs.Session.{Stands};
+ghost use Rattle.trace_session.specs.Faults.{MatchFault, MatchEachFault};
+ghost use Rattle.trace_session.specs.Outcome.{line_step};
+ghost use Rattle.trace_session.specs.Pieces.{HasNoFeed, finished, pieces};
+ghost use Rattle.trace_session.specs.Stepped.{AtEach, Writes};
+ghost use Rattle.trace_session.specs.Session.{Stands};
 ghost use Rattle.trace_replay.specs.Replays.{IsNoCollection, IsReplayed, LineReplayed, ReplaysAll, ReplaysTo, state_of};
 ghost use Rattle.trace_replay.specs.ReplayStops.{HasTraceFault, HasScheduleFault, WantsRoom, WantsBlocks, IsLineSoFar, IsSoundAt, Quietly, StopsIn, Stops};
 
 use crate::collecting::{collect, make_room};
-use byte_streams::{Sink, Source};
 use heap::Config;
+use heap_text::{Sink, Source};
 use model::Kind;
 use std::alloc::Allocator;
-use trace_lines::{Attempt, Fault, read_all, split_line};
-use trace_step::{Session, attempt};
+use trace_session::trace_step::{Session, attempt};
+use trace_session::{Attempt, Fault, read_all, split_line};
 use trace_text::{Command, Line, parse};
 
 /// The most bytes that a line has before its line feed.

@@ -14,16 +14,16 @@ use Rattle.model.specs.Store.{Store, object_at, targets}
 use Rattle.model.specs.Commands.{Set, Put, Outcome, with_object, silent, on_target, on_known}
 use Rattle.heap.specs.HeapValue.{HeapValue}
 use Rattle.heap.specs.Commands.{Changes, Stores, HasPointer, HasPlain, IsValue, value_at, rooted_object}
-use Rattle.trace_lines.specs.Outcome.{command_step}
-use Rattle.trace_lines.specs.Sound.{IsSoundCommand}
-use Rattle.trace_lines.specs.Stepped.{StepsQuietly}
+use Rattle.trace_session.specs.Outcome.{command_step}
+use Rattle.trace_session.specs.Sound.{IsSoundCommand}
+use Rattle.trace_session.specs.Stepped.{StepsQuietly}
 use Rattle.trace_session.specs.Targets.{IsRootOf, IsUnknown}
-use Rattle.trace_names.specs.NamesView.{named}
-use Rattle.store_places.specs.Made.{MadeByCalls, stored, written}
-use Rattle.store_places.specs.Stands.{StandsFor, renamed_object, LeadsTo}
-use Rattle.trace_names.proofs.NamedLemmas.{one_value}
-use Rattle.store_places.proofs.PlacedChanged.{placed_changed, named_changed}
-use Rattle.store_places.proofs.FieldLemmas.{renamed_pointer, pointer_led}
+use Rattle.trace_session.specs.NamesView.{named}
+use Rattle.trace_session.specs.Made.{MadeByCalls, stored, written}
+use Rattle.trace_session.specs.Stands.{StandsFor, renamed_object, LeadsTo}
+use Rattle.trace_session.proofs.NamedLemmas.{one_value}
+use Rattle.trace_session.proofs.PlacedChanged.{placed_changed, named_changed}
+use Rattle.trace_session.proofs.FieldLemmas.{renamed_pointer, pointer_led}
 
 not_below : (i n : ℕ) → n ≤ i → nat_lt i n ≡ false
 not_below i n le = ⊎_elim (λ t. let lt = ltb-true i n t in absurd (omega (arith, lt, le))) (λ f. f) (cases_Bool (nat_lt i n))

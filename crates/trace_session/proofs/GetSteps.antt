@@ -9,13 +9,13 @@ use Rattle.model.specs.Store.{Store}
 use Rattle.model.specs.Commands.{Get, with_name}
 use Rattle.heap.specs.HeapValue.{HeapValue}
 use Rattle.heap.specs.Commands.{HasPointer, Loads, pointer_of}
-use Rattle.trace_lines.specs.Outcome.{command_step}
-use Rattle.trace_lines.specs.Sound.{IsSoundCommand}
-use Rattle.trace_lines.specs.Stepped.{StepsQuietly}
-use Rattle.trace_names.specs.NamesView.{named}
-use Rattle.store_places.specs.Stands.{StandsFor, LeadsTo}
-use Rattle.store_places.proofs.StandsLoaded.{Pointed, pointed, nil_there, stands_loaded}
-use Rattle.trace_names.proofs.NamedLemmas.{added}
+use Rattle.trace_session.specs.Outcome.{command_step}
+use Rattle.trace_session.specs.Sound.{IsSoundCommand}
+use Rattle.trace_session.specs.Stepped.{StepsQuietly}
+use Rattle.trace_session.specs.NamesView.{named}
+use Rattle.trace_session.specs.Stands.{StandsFor, LeadsTo}
+use Rattle.trace_session.proofs.StandsLoaded.{Pointed, pointed, nil_there, stands_loaded}
+use Rattle.trace_session.proofs.NamedLemmas.{added}
 use Rattle.trace_session.proofs.FieldSteps.{has_pointer}
 
 module _ (heap : HeapValue) (names : List (List ℕ × ℕ)) (config : Config) (store : Store) (stands : StandsFor heap names config store) (new_text text : List ℕ) (i : ℕ) where

@@ -1,7 +1,43 @@
 -- What the commands on objects and fields do to a session.
-pub use Rattle.store_places.proofs.CountsSame
-pub use Rattle.store_places.proofs.TextSame
-pub use Rattle.store_places.proofs.StandsCollected
+
+-- Lemmas on the names in use.
+pub mod NamedLemmas
+pub mod NameLists
+pub mod InOrder
+pub mod NamesLemmas
+pub mod NamesOrder
+-- Lemmas on the lines of a trace.
+pub mod PieceLemmas
+pub mod CarriedLemmas
+pub mod TextLemmas
+pub mod ReadLemmas
+pub mod FaultLemmas
+pub mod CommandFaults
+pub mod SecondAttempt
+-- A store and the heap that stands for it, after each change of both.
+pub mod StoreObjects
+pub mod PlacedNew
+pub mod NamedAdded
+pub mod NamedNew
+pub mod NamedDropped
+pub mod StoreLists
+pub mod LiveSame
+pub mod PlacedCollected
+pub mod PresentLists
+pub mod CountsSame
+pub mod PlacedChanged
+pub mod FieldLemmas
+pub mod NamesSame
+pub mod TextSame
+pub mod StandsCollected
+pub mod StandsLoaded
 pub mod SessionSteps
 pub mod FieldSteps
 pub mod GetSteps
+-- What the commands that print do to a session.
+pub mod PrintedSteps
+pub mod HeapSteps
+-- What a line does that is a command.
+pub mod CommandLine
+pub mod Twice
+pub mod NoMemory

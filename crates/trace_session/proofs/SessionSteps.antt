@@ -13,19 +13,19 @@ use Rattle.model.specs.Store.{Store, empty_store}
 use Rattle.model.specs.Commands.{New, Drop, room_in, is_large_size, is_too_big, with_new, with_room, without_name}
 use Rattle.heap.specs.HeapValue.{HeapValue, empty_heap}
 use Rattle.heap.specs.Commands.{Allocates, AllocatesSmall, AllocatesLarge}
-use Rattle.heap_data.specs.declared.root_id.RootId.{RootId}
-use Rattle.trace_lines.specs.CollectsFirst.{CollectsFirst}
-use Rattle.trace_lines.specs.Outcome.{command_step}
-use Rattle.trace_lines.specs.Sound.{IsSoundCommand}
-use Rattle.trace_lines.specs.Stepped.{StepsQuietly}
-use Rattle.trace_names.specs.NamesView.{named}
+use Rattle.steps.specs.declared.heap_data.root_id.RootId.{RootId}
+use Rattle.trace_session.specs.CollectsFirst.{CollectsFirst}
+use Rattle.trace_session.specs.Outcome.{command_step}
+use Rattle.trace_session.specs.Sound.{IsSoundCommand}
+use Rattle.trace_session.specs.Stepped.{StepsQuietly}
+use Rattle.trace_session.specs.NamesView.{named}
 use Rattle.trace_session.specs.Refusals.{CommandMayBeFull, LacksBlocks}
-use Rattle.store_places.specs.Made.{MadeByCalls, made, allocated, released}
-use Rattle.store_places.specs.Stands.{StandsFor, IsPlaced, IsNamed}
-use Rattle.trace_names.proofs.NamedLemmas.{added, dropped, none_is_some}
-use Rattle.store_places.proofs.PlacedNew.{placed_new, place_with}
-use Rattle.store_places.proofs.NamedNew.{named_new}
-use Rattle.store_places.proofs.NamedDropped.{named_dropped}
+use Rattle.trace_session.specs.Made.{MadeByCalls, made, allocated, released}
+use Rattle.trace_session.specs.Stands.{StandsFor, IsPlaced, IsNamed}
+use Rattle.trace_session.proofs.NamedLemmas.{added, dropped, none_is_some}
+use Rattle.trace_session.proofs.PlacedNew.{placed_new, place_with}
+use Rattle.trace_session.proofs.NamedNew.{named_new}
+use Rattle.trace_session.proofs.NamedDropped.{named_dropped}
 
 -- a heap without objects and no names stand for the store without objects
 pub StandsFor-empty : (config : Config) (heap : HeapValue) (names : List (List ℕ × ℕ)) → heap ≡ empty_heap config → names ≡ [] → StandsFor heap names config (empty_store config)

@@ -1,6 +1,27 @@
 -- What a session stands for, and where it may be refused.
-pub use Rattle.store_places.specs.Made
-pub use Rattle.store_places.specs.Stands
+
+-- What the names in use are.
+pub mod NamesView
+-- What a trace prints, line by line, and why a run of it stops.
+pub mod Pieces
+pub mod Outcome
+pub mod Sound
+pub mod CollectsFirst
+pub mod Carried
+pub mod Stepped
+pub mod Faults
+pub mod Attempts
+pub mod FaultText
+pub mod Reading
+-- What it means that a heap and its named roots stand for a store.
+pub use Rattle.collector.specs.Collects
+pub use Rattle.collector.specs.Together
+pub mod Made
+pub mod Stands
 pub mod Session
 pub mod Targets
 pub mod Refusals
+-- What a session stands for, and where it may be refused.
+pub use Rattle.trace_session.specs.declared.session.Session as SessionType
+-- What a line does to a session, and where it may be refused.
+pub mod Commands

@@ -6,11 +6,11 @@ use Rattle.model.specs.Store.{Store}
 use Rattle.model.specs.Commands.{Command, New, Collect, is_large_size}
 use Rattle.heap.specs.HeapValue.{HeapValue}
 use Rattle.heap.specs.Commands.{wanted_blocks}
-use Rattle.store_places.specs.Collects.{IsShortOfBlocks}
+use Rattle.trace_session.specs.Collects.{IsShortOfBlocks}
 use Rattle.trace_text.specs.Grammar.{entry_of}
-use Rattle.trace_lines.specs.Sound.{IsSound, IsSoundCommand}
-use Rattle.trace_lines.specs.CollectsFirst.{CollectsFirst, LineCollectsFirst}
-use Rattle.store_places.specs.Stands.{StandsFor}
+use Rattle.trace_session.specs.Sound.{IsSound, IsSoundCommand}
+use Rattle.trace_session.specs.CollectsFirst.{CollectsFirst, LineCollectsFirst}
+use Rattle.trace_session.specs.Stands.{StandsFor}
 
 -- in a heap that stands for the store fewer blocks are free than the space bound of what is live in it, for one worker
 pub record IsShortFor (config : Config) (store : Store) (g : ℕ) : Type 0 where

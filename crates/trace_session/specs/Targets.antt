@@ -1,6 +1,6 @@
 -- What a pointer is set to, by a name or nil.
 use Rattle.std.specs.Prelude.{◌≡◌, ℕ, List, Option, Some, None}
-use Rattle.trace_names.specs.NamesView.{named}
+use Rattle.trace_session.specs.NamesView.{named}
 
 -- nil and no root, or the root of the name
 abbrev pub IsRootOf : List (List ℕ × ℕ) → Option (List ℕ) → Option ℕ → Type 0

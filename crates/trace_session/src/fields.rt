@@ -3,18 +3,18 @@ ghost use Rattle.std.specs.Prelude.{◌≡◌, ◌↔◌, Some, Err, OnOk, IfOk,
 ghost use Rattle.std.specs.Option.{option_map};
 ghost use Rattle.model.specs.Commands.{Set, Put, Get, target_of};
 ghost use Rattle.heap.specs.Commands.{HasPointer};
-ghost use Rattle.trace_lines.specs.Faults.{MatchFault};
-ghost use Rattle.trace_lines.specs.Outcome.{command_step};
-ghost use Rattle.trace_lines.specs.Sound.{IsSoundCommand};
+ghost use Rattle.trace_session.specs.Faults.{MatchFault};
+ghost use Rattle.trace_session.specs.Outcome.{command_step};
+ghost use Rattle.trace_session.specs.Sound.{IsSoundCommand};
 ghost use Rattle.trace_session.specs.Session.{Stands};
-ghost use Rattle.trace_lines.specs.Stepped.{AtEach, StepsQuietly};
+ghost use Rattle.trace_session.specs.Stepped.{AtEach, StepsQuietly};
 ghost use Rattle.trace_session.specs.Targets.{IsRootOf, IsUnknown};
 
 use crate::session::Session;
+use crate::trace_lines::Fault;
 use heap::{FieldError, Heap, LoadError, RootId, StoreError};
 use model::Kind;
 use std::alloc::Allocator;
-use trace_lines::Fault;
 
 /// Whether the root's object has a pointer of that number.
 fn has_pointer<A: Allocator + Clone>(heap: &Heap<A>, root: RootId, field: u64) -> bool

@@ -3,5 +3,11 @@
 
 mod fields;
 mod session;
+mod store_places;
+mod trace_lines;
+mod trace_names;
+mod trace_prints;
+pub mod trace_step;
 
 pub use session::Session;
+pub use trace_lines::{Attempt, Fault, read_all, split_line, write_fault};

@@ -2,18 +2,18 @@
 ghost use Rattle.std.specs.Prelude.{◌≡◌, ◌+◌, ◌*◌, ◌<◌, ◌≤◌, ◌++◌, [], Some, None, Ok, Err, IfOk, OnOk, IfErr};
 ghost use Rattle.model.specs.Store.{empty_store};
 ghost use Rattle.model.specs.Commands.{New, Drop};
-ghost use Rattle.trace_lines.specs.Attempts.{MatchAttempt};
-ghost use Rattle.trace_lines.specs.CollectsFirst.{CollectsFirst};
-ghost use Rattle.trace_lines.specs.Faults.{MatchFault};
-ghost use Rattle.trace_lines.specs.Outcome.{command_step};
-ghost use Rattle.trace_lines.specs.Sound.{IsSoundCommand};
-ghost use Rattle.trace_lines.specs.Stepped.{AtEach, StepsQuietly};
+ghost use Rattle.trace_session.specs.Attempts.{MatchAttempt};
+ghost use Rattle.trace_session.specs.CollectsFirst.{CollectsFirst};
+ghost use Rattle.trace_session.specs.Faults.{MatchFault};
+ghost use Rattle.trace_session.specs.Outcome.{command_step};
+ghost use Rattle.trace_session.specs.Sound.{IsSoundCommand};
+ghost use Rattle.trace_session.specs.Stepped.{AtEach, StepsQuietly};
 
+use crate::trace_lines::{Attempt, Fault};
+use crate::trace_names::Names;
 use heap::{AllocateError, Config, Heap, MakeError};
 use model::Kind;
 use std::alloc::{Allocator, Global};
-use trace_lines::{Attempt, Fault};
-use trace_names::Names;
 
 /// A heap, and the names that lead into it. It isn't used again after a fault.
 #[derive(Drop)]

@@ -1,4 +1,5 @@
 -- A collection by several workers, event by event, over names.
+
 pub mod Block
 pub mod Setting
 pub mod Worker
@@ -18,3 +19,6 @@ pub mod Lawful
 pub mod Measure
 pub mod Finish
 pub mod Alone
+-- In which order the workers of a run take and scan.
+pub mod Taken
+pub mod Scans

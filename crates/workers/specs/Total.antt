@@ -1,6 +1,6 @@
 -- Sums over lists.
 use Rattle.std.specs.Prelude.{ℕ, zero, suc, ◌+◌, List, [], ◌∷◌, Option, Some, None, nat_eq}
-pub use Rattle.views.specs.Total.{total, one_if}
+pub use Rattle.model.specs.Total.{total, one_if}
 
 -- over the first so many
 abbrev pub front_total : {A : Type 0} → (A → ℕ) → ℕ → List A → ℕ

@@ -3,6 +3,7 @@
 
 mod alone;
 mod ready;
+mod run_orders;
 
 ghost use Rattle.std.specs.Prelude.{◌≡◌, ◌<◌, ◌≤◌, ◌⊎◌, ◌+◌, ◌*◌, ℕ, true, List, length, Option, Some, None, slice_get};
 ghost use Rattle.model.specs.Graph.{Graph};

@@ -1,7 +1,7 @@
 use Rattle.std.proofs.Common.{◌≡◌, refl, sym, ap, subst, ◌∙◌, arith}
 use Rattle.model.specs.Config.{Config}
-use Rattle.heap_data.specs.CollectionValue.{CollectionValue}
-use Rattle.heap_data.specs.ReportValue.{WorkerLists}
+use Rattle.steps.specs.CollectionValue.{CollectionValue}
+use Rattle.steps.specs.ReportValue.{WorkerLists}
 use Rattle.collector.specs.Collects.{ScansAlone, ScansOnce}
 use Rattle.collector.proofs.Concluding.{collects}
 use Rattle.collector.proofs.collect_one.Goals as goal

@@ -1,8 +1,8 @@
 use Rattle.std.proofs.Common.{◌≡◌, Err, sym, ap, subst, ◌∙◌}
-use Rattle.heap_data.specs.HeapValue.{HeapValue}
-use Rattle.heap_data.specs.CollectionValue.{CollectionValue}
+use Rattle.steps.specs.HeapValue.{HeapValue}
+use Rattle.steps.specs.CollectionValue.{CollectionValue}
 use Rattle.collector.specs.Collects.{ScansAlone, ScansOnce}
-use Rattle.serial_steps.proofs.Going.{reached_of}
+use Rattle.serial.proofs.Going.{reached_of}
 use Rattle.collector.proofs.Concluding.{begins, ready_in, short_of, scans, scans_once}
 use Rattle.collector.proofs.scavenged.Goals as goal
 

@@ -3,7 +3,7 @@ use Rattle.std.proofs.lemmas.List.{map-append, take_all, take_more}
 use Rattle.std.specs.FinMap.{values}
 use Rattle.model.specs.Census.{step_count}
 use Rattle.steps.specs.StepPairs.{step_pair}
-use Rattle.heap_data.specs.CensusView.{step_value}
+use Rattle.steps.specs.CensusView.{step_value}
 use Rattle.steps.specs.declared.step_id.StepId.{StepId}
 use Rattle.heap.proofs.counts.counts_of.Goals as goal
 

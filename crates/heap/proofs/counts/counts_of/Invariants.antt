@@ -2,7 +2,7 @@ use Rattle.std.proofs.Common.{◌≡◌, length, map, take}
 use Rattle.std.specs.FinMap.{values}
 use Rattle.model.specs.Census.{step_count}
 use Rattle.steps.specs.StepPairs.{step_pair}
-use Rattle.heap_data.specs.CensusView.{step_value}
+use Rattle.steps.specs.CensusView.{step_value}
 use Rattle.heap.proofs.counts.counts_of.Given as goal
 
 -- the steps before this one are counted

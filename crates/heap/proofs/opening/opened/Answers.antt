@@ -1,7 +1,7 @@
 use Rattle.std.proofs.Common.{◌++◌, map, refl, ap, ◌∙◌}
 use Rattle.model.specs.OldSlots.{old_slots}
-use Rattle.heap_data.specs.CollectionValue.{field_slot_of}
-use Rattle.heap_data.specs.SlotView.{slot_value}
+use Rattle.steps.specs.CollectionValue.{field_slot_of}
+use Rattle.steps.specs.SlotView.{slot_value}
 use Rattle.heap_objects.specs.Objects.{graph_in}
 use Rattle.heap.proofs.OpenedHeap.{opened_is}
 use Rattle.heap.proofs.opening.opened.Goals as goal

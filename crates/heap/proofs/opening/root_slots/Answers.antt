@@ -1,6 +1,6 @@
 use Rattle.std.proofs.Common.{ap, sym, ◌∙◌, refl, ◌+◌, ◌++◌, map, arith}
 use Rattle.std.proofs.lemmas.List.{append-nil}
-use Rattle.heap_data.specs.SlotView.{slot_value}
+use Rattle.steps.specs.SlotView.{slot_value}
 use Rattle.heap.proofs.RootSlots.{slots_left, slots_are_all, slots_more, slot_next, no_slot_left, number_within}
 use Rattle.heap.proofs.opening.root_slots.Goals as goal
 

@@ -1,8 +1,8 @@
 use Rattle.std.proofs.Common.{◌≡◌, ◌-◌, ◌++◌, length, map}
 use Rattle.std.specs.FinMap.{entries}
-use Rattle.heap_data.specs.CollectionValue.{root_slot}
-use Rattle.heap_data.specs.SlotView.{slot_value}
-use Rattle.heap_commit.specs.Roots.{roots_map}
+use Rattle.steps.specs.CollectionValue.{root_slot}
+use Rattle.steps.specs.SlotView.{slot_value}
+use Rattle.heap.specs.Roots.{roots_map}
 use Rattle.heap.proofs.RootSlots.{slots_left}
 use Rattle.heap.proofs.opening.root_slots.Given as goal
 

@@ -2,8 +2,8 @@ use Rattle.std.proofs.Common.{map, sum_by, length, ap, ◌∙◌, arith}
 use Rattle.model.specs.Graph.{Object, size_of}
 use Rattle.std.proofs.Common.{ℕ, List}
 use Rattle.std.proofs.lemmas.List.{length-map}
-use Rattle.heap_data.specs.Words.{target_of_word}
-use Rattle.heap_graph.proofs.LargeReads.{in_use}
+use Rattle.steps.specs.Words.{target_of_word}
+use Rattle.heap_objects.proofs.LargeReads.{in_use}
 use Rattle.heap_objects.proofs.LargeSizes.{counts_next, entries_end}
 use Rattle.heap_objects.proofs.large.count_large.Goals as goal
 

@@ -1,6 +1,6 @@
 use Rattle.std.proofs.Common.{◌≡◌, ◌≤◌, ◌*◌, ◌-◌, length, map, sum_by}
 use Rattle.model.specs.Graph.{size_of}
-use Rattle.heap_graph.proofs.LargeCounts.{entries_below}
+use Rattle.heap_objects.proofs.LargeCounts.{entries_below}
 use Rattle.heap_objects.proofs.large.count_large.Given as goal
 
 -- those of the numbers so far

@@ -1,5 +1,5 @@
 use Rattle.std.proofs.Common.{◌≡◌, vec_len, ◌-◌, ◌+◌, ◌++◌, length, take, replicate, true, false, sym, ap, ◌∙◌, arith}
-use Rattle.heap_graph.proofs.LargeReads.{in_use}
+use Rattle.heap_objects.proofs.LargeReads.{in_use}
 use Rattle.heap_objects.proofs.YoungLarge.{before_all, numbered_to, numbered_next}
 use Rattle.heap_objects.proofs.large.large_numbers.Goals as goal
 

@@ -1,7 +1,7 @@
 use Rattle.std.proofs.Common.{ℕ, None, is_some, slice_index, ap, ◌∙◌, arith}
 use Rattle.std.specs.Prelude.{slice_index_or, option_and_then}
 use Rattle.large_objects.specs.LargeValue.{LargeObject, large_at}
-use Rattle.heap_space.specs.Space.{SpaceValue}
+use Rattle.heap_objects.specs.Space.{SpaceValue}
 use Rattle.heap_objects.specs.Renewing.{renewed}
 use Rattle.heap_objects.proofs.Renewals.{renewed_to, kept_from}
 use Rattle.heap_objects.proofs.renewing.renew.Goals as goal

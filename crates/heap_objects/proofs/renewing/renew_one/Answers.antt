@@ -1,11 +1,11 @@
 use Rattle.std.proofs.Common.{◌≤◌, None, is_some, slice_index, sym, ap, subst, ◌∙◌, arith}
 use Rattle.model.specs.Destination.{IsStep}
 use Rattle.steps.specs.StepPairs.{step_pair}
-use Rattle.heap_space.specs.Space.{IsSpace, SpaceValue, pool_in}
+use Rattle.heap_objects.specs.Space.{IsSpace, SpaceValue, pool_in}
 use Rattle.large_objects.specs.LargeValue.{without_object}
 use Rattle.large_objects.specs.PoolBlocks.{ArePoolBlocks}
-use Rattle.block_table.proofs.TableSteps.{get_or_any}
-use Rattle.heap_graph.proofs.LargeReads.{in_use}
+use Rattle.nursery.proofs.TableSteps.{get_or_any}
+use Rattle.heap_objects.proofs.LargeReads.{in_use}
 use Rattle.heap_objects.specs.Inside.{AreApart}
 use Rattle.heap_objects.proofs.Renewals.{dest_is_step, with-others, goes_to, renewed_kept, relabelled, removed_apart}
 use Rattle.heap_objects.proofs.renewing.renew_one.Goals as goal

@@ -1,6 +1,6 @@
 use Rattle.std.proofs.Common.{◌∙◌, refl, ap, sym, get_or}
 use Rattle.std.proofs.Math.ListN.{get_or-map}
-use Rattle.tally.specs.TallyValue.{both_seats}
+use Rattle.pending_queues.specs.TallyValue.{both_seats}
 use Rattle.pending_queues.proofs.Joining.{stands, next, name_there}
 use Rattle.pending_queues.proofs.shares.gather_marks.Goals as goal
 

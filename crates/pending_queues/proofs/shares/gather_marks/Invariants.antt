@@ -1,6 +1,6 @@
 use Rattle.std.proofs.Common.{map, refl}
 use Rattle.std.specs.Prelude.{vec_len}
-use Rattle.tally.specs.TallyValue.{both_seats}
+use Rattle.pending_queues.specs.TallyValue.{both_seats}
 use Rattle.pending_queues.proofs.Joining.{Halfway}
 use Rattle.pending_queues.proofs.shares.gather_marks.Given as goal
 

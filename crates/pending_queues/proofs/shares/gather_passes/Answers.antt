@@ -1,5 +1,5 @@
 use Rattle.std.proofs.Common.{◌<◌, ◌∙◌, refl, ap, get_or}
-use Rattle.lanes.specs.PassValue.{both}
+use Rattle.pending_queues.specs.PassValue.{both}
 use Rattle.pending_queues.proofs.Joining.{stands, next, name_there, all_there}
 use Rattle.pending_queues.proofs.shares.gather_passes.Goals as goal
 

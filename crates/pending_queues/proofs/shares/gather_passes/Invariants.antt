@@ -1,6 +1,6 @@
 use Rattle.std.proofs.Common.{refl}
 use Rattle.std.specs.Prelude.{vec_len}
-use Rattle.lanes.specs.PassValue.{both}
+use Rattle.pending_queues.specs.PassValue.{both}
 use Rattle.pending_queues.proofs.Joining.{Halfway}
 use Rattle.pending_queues.proofs.shares.gather_passes.Given as goal
 

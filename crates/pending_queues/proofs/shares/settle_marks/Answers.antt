@@ -2,7 +2,7 @@ use Rattle.std.proofs.Common.{arith, ◌≡◌, ◌<◌, ◌≤◌, ◌∙◌, l
 use Rattle.std.proofs.Math.ListN.{get_or-map}
 use Rattle.std.proofs.lemmas.List.{length-map}
 use Rattle.std.proofs.lemmas.Option.{slice_get_within, slice_get_read}
-use Rattle.tally.specs.TallyValue.{TallySeatValue}
+use Rattle.pending_queues.specs.TallyValue.{TallySeatValue}
 use Rattle.pending_queues.proofs.Joining.{name_there, settled_next}
 use Rattle.pending_queues.proofs.shares.settle_marks.Goals as goal
 

@@ -1,6 +1,6 @@
 use Rattle.std.proofs.Common.{◌≡◌, ◌<◌, ◌≤◌, ℕ, Some}
 use Rattle.std.specs.List.{slice_get}
-use Rattle.tally.specs.TallyValue.{TallySeatValue}
+use Rattle.pending_queues.specs.TallyValue.{TallySeatValue}
 use Rattle.pending_queues.proofs.shares.settle_marks.Given as goal
 
 abbrev pub invariant-loop-number : goal.invariant-loop-number

@@ -1,7 +1,7 @@
 use Rattle.std.proofs.Common.{arith, ◌≡◌, ◌∙◌, length, ap, sym}
 use Rattle.std.proofs.lemmas.List.{length-map}
 use Rattle.std.proofs.lemmas.Option.{slice_get_within}
-use Rattle.pending_laws.specs.Gathered.{IsSettled}
+use Rattle.pending_queues.specs.Gathered.{IsSettled}
 use Rattle.pending_queues.proofs.Joining.{settled_next}
 use Rattle.pending_queues.proofs.shares.settle_passes.Goals as goal
 

@@ -1,7 +1,7 @@
 use Rattle.std.proofs.Common.{◌≡◌, ◌<◌, ℕ, Some}
 use Rattle.std.specs.List.{slice_get}
-use Rattle.lanes.specs.PassValue.{PassValue}
-use Rattle.pending_laws.specs.Gathered.{IsSettled}
+use Rattle.pending_queues.specs.PassValue.{PassValue}
+use Rattle.pending_queues.specs.Gathered.{IsSettled}
 use Rattle.pending_queues.proofs.shares.settle_passes.Given as goal
 
 abbrev pub invariant-loop-number : goal.invariant-loop-number

@@ -1,7 +1,7 @@
 use Rattle.std.proofs.Common.{◌∙◌, All, ap, length, map}
-use Rattle.exports.specs.Written.{with_takers}
-use Rattle.pending_laws.specs.Delivered.{IsLabelledBelow}
-use Rattle.pending_laws.proofs.TellingLists.{named_next}
+use Rattle.pending_queues.specs.Written.{with_takers}
+use Rattle.pending_queues.specs.Delivered.{IsLabelledBelow}
+use Rattle.pending_queues.proofs.TellingLists.{named_next}
 use Rattle.pending_queues.proofs.Seating.{one_more}
 use Rattle.pending_queues.proofs.telling.name_all.Goals as goal
 

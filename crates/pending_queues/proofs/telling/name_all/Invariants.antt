@@ -1,7 +1,7 @@
 use Rattle.std.proofs.Common.{◌≡◌, ℕ, ◌<◌, All, drop, get_or, length}
-use Rattle.pending_laws.specs.Delivered.{IsLabelledBelow}
-use Rattle.pending_laws.specs.PendingValue.{SeatValue}
-use Rattle.pending_laws.specs.Telling.{named}
+use Rattle.pending_queues.specs.Delivered.{IsLabelledBelow}
+use Rattle.pending_queues.specs.PendingValue.{SeatValue}
+use Rattle.pending_queues.specs.Telling.{named}
 use Rattle.pending_queues.proofs.telling.name_all.Given as goal
 
 abbrev pub invariant-loop-seat : goal.invariant-loop-seat

@@ -1,6 +1,6 @@
 use Rattle.std.proofs.Common.{◌∙◌, ap, set}
-use Rattle.pending_laws.specs.Telling.{all_left}
-use Rattle.pending_laws.proofs.TellingLists.{placed_next}
+use Rattle.pending_queues.specs.Telling.{all_left}
+use Rattle.pending_queues.proofs.TellingLists.{placed_next}
 use Rattle.pending_queues.proofs.telling.tell_all.Goals as goal
 
 pub loop-seat-preserved : goal.loop-seat-preserved

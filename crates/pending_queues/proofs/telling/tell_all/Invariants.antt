@@ -1,5 +1,5 @@
 use Rattle.std.proofs.Common.{◌≡◌, drop, length}
-use Rattle.pending_laws.specs.Telling.{placed}
+use Rattle.pending_queues.specs.Telling.{placed}
 use Rattle.pending_queues.proofs.telling.tell_all.Given as goal
 
 abbrev pub invariant-loop-seat : goal.invariant-loop-seat

@@ -4,7 +4,7 @@ use Rattle.std.specs.Option.{option_map}
 use Rattle.layout.specs.Place.{place_word}
 use Rattle.workers.specs.WorkerSteps.{current_slot}
 use Rattle.workers.specs.Setting.{is_collected}
-use Rattle.workspace.specs.Shown.{WorkspaceValue, name_of}
+use Rattle.scavenge.specs.Shown.{WorkspaceValue, name_of}
 use Rattle.scavenge.specs.Told.{Tells}
 use Rattle.scavenge.specs.Slots.{seen, Looks}
 use Rattle.scavenge.proofs.Empty.{numbered, collected, looks_none}

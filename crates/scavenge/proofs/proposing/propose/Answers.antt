@@ -6,7 +6,7 @@ use Rattle.layout.specs.ObjectRef.{raw_of}
 use Rattle.workers.specs.Setting.{words_of}
 use Rattle.workers.specs.Worker.{allocation_at}
 use Rattle.workers.specs.WorkerSteps.{with_new_block}
-use Rattle.workspace.specs.Shown.{WorkspaceValue, has_place_for}
+use Rattle.scavenge.specs.Shown.{WorkspaceValue, has_place_for}
 use Rattle.scavenge.specs.Slots.{objects_of}
 use Rattle.scavenge.proofs.Placing.{Facts, facts, fits_alike, fits_new}
 use Rattle.scavenge.proofs.proposing.propose.Goals as goal

@@ -6,7 +6,7 @@ use Rattle.layout.specs.ObjectRef.{raw_of}
 use Rattle.workers.specs.Setting.{fits_in}
 use Rattle.workers.specs.Worker.{Worker, allocation_at}
 use Rattle.workers.specs.WorkerSteps.{propose_into, draws_for}
-use Rattle.workspace.specs.Shown.{WorkspaceValue, has_place_for}
+use Rattle.scavenge.specs.Shown.{WorkspaceValue, has_place_for}
 use Rattle.scavenge.specs.Slots.{objects_of, seat_after}
 use Rattle.scavenge.proofs.Placing.{Facts, facts, fits_alike, same_copy, no_draw, a_draw, look_no_draw}
 use Rattle.scavenge.proofs.AtOnce.{there_of}

@@ -1,6 +1,6 @@
 use Rattle.std.proofs.Common.{Some, subst}
-use Rattle.cells.specs.declared.outcome.Outcome.TheVariants.{Won, Lost}
-use Rattle.cells.specs.Learned.{Learns, RaceEnds, place_after}
+use Rattle.forwarding.specs.declared.cells.outcome.Outcome.TheVariants.{Won, Lost}
+use Rattle.forwarding.specs.Learned.{Learns, RaceEnds, place_after}
 use Rattle.scavenge.specs.Told.{lost_of}
 use Rattle.scavenge.proofs.Reserved.{raced_of}
 use Rattle.scavenge.proofs.racing.race_for.Goals as goal

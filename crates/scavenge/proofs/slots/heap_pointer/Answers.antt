@@ -3,7 +3,7 @@ use Rattle.std.specs.Option.{option_map}
 use Rattle.layout.specs.Place.{place_word}
 use Rattle.layout.specs.ObjectRef.{raw_of}
 use Rattle.heap.specs.Words.{target_of_word}
-use Rattle.workspace.proofs.SlotLemmas.{get_index}
+use Rattle.scavenge.proofs.WorkspaceSlotLemmas.{get_index}
 use Rattle.scavenge.proofs.SlotLemmas.{field_shown, is_pointer, shown_pointer, get_none}
 use Rattle.scavenge.proofs.slots.heap_pointer.Goals as goal
 

@@ -1,6 +1,6 @@
 use Rattle.std.proofs.Common.{rules, sym, ap, ◌∙◌}
 use Rattle.layout.specs.Place.{place_word}
-use Rattle.workspace.specs.Shown.{known_of}
+use Rattle.scavenge.specs.Shown.{known_of}
 use Rattle.scavenge.specs.Slots.{objects_of}
 use Rattle.scavenge.proofs.Seeing.{slot_seen, seen_is, can_read}
 use Rattle.scavenge.proofs.slots.slot.Goals as goal

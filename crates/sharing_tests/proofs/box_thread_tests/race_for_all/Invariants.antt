@@ -1,5 +1,5 @@
 use Rattle.std.proofs.Common.{◌≡◌, length}
-use Rattle.box_cells.specs.Noted.{IsPassOf}
+use Rattle.forwarding.specs.Noted.{IsPassOf}
 use Rattle.sharing_tests.proofs.box_thread_tests.race_for_all.Given as goal
 
 abbrev pub invariant-loop-name : goal.invariant-loop-name

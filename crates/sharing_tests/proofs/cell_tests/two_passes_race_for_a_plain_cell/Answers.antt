@@ -1,5 +1,5 @@
 use Rattle.std.proofs.Common.{rules, sym, ap, ◌∙◌}
-use Rattle.plain_cells.specs.Plain.{PlainValue, IsFit}
+use Rattle.forwarding.specs.Plain.{PlainValue, IsFit}
 use Rattle.sharing_tests.proofs.cell_tests.two_passes_race_for_a_plain_cell.Goals as goal
 
 pub settle_plain-requires-clause-all : goal.settle_plain-requires-clause-all

@@ -1,6 +1,6 @@
 use Rattle.std.proofs.Common.{rules, ◌≡◌, List, All, subst}
 use Rattle.std.proofs.lemmas.List.Elements.{All-head, All-push, All-rest}
-use Rattle.word_cells.specs.Words.{WordPassValue}
+use Rattle.forwarding.specs.Words.{WordPassValue}
 use Rattle.sharing_tests.specs.declared.word_thread_tests.Done.{Done}
 use Rattle.sharing_tests.proofs.word_thread_tests.settle_all.Goals as goal
 

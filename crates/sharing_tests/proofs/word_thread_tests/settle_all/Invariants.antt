@@ -1,6 +1,6 @@
 use Rattle.std.proofs.Common.{◌≡◌, ◌+◌, ◌≤◌, All, vec_len, vec_capacity}
 use Rattle.std.specs.Vec.Iter.{into_iter_items, into_iter_len}
-use Rattle.word_cells.specs.Words.{WordPassValue}
+use Rattle.forwarding.specs.Words.{WordPassValue}
 use Rattle.sharing_tests.specs.declared.word_thread_tests.Done.{Done}
 use Rattle.sharing_tests.proofs.word_thread_tests.settle_all.Given as goal
 

@@ -1,5 +1,5 @@
 use Rattle.std.proofs.Common.{refl, arith, length, length-append, ap, ◌∙◌}
-use Rattle.trace_lines.proofs.CarriedLemmas.{CarriesOut-none, line_joins, fault_of_line}
+use Rattle.trace_session.proofs.CarriedLemmas.{CarriesOut-none, line_joins, fault_of_line}
 use Rattle.trace_replay.specs.Refusals.{MayBeFull}
 use Rattle.trace_driver.proofs.running.carry_out_lines.Goals as goal
 

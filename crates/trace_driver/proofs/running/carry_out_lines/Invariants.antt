@@ -1,5 +1,5 @@
 use Rattle.std.proofs.Common.{◌≡◌, ◌+◌, ◌≤◌, length}
-use Rattle.trace_lines.specs.Stepped.{AtEach, CarriesOutTo}
+use Rattle.trace_session.specs.Stepped.{AtEach, CarriesOutTo}
 use Rattle.trace_replay.specs.Session.{Stands}
 use Rattle.trace_driver.proofs.running.carry_out_lines.Given as goal
 

@@ -1,5 +1,5 @@
 use Rattle.std.proofs.Common.{rules}
-use Rattle.trace_lines.proofs.TextLemmas.{ends_done, ends_unfinished, ends_long, text_fault}
+use Rattle.trace_session.proofs.TextLemmas.{ends_done, ends_unfinished, ends_long, text_fault}
 use Rattle.trace_replay.specs.Refusals.{MayBeFull}
 use Rattle.trace_driver.proofs.running.carry_out_text.Goals as goal
 

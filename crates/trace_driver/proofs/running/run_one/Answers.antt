@@ -3,7 +3,7 @@ use Rattle.std.specs.Prelude.{IfSome}
 use Rattle.model.specs.Store.{empty_store}
 use Rattle.trace_replay.specs.Refusals.{MayBeFull}
 use Rattle.trace_replay.specs.Session.{Stands}
-use Rattle.trace_lines.proofs.FaultLemmas.{run_faults}
+use Rattle.trace_session.proofs.FaultLemmas.{run_faults}
 use Rattle.trace_driver.proofs.running.run_one.Goals as goal
 
 pub returns-clause-err : goal.returns-clause-err

@@ -1,7 +1,7 @@
 use Rattle.std.proofs.Common.{◌++◌, refl, ap, subst, ◌∙◌, arith}
 use Rattle.std.specs.Io.KnownBytes.{Appends}
 use Rattle.model.specs.Text.{collection_line}
-use Rattle.report_lines.specs.ReportText.{workers_text}
+use Rattle.heap_text.specs.ReportText.{workers_text}
 use Rattle.heap_text.specs.CollectionLine.{cause_word}
 use Rattle.heap_text.specs.declared.cause.Cause.TheVariants.{Command}
 use Rattle.trace_replay.proofs.BySchedule.{no_generation, no_memory_at, fault_of_schedule, at_commit, no_memory_in, collected_to}

@@ -1,8 +1,8 @@
 use Rattle.std.proofs.Common.{◌≡◌, ◌+◌, Ok, refl, ap, subst, ◌∙◌}
-use Rattle.trace_lines.specs.declared.attempt.Attempt.TheVariants.{Done, NurseryFull}
-use Rattle.schedules.specs.Events.{IsShortOfBlocks}
-use Rattle.trace_step.specs.Session.{Stands}
-use Rattle.trace_step.proofs.Twice.{told, first_fault, room_fault, done_twice, no_full_twice, second_fault}
+use Rattle.trace_session.specs.declared.trace_lines.attempt.Attempt.TheVariants.{Done, NurseryFull}
+use Rattle.trace_replay.specs.Events.{IsShortOfBlocks}
+use Rattle.trace_session.specs.Session.{Stands}
+use Rattle.trace_session.proofs.Twice.{told, first_fault, room_fault, done_twice, no_full_twice, second_fault}
 use Rattle.trace_replay.specs.Replays.{state_of, HasMadeRoom}
 use Rattle.trace_replay.specs.ReplayStops.{WantsRoom, for_collection, for_large}
 use Rattle.trace_replay.proofs.RoomSteps.{plain_steps, with_room_steps, made_at_first}

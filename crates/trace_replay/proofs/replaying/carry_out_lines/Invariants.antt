@@ -1,7 +1,7 @@
 use Rattle.std.proofs.Common.{◌≡◌, ◌+◌, ◌≤◌, length}
-use Rattle.trace_lines.specs.Pieces.{pieces}
-use Rattle.trace_lines.specs.Stepped.{AtEach}
-use Rattle.trace_step.specs.Session.{Stands}
+use Rattle.trace_session.specs.Pieces.{pieces}
+use Rattle.trace_session.specs.Stepped.{AtEach}
+use Rattle.trace_session.specs.Session.{Stands}
 use Rattle.trace_replay.specs.Replays.{ReplaysTo, state_of}
 use Rattle.trace_replay.proofs.replaying.carry_out_lines.Given as goal
 

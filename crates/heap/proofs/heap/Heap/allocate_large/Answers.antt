@@ -3,8 +3,8 @@ use Rattle.std.specs.Prelude.{slice_index_or}
 use Rattle.std.specs.FinMap.{insert}
 use Rattle.layout.specs.Place.{place_word}
 use Rattle.heap_objects.specs.Objects.{wanted}
-use Rattle.heap_commit.specs.Roots.{roots_map}
-use Rattle.heap_commit.proofs.RootMap.{roots-insert}
+use Rattle.heap.specs.Roots.{roots_map}
+use Rattle.heap.proofs.RootMap.{roots-insert}
 use Rattle.heap.proofs.Allocating.{large_size, large_is}
 use Rattle.heap.proofs.Wholes.{whole_large}
 use Rattle.heap.proofs.heap.Heap.allocate_large.Goals as goal

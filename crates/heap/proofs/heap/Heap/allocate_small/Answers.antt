@@ -2,8 +2,8 @@ use Rattle.std.proofs.Common.{ap, sym, ◌∙◌, None}
 use Rattle.std.specs.Prelude.{slice_index_or}
 use Rattle.std.specs.FinMap.{insert}
 use Rattle.layout.specs.Place.{place_word}
-use Rattle.heap_commit.specs.Roots.{roots_map}
-use Rattle.heap_commit.proofs.RootMap.{roots-insert}
+use Rattle.heap.specs.Roots.{roots_map}
+use Rattle.heap.proofs.RootMap.{roots-insert}
 use Rattle.heap.proofs.Allocating.{small_size, small_is}
 use Rattle.heap.proofs.Wholes.{whole_small}
 use Rattle.heap.proofs.heap.Heap.allocate_small.Goals as goal

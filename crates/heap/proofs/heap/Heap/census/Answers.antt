@@ -1,10 +1,10 @@
 use Rattle.std.proofs.Common.{map, sym, ◌∙◌}
 use Rattle.std.specs.FinMap.{len}
-use Rattle.heap_data.specs.CensusView.{step_value}
-use Rattle.heap_commit.specs.Roots.{roots_map}
-use Rattle.heap_commit.proofs.RootMap.{len-roots}
+use Rattle.steps.specs.CensusView.{step_value}
+use Rattle.heap.specs.Roots.{roots_map}
+use Rattle.heap.proofs.RootMap.{len-roots}
 use Rattle.heap.proofs.HeapLemmas.{census_is}
-use Rattle.remembering.proofs.WithSets.{closed_in}
+use Rattle.heap.proofs.WithSets.{closed_in}
 use Rattle.heap.proofs.heap.Heap.census.Goals as goal
 
 pub count_remembered-requires : goal.count_remembered-requires

@@ -1,9 +1,9 @@
 use Rattle.std.proofs.Common.{◌≡◌, ℕ, List, Ok, Err, Result, sym, ap, subst, ◌∙◌}
 use Rattle.std.specs.Prelude.{IfOk, OnErr}
-use Rattle.roots.specs.RootsValue.{RootsValue}
+use Rattle.heap.specs.RootsValue.{RootsValue}
 use Rattle.heap_objects.specs.Objects.{ObjectsValue}
-use Rattle.heap_commit.specs.HeapView.{heap_with}
-use Rattle.heap_commit.specs.IsHeap.{IsHeap}
+use Rattle.heap.specs.HeapView.{heap_with}
+use Rattle.heap.specs.IsHeap.{IsHeap}
 use Rattle.heap.specs.Whole.{IsWhole}
 use Rattle.heap.proofs.heap.Heap.commit.Goals as goal
 

@@ -1,5 +1,5 @@
 use Rattle.std.proofs.Common.{sym, subst}
-use Rattle.heap_commit.specs.HeapView.{heap_with}
+use Rattle.heap.specs.HeapView.{heap_with}
 use Rattle.heap.specs.Whole.{IsWhole}
 use Rattle.heap.proofs.HeapLemmas.{empty_view}
 use Rattle.heap.proofs.Wholes.{heap_is, whole_empty}

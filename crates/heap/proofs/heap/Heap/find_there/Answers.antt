@@ -1,5 +1,5 @@
 use Rattle.layout.specs.Place.{place_word}
-use Rattle.remembering.proofs.WithSets.{numbering_in}
+use Rattle.heap.proofs.WithSets.{numbering_in}
 use Rattle.heap.proofs.FoundHere.{found_here}
 use Rattle.heap.proofs.heap.Heap.find_there.Goals as goal
 

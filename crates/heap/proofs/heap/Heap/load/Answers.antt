@@ -2,9 +2,9 @@ use Rattle.std.proofs.Common.{ap, sym, ◌∙◌, None}
 use Rattle.std.specs.Prelude.{slice_index_or}
 use Rattle.std.specs.FinMap.{insert}
 use Rattle.layout.specs.Place.{place_word}
-use Rattle.heap_commit.specs.HeapView.{heap_of}
-use Rattle.heap_commit.specs.Roots.{roots_map}
-use Rattle.heap_commit.proofs.RootMap.{roots-insert}
+use Rattle.heap.specs.HeapView.{heap_of}
+use Rattle.heap.specs.Roots.{roots_map}
+use Rattle.heap.proofs.RootMap.{roots-insert}
 use Rattle.heap.proofs.Loading.{adds_root, closed_loaded, pointer_leads}
 use Rattle.heap.proofs.heap.Heap.load.Goals as goal
 

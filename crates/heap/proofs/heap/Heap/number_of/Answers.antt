@@ -1,4 +1,4 @@
-use Rattle.remembering.proofs.WithSets.{numbering_in, young_in}
+use Rattle.heap.proofs.WithSets.{numbering_in, young_in}
 use Rattle.heap.proofs.heap.Heap.number_of.Goals as goal
 
 pub number_of-requires-clause-numbering : goal.number_of-requires-clause-numbering

@@ -1,4 +1,4 @@
-use Rattle.remembering.proofs.WithSets.{closed_in}
+use Rattle.heap.proofs.WithSets.{closed_in}
 use Rattle.heap.proofs.Wholes.{heap_is}
 use Rattle.heap.proofs.heap.Heap.open_collection.Goals as goal
 

@@ -2,7 +2,7 @@ use Rattle.std.proofs.Common.{[], ap, sym, ◌∙◌}
 use Rattle.std.specs.Option.{option_map}
 use Rattle.layout.specs.ObjectRef.{raw_of}
 use Rattle.layout.specs.Place.{place_word}
-use Rattle.heap_commit.specs.HeapView.{heap_of}
+use Rattle.heap.specs.HeapView.{heap_of}
 use Rattle.heap.proofs.Wholes.{objects_are}
 use Rattle.heap.proofs.Loading.{reads, same_pointer}
 use Rattle.heap.proofs.heap.Heap.pointer_at.Goals as goal

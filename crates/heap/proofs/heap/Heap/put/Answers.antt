@@ -1,5 +1,5 @@
 use Rattle.std.proofs.Common.{rules}
-use Rattle.heap_commit.specs.HeapView.{heap_of}
+use Rattle.heap.specs.HeapView.{heap_of}
 use Rattle.heap.proofs.Storing.{held}
 use Rattle.heap.proofs.Wholes.{whole_put}
 use Rattle.heap.proofs.heap.Heap.put.Goals as goal

@@ -2,7 +2,7 @@ use Rattle.std.proofs.Common.{refl, sym, ap, ◌∙◌}
 use Rattle.std.specs.Option.{option_map}
 use Rattle.layout.specs.Place.{place_word}
 use Rattle.model.proofs.ClosedLemmas.{closed-without_root}
-use Rattle.heap_commit.proofs.RootMap.{get-roots, roots-remove}
+use Rattle.heap.proofs.RootMap.{get-roots, roots-remove}
 use Rattle.heap.proofs.heap.Heap.release.Goals as goal
 
 pub returns-in_default-clause-known : goal.returns-in_default-clause-known

@@ -1,7 +1,7 @@
 use Rattle.std.proofs.Common.{◌≡◌, ap, ◌∙◌, sym, refl, rules}
 use Rattle.std.specs.Option.{option_map}
 use Rattle.layout.specs.Place.{place_word}
-use Rattle.heap_commit.specs.HeapView.{heap_of, heap_with}
+use Rattle.heap.specs.HeapView.{heap_of, heap_with}
 use Rattle.heap.specs.Commands.{MustNote, leads_younger, value_at}
 use Rattle.heap.proofs.Storing.{held}
 use Rattle.heap.proofs.Wholes.{whole_stored}

@@ -1,7 +1,7 @@
 use Rattle.std.proofs.Common.{ap, sym, ◌∙◌}
 use Rattle.std.specs.Option.{option_map}
 use Rattle.layout.specs.Place.{place_word}
-use Rattle.heap_commit.proofs.RootMap.{get-roots}
+use Rattle.heap.proofs.RootMap.{get-roots}
 use Rattle.heap.proofs.heap.Heap.target.Goals as goal
 
 pub returns : goal.returns

@@ -1,7 +1,7 @@
 use Rattle.std.proofs.Common.{◌<◌, arith, sym, ap, ◌∙◌}
 use Rattle.std.specs.Prelude.{is_some}
 use Rattle.layout.specs.Place.{place_word, large_word}
-use Rattle.heap_graph.proofs.WithLarge.{get-small}
+use Rattle.heap_objects.proofs.WithLarge.{get-small}
 use Rattle.heap_objects.proofs.Numbers.{bases_of}
 use Rattle.heap_objects.proofs.Finds.{number_found}
 use Rattle.heap_objects.proofs.objects.HeapObjects.find.Goals as goal

@@ -2,8 +2,8 @@ use Rattle.std.proofs.Common.{◌<◌, ap, arith, length, sym, ◌∙◌}
 use Rattle.std.specs.Prelude.{is_some}
 use Rattle.layout.specs.Place.{place_word, large_word}
 use Rattle.layout.specs.ObjectRef.{raw_of}
-use Rattle.heap_data.specs.Words.{IsShownAs}
-use Rattle.heap_graph.proofs.WithLarge.{get-small}
+use Rattle.steps.specs.Words.{IsShownAs}
+use Rattle.heap_objects.proofs.WithLarge.{get-small}
 use Rattle.heap_objects.proofs.Finds.{never_none, shown_is}
 use Rattle.heap_objects.proofs.objects.HeapObjects.plain_count.Goals as goal
 

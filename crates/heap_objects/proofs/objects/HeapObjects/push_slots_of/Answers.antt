@@ -1,9 +1,9 @@
 use Rattle.std.proofs.Common.{◌≡◌, ◌++◌, map}
 use Rattle.model.specs.Graph.{Graph}
-use Rattle.heap_data.specs.CollectionValue.{field_slot_of}
-use Rattle.heap_data.specs.SlotView.{slot_value}
+use Rattle.steps.specs.CollectionValue.{field_slot_of}
+use Rattle.steps.specs.SlotView.{slot_value}
 use Rattle.layout.specs.Place.{place_word}
-use Rattle.heap_graph.specs.HeapGraph.{IsHeapGraph, slots_at}
+use Rattle.heap_objects.specs.HeapGraph.{IsHeapGraph, slots_at}
 use Rattle.heap_objects.specs.Objects.{graph_in, objects_of}
 use Rattle.heap_objects.proofs.ObjectReads.{shows_graph, on_ok}
 use Rattle.heap_objects.proofs.objects.HeapObjects.push_slots_of.Goals as goal

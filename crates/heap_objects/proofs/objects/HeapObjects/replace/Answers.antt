@@ -2,7 +2,7 @@ use Rattle.std.proofs.Common.{ℕ, List, None, is_some, slice_index, sym, ap, su
 use Rattle.std.specs.Prelude.{slice_index_or, option_and_then}
 use Rattle.model.specs.Config.{Config}
 use Rattle.large_objects.specs.LargeValue.{large_at}
-use Rattle.heap_space.specs.Space.{SpaceValue}
+use Rattle.heap_objects.specs.Space.{SpaceValue}
 use Rattle.heap_objects.specs.Objects.{objects_of}
 use Rattle.heap_objects.specs.Inside.{AreApart}
 use Rattle.heap_objects.specs.Renewing.{renewed}

@@ -3,7 +3,7 @@ use Rattle.std.specs.Option.{option_map}
 use Rattle.model.specs.Graph.{Object, with_pointer}
 use Rattle.layout.specs.Place.{small_word, large_word, place_word}
 use Rattle.std.proofs.lemmas.List.{length-map}
-use Rattle.heap_data.specs.Words.{target_of_word}
+use Rattle.steps.specs.Words.{target_of_word}
 use Rattle.heap_objects.proofs.Written.{some_small, small_apart, small_written, in_use, its, large_apart, large_written, pointer_set, pointer_kept, pointer_shows}
 use Rattle.heap_objects.proofs.objects.HeapObjects.set_pointer.Goals as goal
 

@@ -1,6 +1,6 @@
 use Rattle.std.proofs.Common.{length, sym, subst, arith}
-use Rattle.plain_queues.specs.PlainValue.{lane_at, next_of}
-use Rattle.copies.specs.Handed.{IsHandedFor}
+use Rattle.pending_queues.specs.PlainValue.{lane_at, next_of}
+use Rattle.scavenge.specs.Handed.{IsHandedFor}
 use Rattle.workers.specs.System.{Export}
 use Rattle.interleaved.specs.InterleavedValue.{InterleavedValue}
 use Rattle.interleaved.proofs.Members.{lawful_as, goes_as, stays_as, behind, is_in}

@@ -1,5 +1,5 @@
 use Rattle.std.proofs.Common.{◌≡◌, false, Ok, Err, sym, ap, subst, ◌∙◌}
-use Rattle.claims.specs.ClaimsValue.{SeatValue}
+use Rattle.block_pool.specs.ClaimsValue.{SeatValue}
 use Rattle.scavenge.specs.Slots.{seen}
 use Rattle.workers.specs.System.{Look}
 use Rattle.workers.specs.Lawful.{IsRefused}

@@ -1,9 +1,9 @@
 use Rattle.std.proofs.Common.{refl, sym, ap, subst, ◌∙◌}
-use Rattle.heap_data.specs.HeapValue.{HeapValue}
-use Rattle.heap_data.specs.CollectionValue.{CollectionValue}
-use Rattle.copies.specs.Handed.{CopiesKeyValue}
-use Rattle.plain_cells.specs.Plain.{empty_cells}
-use Rattle.plain_queues.specs.PlainValue.{new_pending}
+use Rattle.steps.specs.HeapValue.{HeapValue}
+use Rattle.steps.specs.CollectionValue.{CollectionValue}
+use Rattle.scavenge.specs.Handed.{CopiesKeyValue}
+use Rattle.forwarding.specs.Plain.{empty_cells}
+use Rattle.pending_queues.specs.PlainValue.{new_pending}
 use Rattle.serial.specs.IsSerial.{IsReadyToCollect}
 use Rattle.interleaved.specs.InterleavedValue.{InterleavedValue}
 use Rattle.interleaved.specs.IsInterleaved.{AreFirst}

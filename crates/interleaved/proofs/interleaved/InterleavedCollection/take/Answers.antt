@@ -1,7 +1,7 @@
 use Rattle.std.proofs.Common.{[], ◌∷◌, ◌++◌, sym, ap, subst, ◌∙◌}
 use Rattle.std.specs.Prelude.{IfSome}
-use Rattle.plain_queues.specs.PlainValue.{after_take}
-use Rattle.copies.specs.Handed.{IsHandedFor}
+use Rattle.pending_queues.specs.PlainValue.{after_take}
+use Rattle.scavenge.specs.Handed.{IsHandedFor}
 use Rattle.workers.specs.System.{Take}
 use Rattle.interleaved.specs.InterleavedValue.{InterleavedValue}
 use Rattle.interleaved.proofs.Members.{lawful_as, goes_as, behind, is_in}

@@ -1,5 +1,5 @@
 use Rattle.std.proofs.Common.{◌≡◌, ◌<◌, ◌≤◌, inl, inr, refl, sym, ap, subst, ◌∙◌, ⊎_elim, arith}
-use Rattle.heap_data.specs.CollectionValue.{IsOpened}
+use Rattle.steps.specs.CollectionValue.{IsOpened}
 use Rattle.interleaved.specs.IsSerial.{IsReadyToCollect}
 use Rattle.interleaved.specs.InterleavedValue.{destinations_in, targets_in}
 use Rattle.workers.specs.System.{opening}

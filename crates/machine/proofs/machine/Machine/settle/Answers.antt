@@ -1,5 +1,5 @@
 use Rattle.std.proofs.Common.{◌≡◌, ◌↔◌, Result, Ok, Err, IfOk, subst}
-use Rattle.interleaved_settling.specs.declared.settle_error.SettleError.TheVariants.{NotEnded}
+use Rattle.machine.specs.declared.interleaved_settling.settle_error.SettleError.TheVariants.{NotEnded}
 use Rattle.workers.specs.Lawful.{AllEnded}
 use Rattle.machine.specs.MachineValue.{MachineValue}
 use Rattle.machine.specs.Settles.{Settles}

@@ -1,7 +1,7 @@
 use Rattle.std.proofs.Common.{◌≡◌, ◌+◌, Some, sym, ap, ◌∙◌, arith, refl}
 use Rattle.layout.specs.Place.{small_word, place_word}
 use Rattle.block_pool.specs.BlockValue.{BlockValue, used_of}
-use Rattle.block_table.specs.Table.{slot_words}
+use Rattle.nursery.specs.Table.{slot_words}
 use Rattle.nursery.proofs.Nurseries.{current_block, current_in_table, chosen, no_room, one_size, number_in_table, pushes}
 use Rattle.nursery.proofs.filling.Nursery.alloc.Goals as goal
 

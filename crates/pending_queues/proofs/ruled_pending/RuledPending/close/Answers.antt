@@ -1,9 +1,9 @@
 use Rattle.std.proofs.Common.{arith, get_or, ◌≡◌, ◌<◌, ◌∙◌, [], All, List, length, replicate, ap, sym, subst}
 use Rattle.std.proofs.lemmas.List.{length-replicate}
-use Rattle.exports.specs.declared.deliveries.Delivery.{Delivery}
-use Rattle.pending_laws.specs.Delivered.{IsLabelledBelow}
-use Rattle.pending_laws.specs.Telling.{placed, named}
-use Rattle.pending_laws.proofs.Told.{all_delivered}
+use Rattle.pending_queues.specs.declared.exports.deliveries.Delivery.{Delivery}
+use Rattle.pending_queues.specs.Delivered.{IsLabelledBelow}
+use Rattle.pending_queues.specs.Telling.{placed, named}
+use Rattle.pending_queues.proofs.Told.{all_delivered}
 use Rattle.pending_queues.proofs.ruled_pending.RuledPending.close.Goals as goal
 
 pub tell_all-requires : goal.tell_all-requires

@@ -1,5 +1,5 @@
 use Rattle.std.proofs.Common.{◌≡◌, ◌≤◌, length, map, take, vec_capacity}
-use Rattle.tally.specs.TallyValue.{unraised}
+use Rattle.pending_queues.specs.TallyValue.{unraised}
 use Rattle.pending_queues.proofs.Dealing.{AreTapped}
 use Rattle.pending_queues.proofs.ruled_pending.RuledPending.deal_marks.Given as goal
 

@@ -1,8 +1,8 @@
 use Rattle.std.proofs.Common.{arith, ◌≡◌, ◌+◌, ◌-◌, sym, ap, ◌∙◌, length, map, length-append}
 use Rattle.std.proofs.lemmas.List.{length-map}
 use Rattle.std.proofs.lemmas.List.FromFn.{map-range_with_len_more}
-use Rattle.tally.specs.TallyValue.{unraised}
-use Rattle.pending_laws.specs.PendingValue.{new_seat}
+use Rattle.pending_queues.specs.TallyValue.{unraised}
+use Rattle.pending_queues.specs.PendingValue.{new_seat}
 use Rattle.pending_queues.proofs.Dealing.{renewed, named, named-marks}
 use Rattle.pending_queues.proofs.ruled_pending.RuledPending.deal_seats.Goals as goal
 

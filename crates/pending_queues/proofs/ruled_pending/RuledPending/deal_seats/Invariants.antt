@@ -1,6 +1,6 @@
 use Rattle.std.proofs.Common.{◌≡◌, ◌≤◌, ◌-◌, length, map, vec_capacity}
 use Rattle.std.specs.List.{range_with_len}
-use Rattle.pending_laws.specs.PendingValue.{new_seat}
+use Rattle.pending_queues.specs.PendingValue.{new_seat}
 use Rattle.pending_queues.specs.Dealt.{AreRoots, AreHeaps}
 use Rattle.pending_queues.proofs.ruled_pending.RuledPending.deal_seats.Given as goal
 

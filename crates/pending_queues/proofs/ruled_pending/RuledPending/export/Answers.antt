@@ -1,7 +1,7 @@
 use Rattle.std.proofs.Common.{arith, ◌≡◌, ◌<◌, map, set, sym, ap, ◌∙◌, refl, subst, length}
 use Rattle.block_pool.specs.BlockValue.{BlockValue}
-use Rattle.exports.specs.Labelled.{labelled}
-use Rattle.pending_laws.specs.PendingValue.{IsSeatOf, SeatValue}
+use Rattle.pending_queues.specs.Labelled.{labelled}
+use Rattle.pending_queues.specs.PendingValue.{IsSeatOf, SeatValue}
 use Rattle.pending_queues.specs.Seated.{sent_by}
 use Rattle.pending_queues.proofs.Dealing.{root-there}
 use Rattle.pending_queues.proofs.Seating.{MaySend, may-send, exported, exported-view, own-there, seat_view, unchanged}

@@ -1,10 +1,10 @@
 use Rattle.std.proofs.Common.{rules, arith, ◌≡◌, ◌∙◌, ◌++◌, ◌∷◌, [], length, ap, sym, subst, append_assoc, Some}
 use Rattle.std.proofs.lemmas.List.Elements.{All-pop}
-use Rattle.pending_laws.specs.PendingValue.{IsSeatOf}
-use Rattle.pending_laws.specs.SeatPass.{AtEach}
-use Rattle.pending_laws.specs.Gathered.{AreGathered, IsGatheredMark}
-use Rattle.pending_laws.proofs.Gathering.{more_passes, more_marks, all_parts, of_queues}
-use Rattle.pending_laws.proofs.Places.{as_long}
+use Rattle.pending_queues.specs.PendingValue.{IsSeatOf}
+use Rattle.pending_queues.specs.SeatPass.{AtEach}
+use Rattle.pending_queues.specs.Gathered.{AreGathered, IsGatheredMark}
+use Rattle.pending_queues.proofs.Gathering.{more_passes, more_marks, all_parts, of_queues}
+use Rattle.pending_queues.proofs.Places.{as_long}
 use Rattle.pending_queues.proofs.ruled_pending.RuledPending.gather.Goals as goal
 
 pub loop-seat-init : goal.loop-seat-init

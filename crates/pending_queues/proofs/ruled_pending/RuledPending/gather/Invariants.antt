@@ -1,8 +1,8 @@
 use Rattle.std.proofs.Common.{◌≡◌, ◌<◌, ◌++◌, ◌∷◌, [], List, All, length, map}
 use Rattle.std.specs.Prelude.{vec_len}
-use Rattle.pending_laws.specs.PendingValue.{SeatValue, IsSeatOf}
-use Rattle.pending_laws.specs.SeatPass.{AtEach}
-use Rattle.pending_laws.specs.Gathered.{AreGathered, IsGatheredMark}
+use Rattle.pending_queues.specs.PendingValue.{SeatValue, IsSeatOf}
+use Rattle.pending_queues.specs.SeatPass.{AtEach}
+use Rattle.pending_queues.specs.Gathered.{AreGathered, IsGatheredMark}
 use Rattle.pending_queues.proofs.ruled_pending.RuledPending.gather.Given as goal
 
 abbrev pub invariant-loop-seat : goal.invariant-loop-seat

@@ -2,7 +2,7 @@ use Rattle.std.proofs.Common.{arith, ◌≡◌, sym, ap, ◌∙◌, refl, length
 use Rattle.std.proofs.Math.Nat.{le-max_left, le-max_right}
 use Rattle.std.proofs.lemmas.Option.{slice_get_read}
 use Rattle.pending_queues.proofs.Seating.{seen, seen-view, many-sent, own-mark}
-use Rattle.pending_laws.proofs.Places.{agree}
+use Rattle.pending_queues.proofs.Places.{agree}
 use Rattle.pending_queues.proofs.ruled_pending.RuledPending.is_cleared.Goals as goal
 
 pub read-count-requires : goal.read-count-requires

@@ -3,7 +3,7 @@ use Rattle.std.proofs.lemmas.List.{map-append}
 use Rattle.std.proofs.lemmas.Option.{slice_get_read}
 use Rattle.pending_queues.specs.Seated.{sent_by}
 use Rattle.pending_queues.proofs.Seating.{Learned, learned, took, took-view, pass-there, mark-there}
-use Rattle.pending_laws.proofs.Places.{agree}
+use Rattle.pending_queues.proofs.Places.{agree}
 use Rattle.pending_queues.proofs.ruled_pending.RuledPending.look.Given as given
 use Rattle.pending_queues.proofs.ruled_pending.RuledPending.look.Goals as goal
 

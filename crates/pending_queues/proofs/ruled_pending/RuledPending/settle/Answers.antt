@@ -1,10 +1,10 @@
 use Rattle.std.proofs.Common.{arith, ◌≡◌, ◌∙◌, ◌++◌, ◌∷◌, [], length, ap, sym, subst, Some, length-append}
 use Rattle.std.proofs.lemmas.List.{length-map}
 use Rattle.std.proofs.lemmas.List.Elements.{All-pop}
-use Rattle.pending_laws.specs.PendingValue.{IsSeatOf}
-use Rattle.pending_laws.specs.Gathered.{IsTold}
-use Rattle.pending_laws.proofs.Gathering.{whole_parts, mark_parts}
-use Rattle.pending_laws.proofs.Told.{told}
+use Rattle.pending_queues.specs.PendingValue.{IsSeatOf}
+use Rattle.pending_queues.specs.Gathered.{IsTold}
+use Rattle.pending_queues.proofs.Gathering.{whole_parts, mark_parts}
+use Rattle.pending_queues.proofs.Told.{told}
 use Rattle.pending_queues.proofs.ruled_pending.RuledPending.settle.Goals as goal
 
 pub gather-shares-requires : goal.gather-shares-requires

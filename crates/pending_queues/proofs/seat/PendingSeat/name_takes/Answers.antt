@@ -1,7 +1,7 @@
 use Rattle.std.proofs.Common.{All, arith, length, map, subst, sym}
 use Rattle.std.proofs.lemmas.List.{length-map}
 use Rattle.std.proofs.lemmas.Grind.{common_steps}
-use Rattle.pending_laws.specs.Delivered.{IsLabelledBelow}
+use Rattle.pending_queues.specs.Delivered.{IsLabelledBelow}
 use Rattle.pending_queues.proofs.Seating.{labels_below}
 use Rattle.pending_queues.proofs.seat.PendingSeat.name_takes.Goals as goal
 

@@ -1,6 +1,6 @@
 use Rattle.std.proofs.Common.{◌≡◌, map, drop}
-use Rattle.exports.specs.Written.{with_takers}
-use Rattle.pending_laws.proofs.TellingLists.{label_of}
+use Rattle.pending_queues.specs.Written.{with_takers}
+use Rattle.pending_queues.proofs.TellingLists.{label_of}
 use Rattle.pending_queues.proofs.seat.PendingSeat.name_takes.Given as goal
 
 abbrev pub invariant-loop-label : goal.invariant-loop-label

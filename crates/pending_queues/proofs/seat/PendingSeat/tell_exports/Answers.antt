@@ -1,7 +1,7 @@
 use Rattle.std.proofs.Common.{◌≡◌, ◌∙◌, OnOk, ap, map, set, subst}
-use Rattle.exports.specs.Written.{left}
-use Rattle.pending_laws.specs.Telling.{all_left}
-use Rattle.pending_laws.proofs.TellingLists.{left_sizes}
+use Rattle.pending_queues.specs.Written.{left}
+use Rattle.pending_queues.specs.Telling.{all_left}
+use Rattle.pending_queues.proofs.TellingLists.{left_sizes}
 use Rattle.pending_queues.proofs.seat.PendingSeat.tell_exports.Goals as goal
 
 pub returns-clause-told : goal.returns-clause-told

@@ -2,7 +2,7 @@ use Rattle.std.proofs.Common.{◌≡◌, ℕ, List, Some, IfOk, length, map, sym
 use Rattle.std.proofs.lemmas.List.{length-map}
 use Rattle.model.specs.Store.{live_list}
 use Rattle.model.specs.Reached.{reached_list}
-use Rattle.reference_data.specs.Table.{row}
+use Rattle.reference.specs.Table.{row}
 use Rattle.reference.proofs.PlainLemmas.{reached_rows}
 use Rattle.reference.proofs.store.Store.live.Goals as goal
 

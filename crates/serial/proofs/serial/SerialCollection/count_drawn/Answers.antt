@@ -1,5 +1,5 @@
 use Rattle.std.proofs.Common.{◌≡◌, true, List, [], ◌∷◌, ◌++◌, sym, ap, subst, ◌∙◌}
-use Rattle.claims.specs.ClaimsValue.{SeatValue}
+use Rattle.block_pool.specs.ClaimsValue.{SeatValue}
 use Rattle.serial.specs.SerialValue.{SerialValue, left_of}
 use Rattle.serial.proofs.AllDrawn.{counted}
 use Rattle.serial.proofs.serial.SerialCollection.count_drawn.Goals as goal

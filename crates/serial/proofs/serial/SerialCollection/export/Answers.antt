@@ -1,6 +1,6 @@
 use Rattle.std.proofs.Common.{length, sym, subst}
-use Rattle.plain_queues.specs.PlainValue.{lane_at, next_of}
-use Rattle.copies.specs.Handed.{IsHandedFor}
+use Rattle.pending_queues.specs.PlainValue.{lane_at, next_of}
+use Rattle.scavenge.specs.Handed.{IsHandedFor}
 use Rattle.scavenge.specs.Shown.{Begins}
 use Rattle.serial.specs.SerialValue.{SerialValue}
 use Rattle.serial.proofs.LaneSteps.{exported, handed_for, aside_handed, put_back, back_again}

@@ -1,6 +1,6 @@
 use Rattle.std.proofs.Common.{◌≡◌, false, Ok, None, sym, ap, subst, ◌∙◌}
 use Rattle.std.specs.Prelude.{◌↔◌}
-use Rattle.claims.specs.ClaimsValue.{SeatValue}
+use Rattle.block_pool.specs.ClaimsValue.{SeatValue}
 use Rattle.workers.specs.WorkerSteps.{current_slot}
 use Rattle.workers.specs.System.{Look}
 use Rattle.serial.specs.SerialValue.{SerialValue, Goes, WantsDraw, setting_in}

@@ -1,9 +1,9 @@
 use Rattle.std.proofs.Common.{sym, ap, subst, ◌∙◌}
-use Rattle.heap_data.specs.HeapValue.{HeapValue}
-use Rattle.heap_data.specs.CollectionValue.{CollectionValue}
-use Rattle.copies.specs.Handed.{CopiesKeyValue}
-use Rattle.plain_cells.specs.Plain.{empty_cells}
-use Rattle.plain_queues.specs.PlainValue.{new_pending}
+use Rattle.steps.specs.HeapValue.{HeapValue}
+use Rattle.steps.specs.CollectionValue.{CollectionValue}
+use Rattle.scavenge.specs.Handed.{CopiesKeyValue}
+use Rattle.forwarding.specs.Plain.{empty_cells}
+use Rattle.pending_queues.specs.PlainValue.{new_pending}
 use Rattle.serial.specs.IsSerial.{IsReadyToCollect}
 use Rattle.serial.specs.SerialValue.{SerialValue}
 use Rattle.serial.proofs.Beginning.{key_of, first_of, begun, first_system}

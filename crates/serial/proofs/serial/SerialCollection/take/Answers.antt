@@ -2,8 +2,8 @@ use Rattle.std.proofs.Common.{◌≢◌, [], sym, ap, subst, ◌∙◌}
 use Rattle.workers.specs.WorkerSteps.{IsFree}
 use Rattle.workers.specs.System.{Take}
 use Rattle.std.specs.Prelude.{IfSome}
-use Rattle.plain_queues.specs.PlainValue.{after_take}
-use Rattle.copies.specs.Handed.{IsHandedFor}
+use Rattle.pending_queues.specs.PlainValue.{after_take}
+use Rattle.scavenge.specs.Handed.{IsHandedFor}
 use Rattle.serial.specs.SerialValue.{SerialValue, Goes, lane_of, waiting_in}
 use Rattle.serial.proofs.LaneSteps.{took, none_waits}
 use Rattle.serial.proofs.serial.SerialCollection.take.Goals as goal

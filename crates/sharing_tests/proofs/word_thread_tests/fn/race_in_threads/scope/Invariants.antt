@@ -1,6 +1,6 @@
 use Rattle.std.proofs.Common.{◌≡◌, ◌+◌, ◌≤◌, All, vec_len}
 use Rattle.std.specs.Vec.Iter.{into_iter_items, into_iter_len}
-use Rattle.word_cells.specs.Words.{WordPassValue}
+use Rattle.forwarding.specs.Words.{WordPassValue}
 use Rattle.sharing_tests.proofs.word_thread_tests.fn.race_in_threads.scope.Given as goal
 
 abbrev pub invariant-loop-pass : goal.invariant-loop-pass

@@ -1,0 +1,3 @@
+//! Worked traces, as the plain program carries them out.
+#[cfg(test)]
+mod worked_traces;

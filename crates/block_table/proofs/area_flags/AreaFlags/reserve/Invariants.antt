@@ -1,5 +1,0 @@
-use Rattle.block_table.proofs.AreaLaws.{Widened}
-use Rattle.block_table.proofs.area_flags.AreaFlags.reserve.Given as goal
-
-abbrev pub invariant-loop-generation : goal.invariant-loop-generation
-invariant-loop-generation g l = Widened l.initial.self-inside.young.items l.self-inside.young.items l.len l.generation

@@ -1,6 +1,0 @@
--- The objects of the blocks of a table.
-pub mod Table
-pub mod Areas
-pub mod Installed
-pub mod Begins
-pub mod Counts

@@ -1,8 +1,0 @@
-use Rattle.std.proofs.Common.{rules}
-use Rattle.box_cells.proofs.box_shared.RefBoxCellsCells.race.Goals as goal
-
-pub returns-clause-known : goal.returns-clause-known
-returns-clause-known c = search rules
-
-pub returns-clause-won : goal.returns-clause-won
-returns-clause-won c = search rules

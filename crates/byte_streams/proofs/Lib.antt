@@ -1,2 +1,0 @@
--- Lemmas on what was written so far.
-pub mod Growing

@@ -1,8 +1,0 @@
-//! Bytes in and out, with the counts of the reads and writes that failed.
-#![tactic(auto)]
-
-mod sink;
-mod source;
-
-pub use sink::{Counted, Sink, WriteFailed, write_all};
-pub use source::{CountedReader, ReadFailed, Source};

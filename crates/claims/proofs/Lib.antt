@@ -1,3 +1,0 @@
--- Each draw keeps the rule, and what gathered seats have drawn.
-pub mod DrawLemmas
-pub mod ClaimLemmas

@@ -1,6 +1,0 @@
-//! The words of a command line. It knows no heap and no trace.
-#![tactic(auto)]
-
-mod words;
-
-pub use words::{Options, Refused, Task, read_words};

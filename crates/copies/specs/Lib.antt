@@ -1,2 +1,0 @@
--- What queues hand over in a collection.
-pub mod Handed

@@ -1,2 +1,0 @@
--- Lemmas on lists of lists.
-pub mod WrittenLists

@@ -1,5 +1,0 @@
-use Rattle.std.proofs.Common.{refl}
-use Rattle.exports.proofs.deliveries.Deliveries.from_lists.Goals as goal
-
-pub returns : goal.returns
-returns g c = refl

@@ -1,0 +1,20 @@
+-- Forwarding.
+
+-- Pairs of names and places, counted and looked up.
+pub mod PairLemmas
+pub mod Few
+pub mod Wins
+pub mod Agreeing
+-- Plain cells keep what they are, and settle.
+pub mod PlainKeeps
+pub mod PlainStart
+pub mod PlainSettled
+-- Each step keeps the rule, and what gathered passes read.
+pub mod Keeps
+pub mod Told
+pub mod Gathered
+pub mod Read
+-- What notes tell, and what passes that were compared settle.
+pub mod Noting
+pub mod Joining
+pub mod Settling

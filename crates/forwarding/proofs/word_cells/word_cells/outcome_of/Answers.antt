@@ -1,0 +1,11 @@
+use Rattle.std.proofs.Common.{Some, None, sym}
+use Rattle.forwarding.proofs.word_cells.word_cells.outcome_of.Goals as goal
+
+pub returns-in-None-clause-lost : goal.returns-in-None-clause-lost
+returns-in-None-clause-lost c = λ first is. let e = c.place_in.ensures (Some first) is in let n = c.in-None.is in absurd (cc)
+
+pub returns-in-Some-clause-won : goal.returns-in-Some-clause-won
+returns-in-Some-clause-won c = λ zero. let e = c.place_in.ensures None (sym zero) in let n = c.in-Some.is in absurd (cc)
+
+pub returns-in-Some-clause-lost : goal.returns-in-Some-clause-lost
+returns-in-Some-clause-lost c = λ first is. let e = c.place_in.ensures (Some first) is in let n = c.in-Some.is in cc

@@ -1,0 +1,124 @@
+//! Plain cells as they are made, and what they answer in the end.
+ghost use Rattle.std.specs.Prelude.{◌≡◌, ◌≢◌, ◌≤◌, ◌∷◌, List, [], Option, None, Err, All, length, map, slice_index_or, vec_capacity, IfOk, OnOk};
+ghost use Rattle.layout.specs.declared.place.Place.{Place as At};
+ghost use Rattle.layout.specs.Place.{pointer_word};
+ghost use Rattle.std.specs.List.{AllPairs};
+ghost use Rattle.forwarding.specs.Settled.{Agree, IsSettled};
+ghost use Rattle.forwarding.specs.Plain.{IsFit, Differ, known_by, place_of, empty_cells, fresh_pass, fresh_passes};
+
+use crate::cells::{Forwards, SettleError};
+use crate::plain_cells::minds::Empty;
+use crate::plain_cells::plain_cells::PlainCells;
+use crate::plain_cells::plain_pass::PlainPass;
+use crate::plain_cells::remembered::Remembered;
+use crate::plain_cells::words::place_in;
+use layout::Place;
+use std::alloc::{AllocError, Allocator};
+
+/// The places whose words these are.
+fn places_of<A: Allocator>(
+    words: &[u64],
+    mut places: Vec<Option<Place>, A>,
+) -> Vec<Option<Place>, A>
+    requires shown { (pointers : List (Option At)) × (map pointer_word pointers ≡ words.now) }
+    requires room { (places.items ≡ []) × (length words.now ≤ vec_capacity places) }
+    ensures { (pointers : List (Option At)) → map pointer_word pointers ≡ words.now → result.items ≡ pointers }
+{
+    for &word in words {
+        places.push_reserved(place_in(word));
+    }
+    places
+}
+
+/// The places whose words these are. `NoMemory` says that memory ran out.
+fn forwards_of<A: Allocator>(alloc: A, words: &[u64]) -> Result<Forwards<A>, SettleError>
+    requires { (pointers : List (Option At)) × (map pointer_word pointers ≡ words.now) }
+    ensures exact { IfOk result (λ f. (pointers : List (Option At)) → map pointer_word pointers ≡ words.now → f ≡ pointers) }
+    ensures never_unsettled { result ≢ Err SettleError.Unsettled }
+{
+    let Ok(places) = Vec::with_capacity(alloc, words.len()) else {
+        return Err(SettleError::NoMemory);
+    };
+    Ok(Forwards::of(places_of(words, places)))
+}
+
+impl<A: Allocator> PlainCells<A> {
+    /// Cells that hold nothing, of so many passes.
+    fn empty(alloc: A, count: u32, passes: usize) -> Result<PlainCells<A>, AllocError>
+        ensures { IfOk result (λ cells. cells ≡ empty_cells count passes) }
+    {
+        let words = vec![in alloc; 0; count as usize]?;
+        let held = Remembered::of::<u32, Empty>(&count);
+        Ok(PlainCells {
+            words,
+            passes,
+            held,
+        })
+    }
+
+    /// Cells that hold nothing, and as many passes as are asked for, numbered from 0. An error says that memory ran
+    /// out.
+    pub fn new(
+        alloc: A,
+        count: u32,
+        passes: usize,
+    ) -> Result<(PlainCells<A>, Vec<PlainPass, A>), AllocError>
+    where
+        A: Clone,
+        ensures cells { IfOk result (λ r. r.0 ≡ empty_cells count passes) }
+        ensures passes { IfOk result (λ r. r.1.items ≡ fresh_passes count passes passes) }
+
+        // What follows for the passes.
+        ensures fits { IfOk result (λ r. All (IsFit r.0) r.1.items) }
+        ensures apart { IfOk result (λ r. AllPairs Differ r.1.items) }
+        ensures many { IfOk result (λ r. length r.1.items ≡ passes) }
+    {
+        let mut made = Vec::with_capacity(alloc.clone()?, passes)?;
+        for number in 0..passes {
+            made.push_reserved(PlainPass::new(count, passes, number));
+        }
+        let cells = PlainCells::empty(alloc, count, passes)?;
+        Ok((cells, made))
+    }
+
+    /// Cells that hold nothing, and one pass alone, for which no list is made. An error says that memory ran out.
+    pub fn alone(alloc: A, count: u32) -> Result<(PlainCells<A>, PlainPass), AllocError>
+        ensures cells { IfOk result (λ r. r.0 ≡ empty_cells count 1) }
+        ensures pass { IfOk result (λ r. r.1 ≡ fresh_pass count 1 0) }
+
+        // What follows for the pass.
+        ensures fits { IfOk result (λ r. IsFit r.0 r.1) }
+    {
+        let cells = PlainCells::empty(alloc, count, 1)?;
+        Ok((cells, PlainPass::new(count, 1, 0)))
+    }
+
+    /// The place of each name that was won. It takes the passes that `new` gave with these cells, each once: each name
+    /// that has a place was won once, by one pass, and what the passes know is what they won. `NoMemory` says that
+    /// memory ran out; `Unsettled` never comes.
+    pub fn settle(self, alloc: A, passes: Vec<PlainPass, A>) -> Result<Forwards<A>, SettleError>
+        requires fits { All (IsFit self) passes.items }
+        requires apart { AllPairs Differ passes.items }
+        requires all { length passes.items ≡ self.passes }
+        ensures settled { IfOk result (λ f. IsSettled known_by (λ p. p.won) passes.items (length self.held) (λ name. slice_index_or f name None)) }
+        ensures exact { IfOk result (λ f. f ≡ map place_of self.held) }
+        ensures agree { OnOk result (Agree known_by passes.items) }
+        ensures never_unsettled { result ≢ Err SettleError.Unsettled }
+    {
+        let _ = passes;
+        forwards_of(alloc, &self.words)
+    }
+
+    /// As `settle`, with the pass that `alone` gave with these cells.
+    pub fn settle_alone(self, alloc: A, pass: PlainPass) -> Result<Forwards<A>, SettleError>
+        requires fits { IsFit self pass }
+        requires alone { self.passes ≡ 1 }
+        ensures settled { IfOk result (λ f. IsSettled known_by (λ p. p.won) (pass ∷ []) (length self.held) (λ name. slice_index_or f name None)) }
+        ensures exact { IfOk result (λ f. f ≡ map place_of self.held) }
+        ensures agree { OnOk result (Agree known_by (pass ∷ [])) }
+        ensures never_unsettled { result ≢ Err SettleError.Unsettled }
+    {
+        let _ = pass;
+        forwards_of(alloc, &self.words)
+    }
+}

@@ -1,0 +1,122 @@
+//! Word cells as they are made, and what they answer in the end.
+ghost use Rattle.std.specs.Prelude.{◌≡◌, ◌≢◌, ◌<◌, ◌≤◌, ℕ, [], All, Option, None, Err, length, slice_index, slice_index_or, IfOk, OnOk, vec_len, vec_capacity};
+ghost use Rattle.std.specs.Slots.{slots_items, slots_len, IsFull};
+ghost use Rattle.layout.specs.Place.{pointer_word};
+ghost use Rattle.layout.specs.declared.place.Place.{Place as At};
+ghost use Rattle.forwarding.specs.Known.{known_in};
+ghost use Rattle.forwarding.specs.Settled.{all_pairs, Agree, IsSettled};
+ghost use Rattle.forwarding.specs.Words.{fresh_pass};
+
+use crate::cells::{Forwards, SettleError};
+use crate::word_cells::plays::{Deal, Gather, Mind, Plan, Rule};
+use crate::word_cells::word_cells::{WordCells, WordPass, place_in};
+use atomic_table::{Closed, Seat, Table};
+use layout::Place;
+use std::alloc::{AllocError, Allocator};
+
+/// One pass after another, until the seat has one part.
+fn deal<A: Allocator>(
+    table: &Table<(), Mind, Plan, Rule, A>,
+    mut seat: Seat<(), Mind>,
+    mut passes: Vec<WordPass, A>,
+    count: usize,
+) -> Vec<WordPass, A>
+    requires seat { (seat.table_id ≡ table.now.shared.table_id) × (0 < table.now.shared.table_id.words) × (seat.me.1 ≡ []) }
+    requires parts { (seat.me.0.parts ≡ count) × (0 < count) × (seat.me.0.known ≡ []) × (seat.me.0.won ≡ []) }
+    requires passes { (passes.items ≡ []) × (count ≤ vec_capacity passes) }
+    ensures many { length result.items ≡ count }
+    ensures fresh { All (λ p. p ≡ fresh_pass table.now.shared.table_id) result.items }
+{
+    for _ in 1..count {
+        let next = table.shared.split_seat::<Deal>(&mut seat);
+        passes.push_reserved(WordPass { seat: next });
+    }
+    passes.push_reserved(WordPass { seat });
+    passes
+}
+
+/// All that the passes know and have won, in one seat.
+fn gather<A: Allocator>(
+    table: &Table<(), Mind, Plan, Rule, A>,
+    mut passes: Vec<WordPass, A>,
+) -> Seat<(), Mind>
+    requires some { 0 < vec_len passes }
+    requires words { 0 < table.now.shared.table_id.words }
+    requires passes { All (λ p. p.id ≡ table.now.shared.table_id) passes.items }
+    ensures seat { (result.table_id ≡ table.now.shared.table_id) × (result.me.0.parts ≡ length passes.items) }
+    ensures known { result.me.0.known ≡ all_pairs (λ p. p.known) passes.items }
+    ensures won { result.me.0.won ≡ all_pairs (λ p. p.won) passes.items }
+{
+    let Some(last) = passes.pop() else {
+        unreachable!()
+    };
+    let mut seat = last.into_seat();
+    while let Some(pass) = passes.pop() {
+        table
+            .shared
+            .join_seat::<Gather>(&mut seat, pass.into_seat());
+    }
+    seat
+}
+
+/// The places of the first words.
+fn read_places<A: Allocator>(
+    closed: &Closed<(), A>,
+    count: u32,
+    mut places: Vec<Option<Place>, A>,
+) -> Vec<Option<Place>, A>
+    requires words { (count ≤ slots_len closed.now.words) × (length (slots_items closed.now.words) ≡ slots_len closed.now.words) × IsFull closed.now.words }
+    requires room { (places.items ≡ []) × (count ≤ vec_capacity places) }
+    ensures many { length result.items ≡ count }
+    ensures shown { (name : ℕ) → name < count → (o : Option At) → pointer_word o ≡ slice_index (slots_items closed.now.words) name → slice_index_or result.items name None ≡ o }
+{
+    for name in 0..count {
+        places.push_reserved(place_in(closed.word(name as usize)));
+    }
+    places
+}
+
+impl<A: Allocator> WordCells<A> {
+    /// Cells with no place, and as many passes as are asked for. An error says that memory ran out.
+    pub fn new(
+        alloc: A,
+        count: u32,
+        passes: usize,
+    ) -> Result<(WordCells<A>, Vec<WordPass, A>), AllocError>
+    where
+        A: Clone,
+        requires { 0 < passes }
+        ensures cells { IfOk result (λ r. (r.0.count ≡ count) × (r.0.passes ≡ passes)) }
+        ensures many { IfOk result (λ r. length r.1.items ≡ passes) }
+        ensures fresh { IfOk result (λ r. All (λ p. p ≡ fresh_pass r.0.id) r.1.items) }
+    {
+        let plan = Plan { count, passes };
+        let made = Vec::with_capacity(alloc.clone()?, passes)?;
+        let words = Vec::from_elem(alloc.clone()?, 0u64, count as usize + 1)?;
+        let (table, seat) = Table::of_words(alloc, words.as_slice(), &plan)?;
+        let made = deal(&table, seat, made, passes);
+        Ok((WordCells { table, plan }, made))
+    }
+
+    /// The place of each name that was won. It takes the passes that `new` gave with these cells, each once: each name
+    /// that has a place was won once, by one pass, and what the passes know is what they won. `NoMemory` says that
+    /// memory ran out; `Unsettled` never comes.
+    pub fn settle(self, alloc: A, passes: Vec<WordPass, A>) -> Result<Forwards<A>, SettleError>
+        requires passes { All (λ p. p.id ≡ self.id) passes.items }
+        requires all { length passes.items ≡ self.passes }
+        ensures settled { IfOk result (λ f. IsSettled (λ p. known_in p.known) (λ p. p.won) passes.items self.count (λ name. slice_index_or f name None)) }
+        ensures many { IfOk result (λ f. length f ≡ self.count) }
+        ensures agree { OnOk result (Agree (λ p. known_in p.known) passes.items) }
+        ensures never_unsettled { result ≢ Err SettleError.Unsettled }
+    {
+        let Ok(places) = Vec::with_capacity(alloc, self.plan.count as usize) else {
+            return Err(SettleError::NoMemory);
+        };
+        let WordCells { table, plan } = self;
+        let seat = gather(&table, passes);
+        let closed = table.close_with(seat);
+        let places = read_places(&closed, plan.count, places);
+        closed.free();
+        Ok(Forwards::of(places))
+    }
+}

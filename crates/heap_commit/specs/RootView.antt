@@ -1,7 +1,0 @@
--- A renamed root as its number and word.
-use Rattle.std.specs.Prelude.{ℕ}
-use Rattle.layout.specs.Place.{place_word}
-use Rattle.heap_commit.specs.declared.moves.RenamedRoot.{RenamedRoot}
-
-abbrev pub root_pair : RenamedRoot → ℕ × ℕ
-root_pair root = (root.number, place_word root.place)

@@ -1,3 +1,0 @@
--- Lemmas on objects and on what was won.
-pub mod Values
-pub mod WonNames

@@ -1,5 +1,0 @@
-use Rattle.std.proofs.Common.{rules}
-use Rattle.heap_data.proofs.census.Census.steps.Goals as goal
-
-pub returns : goal.returns
-returns c = search rules

@@ -1,5 +1,0 @@
-use Rattle.std.proofs.Common.{rules}
-use Rattle.heap_data.proofs.report.WorkerReport.won.Goals as goal
-
-pub returns : goal.returns
-returns g c = search rules

@@ -1,7 +1,0 @@
--- What a worker won, as numbers and words.
-use Rattle.std.specs.Prelude.{ℕ}
-use Rattle.layout.specs.Place.{place_word}
-use Rattle.heap_data.specs.declared.report.Won.{Won}
-
-abbrev pub won_value : Won → ℕ × ℕ
-won_value won = (won.number, place_word won.place)

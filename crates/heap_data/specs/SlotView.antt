@@ -1,9 +1,0 @@
--- A slot as numbers and words.
-use Rattle.layout.specs.Place.{place_word}
-use Rattle.heap_data.specs.declared.collection.Slot.{Slot}
-use Rattle.heap_data.specs.declared.collection.Slot.TheVariants.{Root, Field}
-use Rattle.heap_data.specs.CollectionValue.{SlotValue, root_slot, field_slot}
-
-abbrev pub slot_value : Slot → SlotValue
-slot_value (Root root target) = root_slot root.number (place_word target)
-slot_value (Field holder field target) = field_slot (place_word holder) field (place_word target)

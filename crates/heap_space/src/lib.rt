@@ -1,7 +1,0 @@
-//! The blocks of a heap: those of the nurseries, and those that collections filled.
-#![tactic(auto)]
-
-mod nurseries;
-mod space;
-
-pub use space::Space;

@@ -1,9 +1,0 @@
-//! How a collection by several workers ends.
-#![tactic(auto)]
-
-mod settle_error;
-mod settled;
-mod told;
-
-pub use settle_error::SettleError;
-pub use settled::settle;

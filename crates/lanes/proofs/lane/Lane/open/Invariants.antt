@@ -1,5 +1,0 @@
-use Rattle.std.proofs.Common.{Some}
-use Rattle.lanes.proofs.lane.Lane.open.Given as goal
-
-abbrev pub ghosts-open_as : goal.ghosts-open_as
-ghosts-open_as g a = record { about = Some (a.key.now, a.exporter, a.seats) }

@@ -1,0 +1,150 @@
+-- Where all workers ended: what they hold may be committed.
+use Rattle.std.proofs.Common.{◌≡◌, ℕ, ◌<◌, ◌≤◌, List, length, map, Option, Some, None, refl, sym, ap, subst, ◌∙◌, arith}
+use Rattle.std.proofs.lemmas.List.{length-map}
+use Rattle.std.specs.Prelude.{flat_map, slice_index}
+use Rattle.std.specs.Option.{option_map}
+use Rattle.std.specs.Ordering.{nat_cmp}
+use Rattle.std.specs.FinMap.{find}
+use Rattle.model.specs.Live.{IsYoung}
+use Rattle.model.proofs.LiveLemmas.{Live-young}
+use Rattle.layout.specs.declared.place.Place.{Place}
+use Rattle.layout.specs.Place.{place_word}
+use Rattle.block_pool.specs.BlockValue.{BlockValue}
+use Rattle.steps.specs.ReportValue.{WorkerLists, all_won, renaming_of}
+use Rattle.steps.specs.HeapValue.{HeapValue}
+use Rattle.steps.specs.CollectionValue.{CollectionValue, young_names}
+use Rattle.steps.specs.SettledValue.{IsSettled}
+use Rattle.heap.proofs.SoundHeap.{heap_empty}
+use Rattle.forwarding.specs.Plain.{place_of, place_held}
+use Rattle.workers.specs.Worker.{Worker}
+use Rattle.workers.specs.Total.{times, wins_of, ones}
+use Rattle.workers.specs.Joined.{Each, blocks_of}
+use Rattle.workers.specs.Kept.{Kept, won_lists}
+use Rattle.workers.specs.Lawful.{AllEnded}
+use Rattle.workers.specs.Finish.{NothingLeft}
+use Rattle.workers.specs.Alone.{RunBrings, AreEmpty}
+use Rattle.workers.proofs.RunBrings.{ended_brings}
+use Rattle.workers.proofs.Reached.{reached_left}
+use Rattle.workers.proofs.Kept.{kept}
+use Rattle.serial.specs.Brings.{left_blocks}
+use Rattle.serial.proofs.Bridge.{settled}
+use Rattle.interleaved.proofs.Starts.{has_starts, targets_live}
+use Rattle.collector.specs.Settling.{shown_after}
+use Rattle.collector.proofs.ShownLarge.{shown_in, places_show}
+use Rattle.collector.proofs.SettleBrings.{stands_has, times-places}
+use Rattle.collector.proofs.SettleWhole.{held_place}
+use Rattle.interleaved.specs.InterleavedValue.{InterleavedValue, MemberValue, worker_of, system_of, setting_in, targets_in, destinations_in}
+use Rattle.interleaved.specs.IsInterleaved.{IsInterleaved}
+use Rattle.interleaved.proofs.Places.{get-map}
+use Rattle.collector.specs.Collects.{ScansOnce}
+use Rattle.machine.specs.Telling.{IsAtRest, AreBrought}
+use Rattle.machine.proofs.EndedLists.{joined_lists, joined_map, renamed_joined, same_places, parts_won, parts_left, parts_scanned, wins_among, each_name, each_place}
+
+module _ (v : InterleavedValue) (k : IsInterleaved v) (ended : AllEnded (system_of v)) where
+  empty : AreEmpty v.heap.graph v.heap.free
+  empty number offset l o = heap_empty v.heap k.ready.sound number offset (stands_has number v.heap.free l) o
+
+  pub brings : RunBrings v.heap.graph v.collection.generation v.heap.config.shape v.heap.config.block_words (destinations_in v) v.workers (targets_in v) v.heap.free (system_of v)
+  brings =
+      ended_brings v.heap.graph v.collection.generation v.heap.config.shape v.heap.config.block_words (destinations_in v) v.workers (targets_in v) v.heap.free (system_of v)
+      k.reached (targets_live v.heap v.collection k.ready) ended (let l = k.ready.range.most_words in omega (arith, l)) (has_starts v.heap v.collection k.ready) empty
+
+  -- where each name was placed
+  abbrev placed : ℕ → Option ℕ
+  placed name = find nat_cmp name (system_of v).forwarded
+
+  parts_kept : Kept v.heap.graph v.collection.generation v.heap.config.shape v.heap.config.block_words v.workers placed brings.parts
+  parts_kept = kept v.heap.graph v.collection.generation v.heap.config.shape v.heap.config.block_words v.workers placed brings.parts brings.brought
+
+  pub nothing_left : NothingLeft (system_of v)
+  nothing_left =
+      (reached_left (setting_in v) (destinations_in v) v.workers (targets_in v) v.heap.free (system_of v) k.reached 0
+      (ended 0 (let n : length (system_of v).workers ≡ length v.members = length-map v.members worker_of in let c = k.count in let s = k.some in omega (arith, n, c, s)))).0
+
+  abbrev all_of : {A : Type 0} → (Worker → List A) → List A
+  all_of f = flat_map f (system_of v).workers
+
+  won_is : won_lists brings.parts ≡ all_of (λ (w : Worker). w.won)
+  won_is = parts_won brings.parts ∙ ap (flat_map (λ (w : Worker). w.won)) brings.workers
+
+  left_is : left_blocks brings.parts ≡ all_of blocks_of
+  left_is = parts_left brings.parts ∙ ap (flat_map blocks_of) brings.workers
+
+  wins_are : (name : ℕ) → wins_of name (all_of (λ (w : Worker). w.won)) ≡ ones (placed name)
+  wins_are name = ap (wins_of name) (sym won_is) ∙ parts_kept.won_once name
+
+  -- what was won is young
+  young : (name : ℕ) → 0 < wins_of name (all_of (λ (w : Worker). w.won)) → IsYoung v.heap.graph v.collection.generation name
+  young name l = go (placed name) refl (let e = wins_are name in omega (arith, l, e))
+    where
+      go : (o : Option ℕ) → placed name ≡ o → 0 < ones o → IsYoung v.heap.graph v.collection.generation name
+      go None e s = absurd (omega (arith, s))
+      go (Some place) e s = Live-young v.heap.graph v.collection.generation name (parts_kept.renaming.only_live name place (parts_kept.places name ∙ e))
+
+  pub at_rest : Each (λ (m : MemberValue). IsAtRest v.heap v.collection m.workspace) v.members
+  at_rest = each_place (λ (m : MemberValue). IsAtRest v.heap v.collection m.workspace) v.members (λ t m at.
+      record {
+        config = (k.each t m at).config;
+        no_proposal = (nothing_left.workers t m.workspace.worker (get-map worker_of v.members t m at)).0.free.no_proposal;
+        young = each_name (IsYoung v.heap.graph v.collection.generation) m.workspace.worker.won (λ name l. young name (let a = wins_among name (system_of v).workers t m.workspace.worker (get-map worker_of v.members t m at) in omega (arith, l, a)));
+      })
+
+  module _ (reports : List WorkerLists) (blocks : List BlockValue) (b : AreBrought v.heap v.collection v.members reports blocks) where
+    renamed_is : renaming_of (young_names v.heap.graph v.collection.generation) (all_won reports) ≡ all_of (λ (w : Worker). w.won)
+    renamed_is = renamed_joined (young_names v.heap.graph v.collection.generation) reports ∙ ap joined_lists b.reported.won ∙ sym (joined_map (λ (w : Worker). w.won) (system_of v).workers)
+
+    -- each cell shows the place of its name, once the large objects that were won stand at their own places
+    cells_show : (number : ℕ) → number < v.collection.cells
+        → shown_after number (all_won reports) (option_map place_word (place_held v.cells.held number)) ≡ placed (slice_index (young_names v.heap.graph v.collection.generation) number)
+    cells_show number lt =
+        places_show v.heap v.collection k.ready.sound k.ready.opened v.workers placed brings.parts parts_kept (all_won reports) (renamed_is ∙ sym won_is) b.numbers number lt (place_held v.cells.held number)
+        (k.cells.shown (slice_index (young_names v.heap.graph v.collection.generation) number) number (record { in_range = lt; is = refl }))
+
+    -- what they hold may be committed
+    pub settles : (held places : List (Option Place)) → held ≡ map place_of v.cells.held → length places ≡ length held → ((number : ℕ) → shown_in places number ≡ shown_after number (all_won reports) (shown_in held number))
+        → IsSettled v.heap v.collection places blocks (all_won reports)
+    settles held places are count shown =
+        settled v.heap v.collection v.workers placed brings.parts places blocks (all_won reports)
+        (record {
+          opened = k.ready.opened;
+          kept = parts_kept;
+          few_words = k.ready.range.most_words;
+          some_step = k.ready.range.some_step;
+          blocks_are = b.left ∙ sym left_is;
+          whole = b.whole;
+          drawn_free = λ number l. stands_has number v.heap.free (brings.drawn number l);
+          won_are = renamed_is ∙ sym won_is;
+          numbers = b.numbers;
+          places_count = count ∙ ap length are ∙ length-map v.cells.held place_of ∙ k.cells.count;
+          places_are = λ number lt. shown number ∙ ap (λ ps. shown_after number (all_won reports) (shown_in ps number)) are ∙ ap (λ h. shown_after number (all_won reports) (option_map place_word h)) (held_place v.cells.held number) ∙ cells_show number lt;
+        })
+
+    -- each name was won once, and each place that was won was scanned once
+    pub scans_once : ScansOnce v.heap v.collection.generation reports
+    scans_once =
+        record {
+          won_once = λ name. (let e : wins_of name (renaming_of (young_names v.heap.graph v.collection.generation) (all_won reports)) ≡ ones (placed name) = ap (wins_of name) renamed_is ∙ wins_are name in let l = at_most_one (placed name) in omega (arith, e, l));
+          scanned_once = λ place.
+              ap (times place) (joined_map (λ (l : WorkerLists). l.scanned) reports ∙ ap joined_lists b.reported.scanned ∙ sym (joined_map (λ (w : Worker). w.scanned) (system_of v).workers) ∙ ap (flat_map (λ (w : Worker). w.scanned)) (sym brings.workers))
+              ∙ parts_scanned place brings.parts ∙ parts_kept.scanned_once place ∙ sym (times-places place (won_lists brings.parts))
+              ∙ ap (λ ws. times place (map (λ (q : ℕ × ℕ). q.1) ws)) (won_is ∙ sym renamed_is) ∙ ap (times place) (same_places (young_names v.heap.graph v.collection.generation) (all_won reports));
+        }
+      where
+        at_most_one : (o : Option ℕ) → ones o ≤ 1
+        at_most_one None = omega arith
+        at_most_one (Some x) = omega arith
+
+-- there is a place for each cell
+pub held_count : (v : InterleavedValue) → IsInterleaved v → (held : List (Option Place)) → held ≡ map place_of v.cells.held → length held ≡ v.collection.cells
+held_count v k held are = ap length are ∙ length-map v.cells.held place_of ∙ k.cells.count
+
+-- the same, of the heap, the collection and the members that the calls have
+module _ (v : InterleavedValue) (heap : HeapValue) (c : CollectionValue) (members : List MemberValue) (same_heap : heap ≡ v.heap) (same_collection : c ≡ v.collection) (same_members : members ≡ v.members) where
+  pub at_rest_in : IsInterleaved v → AllEnded (system_of v) → Each (λ (m : MemberValue). IsAtRest heap c m.workspace) members
+  at_rest_in k ended =
+      subst (Each (λ (m : MemberValue). IsAtRest heap c m.workspace)) (sym same_members)
+      (subst (λ h. Each (λ (m : MemberValue). IsAtRest h c m.workspace) v.members) (sym same_heap) (subst (λ d. Each (λ (m : MemberValue). IsAtRest v.heap d m.workspace) v.members) (sym same_collection) (at_rest v k ended)))
+
+  pub brought_in : (reports : List WorkerLists) (blocks : List BlockValue) → AreBrought heap c members reports blocks → AreBrought v.heap v.collection v.members reports blocks
+  brought_in reports blocks b =
+      subst (λ ms. AreBrought v.heap v.collection ms reports blocks) same_members (subst (λ d. AreBrought v.heap d members reports blocks) same_collection (subst (λ h. AreBrought h c members reports blocks) same_heap b))

@@ -1,5 +1,0 @@
-use Rattle.plain_cells.proofs.PlainStart.{empty_are}
-use Rattle.plain_cells.proofs.plain_cells.PlainCells.empty.Goals as goal
-
-pub invariant_of-result : goal.invariant_of-result
-invariant_of-result g c = rw (c.in_ok-words.ensures.items_if_clones_equal (λ y same. same), c.of-held.ensures) (empty_are c.args.count c.args.passes c.ranges.count.fits)

@@ -1,8 +1,0 @@
--- It owns nothing, so any thread may share it.
-use denote.RattleType.{RattleType}
-use denote.Param.Send.{IsSync, part_keyless}
-use Rattle.plain_cells.specs.contracts.remembered.Remembered.{the_row}
-use Rattle.plain_cells.proofs.remembered.Remembered.TheSendSync.Send.{send}
-
-pub sync : (T : RattleType) → IsSync (the_row T)
-sync T = record { shared = λ d b o κ q. part_keyless (the_row T) (send T) q d b o }

@@ -1,5 +1,0 @@
--- Plain cells as contracts see them.
-pub use Rattle.cells.specs.Learned
-pub use Rattle.cells.specs.Settled
-pub mod Plain
-pub mod Minds

@@ -1,3 +1,0 @@
--- Lemmas on queues of one thread.
-pub mod PlainLists
-pub mod PlainSteps

@@ -1,2 +1,0 @@
--- Lemmas on names in order.
-pub mod NameLemmas

@@ -1,2 +1,0 @@
--- Flags of the numbers in use.
-pub mod Flagged

@@ -1,5 +1,0 @@
-use Rattle.std.proofs.Common.{◌∙◌}
-use Rattle.roots.proofs.roots.Roots.get.Goals as goal
-
-pub returns : goal.returns
-returns g c = rw (← c.self.view_is) (c.copied.ensures ∙ c.get.ensures)

@@ -1,2 +1,0 @@
--- What contracts see of roots.
-pub mod RootsValue

@@ -1,0 +1,6 @@
+//! Blocks that a collection copies into.
+mod allocation;
+mod fronts;
+
+pub use allocation::AllocationBlocks;
+pub use fronts::{front_pointer, pass_front, pointer_of, write_front};

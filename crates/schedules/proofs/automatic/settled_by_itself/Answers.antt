@@ -1,6 +1,0 @@
-use Rattle.schedules.proofs.FromMachine.{comes}
-use Rattle.schedules.proofs.automatic.settled_by_itself.Goals as goal
-
-pub returns-in-Ok-settle-clause-ok : goal.returns-in-Ok-settle-clause-ok
-returns-in-Ok-settle-clause-ok g c =
-    comes c.args.heap.now c.args.generation c.args.workers _ c.in-Ok.ensures.ok _ c.in-Ok-finish.ensures.ok.same c.in-Ok-finish.ensures.ok.finishes _ _ _ _ _ c.in-Ok-settle.ensures.ok

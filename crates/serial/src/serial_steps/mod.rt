@@ -1,0 +1,6 @@
+//! A collection by one worker, event by event in its order.
+mod events;
+mod running;
+
+pub use crate::serial_steps::events::step;
+pub use crate::serial_steps::running::run_to_end;

@@ -1,4 +1,0 @@
-pub mod SettleBrings
-pub mod SettleLists
-pub mod SettleWhole
-pub mod ShownLarge

@@ -1,2 +1,0 @@
--- How a collection by one worker ends.
-pub mod Settling

@@ -1,2 +1,0 @@
-mod Order
-pub mod Going

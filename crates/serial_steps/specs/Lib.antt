@@ -1,2 +1,0 @@
--- One event after another.
-pub mod Stepping

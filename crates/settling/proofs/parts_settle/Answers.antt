@@ -1,5 +1,0 @@
-use Rattle.settling.proofs.Bridge.{settled}
-use Rattle.settling.proofs.parts_settle.Goals as goal
-
-pub returns : goal.returns
-returns c = settled

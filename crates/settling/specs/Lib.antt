@@ -1,2 +1,0 @@
--- What the workers of a collection bring to its commit.
-pub mod Brings

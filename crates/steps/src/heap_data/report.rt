@@ -1,0 +1,79 @@
+//! What the workers of a collection report.
+ghost use Rattle.std.specs.Prelude.{◌≡◌, map};
+ghost use Rattle.steps.specs.ReportView.{won_value};
+ghost use Rattle.layout.specs.Place.{place_word};
+
+use layout::Place;
+use std::alloc::{Allocator, Global};
+use std::marker::Model;
+
+/// An object that a worker won: its number in the collection, and its new place.
+#[derive(Clone, Copy, Debug)]
+pub struct Won {
+    pub number: u32,
+    pub place: Place,
+}
+
+/// What one worker won, and the places that it scanned, each in order.
+#[derive(Debug, Drop)]
+pub struct WorkerReport<A: Allocator = Global> {
+    won: Vec<Won, A>,
+    scanned: Vec<Place, A>,
+}
+
+impl<A: Allocator> Model for WorkerReport<A> {
+    ghost use Rattle.std.specs.Prelude.{map};
+    ghost use Rattle.steps.specs.ReportValue.{WorkerLists, lists_code};
+
+    ghost Value = { WorkerLists };
+
+    ghost coded = { lists_code };
+
+    ghost use Rattle.steps.specs.ReportView.{won_value};
+    ghost use Rattle.layout.specs.Place.{place_word};
+
+    ghost view = { λ w. record { won = map won_value w.won.items; scanned = map place_word w.scanned.items } };
+}
+
+impl<A: Allocator> WorkerReport<A> {
+    /// The lists of a worker. Takes no memory.
+    pub fn new(won: Vec<Won, A>, scanned: Vec<Place, A>) -> Self
+        ensures { result ≡ record { won = map won_value won.items; scanned = map place_word scanned.items } }
+    {
+        WorkerReport { won, scanned }
+    }
+
+    pub fn won(&self) -> &[Won]
+        ensures { map won_value result.now ≡ self.now.won }
+    {
+        self.won.as_slice()
+    }
+
+    pub fn scanned(&self) -> &[Place]
+        ensures { map place_word result.now ≡ self.now.scanned }
+    {
+        self.scanned.as_slice()
+    }
+}
+
+/// A block that one worker exported and another, or the same, took.
+#[derive(Clone, Copy, Debug, PartialEq, Eq)]
+pub struct Delivery {
+    pub exporter: u32,
+    /// The place of the block among its exporter's, from 0.
+    pub position: u64,
+    /// How many objects the block holds.
+    pub objects: u32,
+    pub taker: u32,
+}
+
+/// What a collection kept and freed, and what its workers did.
+#[derive(Debug, Drop)]
+pub struct Report<A: Allocator = Global> {
+    /// How many objects of the generations collected are live.
+    pub kept: u64,
+    /// How many others of these generations are gone.
+    pub freed: u64,
+    pub workers: Vec<WorkerReport<A>, A>,
+    pub deliveries: Vec<Delivery, A>,
+}

@@ -1,2 +1,0 @@
--- Lemmas on tallies.
-pub mod TallyLemmas

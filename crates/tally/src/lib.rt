@@ -1,7 +1,0 @@
-//! A count that threads raise and read, and what the seats know of it together.
-#![tactic(auto)]
-
-mod tally;
-mod tally_plays;
-
-pub use tally::{Tally, TallySeat};

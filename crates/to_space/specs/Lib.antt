@@ -1,3 +1,0 @@
--- A block of copies as workers see it, and blocks by destination.
-pub mod Named
-pub mod Fronts

@@ -1,8 +1,0 @@
-//! Blocks that a collection copies into.
-#![tactic(auto)]
-
-mod allocation;
-mod fronts;
-
-pub use allocation::AllocationBlocks;
-pub use fronts::{front_pointer, pass_front, pointer_of, write_front};

@@ -1,0 +1,234 @@
+//! The words of a command line.
+ghost use Rattle.std.specs.Prelude.{◌≡◌, ◌↔◌, IfSome, Some, codes};
+ghost use Rattle.clap.specs.Values.{kind_of};
+ghost use Rattle.trace_driver.specs.Refusals.{IsToldOf};
+ghost use Rattle.trace_driver.specs.declared.command_line.words.Task.TheVariants.{Run, Replay};
+
+use clap::error::ErrorKind;
+use clap::{Arg, ArgMatches, Command, Error, value_parser};
+use std::alloc::{AllocError, Global};
+use std::convert::AsStr;
+use steps::Sizes;
+use thiserror::Error as ThisError;
+
+/// What a command line asks for.
+#[derive(Clone, Copy, Debug)]
+pub enum Task {
+    /// To carry out a trace.
+    Run,
+    /// To carry out a trace with the schedules of its collections.
+    Replay,
+}
+
+/// What a command line gives: its task, and the numbers, in no particular range.
+#[derive(Clone, Copy, Debug)]
+pub struct Options {
+    pub task: Task,
+    pub threads: u64,
+    pub sizes: Sizes,
+}
+
+/// Why the words ask for no run, with what is to be told of it.
+#[derive(Debug, Drop, ThisError)]
+pub enum Refused {
+    /// They ask for this help.
+    #[error("{0}")]
+    Help(String),
+    /// There is a mistake in them.
+    #[error("{0}")]
+    Usage(String),
+    #[error("no memory")]
+    NoMemory,
+}
+
+/// What the program is, as `--version` tells.
+const VERSION: &str = "0.1.0";
+
+const ABOUT: &str = "Carries out traces of heap commands, in a heap that is collected by copying.
+A trace comes from standard input. What it writes goes to standard output, and a fault to standard error.";
+
+const ABOUT_RUN: &str = "Carries out a trace. A nursery that is full is collected by itself.";
+
+const ABOUT_REPLAY: &str =
+    "Carries out a trace in which each collection has a schedule, up to its line `commit`.";
+
+/// What stands below the options, whatever the help is about.
+const AFTER_HELP: &str = "Examples:
+  gctrace run < trace
+  gctrace run --generations 1 --block-words 64 --blocks 100 < trace
+  gctrace replay --threads 2 < trace-with-schedules
+
+Status:
+  0  each line was carried out
+  1  the heap is full, or memory is wanting
+  2  a line is faulty
+  3  the words are mistaken, or an option is out of range
+  4  a read or a write failed
+
+The lines of traces and schedules are described in docs/FORMATS.md.";
+
+/// The default of each size, as it is written.
+#[derive(Drop)]
+struct Defaults {
+    mutators: String,
+    generations: String,
+    steps: String,
+    block_words: String,
+    nursery_blocks: String,
+    blocks: String,
+}
+
+impl Defaults {
+    fn of(alloc: Global, sizes: Sizes) -> Result<Defaults, AllocError> {
+        Ok(Defaults {
+            mutators: format!(in alloc; "{}", sizes.mutators)?,
+            generations: format!(in alloc; "{}", sizes.generations)?,
+            steps: format!(in alloc; "{}", sizes.steps)?,
+            block_words: format!(in alloc; "{}", sizes.block_words)?,
+            nursery_blocks: format!(in alloc; "{}", sizes.nursery_blocks)?,
+            blocks: format!(in alloc; "{}", sizes.blocks)?,
+        })
+    }
+}
+
+/// An option with one whole number.
+fn number_option<'a>(alloc: Global, name: &'a str, default: &'a str, help: &'a str) -> Arg<'a> {
+    Arg::new(alloc, name)
+        .long(name)
+        .value_name("NUMBER")
+        .help(help)
+        .value_parser(value_parser!(u64))
+        .default_value(default)
+}
+
+/// The kind of forwarding cells; there is one kind so far.
+fn cells_option<'a>(alloc: Global) -> Arg<'a> {
+    Arg::new(alloc, "cells")
+        .long("cells")
+        .value_name("KIND")
+        .help("Kind of forwarding cells, which changes nothing yet")
+        .value_parser(["box"].as_slice())
+        .default_value("box")
+}
+
+/// A subcommand with the options that each of them takes.
+fn task_command<'a>(
+    alloc: Global,
+    name: &'a str,
+    about: &'a str,
+    threads: &'a str,
+    defaults: &'a Defaults,
+) -> Result<Command<'a>, AllocError> {
+    let of_nurseries = "Blocks of each mutator's nursery: 1 to 64";
+    let of_steps = "Steps of each generation but the oldest: 1 to 4";
+    let of_words = "Words of a block: 16 to 512, a multiple of 4";
+    Command::new(alloc, name)
+        .about(about)
+        .after_help(AFTER_HELP)
+        .arg(number_option(alloc, "threads", "1", threads))?
+        .arg(number_option(alloc, "mutators", &defaults.mutators, "Mutators: 1 to 16"))?
+        .arg(number_option(
+            alloc,
+            "generations",
+            &defaults.generations,
+            "Generations: 1 to 4",
+        ))?
+        .arg(number_option(alloc, "steps", &defaults.steps, of_steps))?
+        .arg(number_option(alloc, "block-words", &defaults.block_words, of_words))?
+        .arg(number_option(alloc, "nursery", &defaults.nursery_blocks, of_nurseries))?
+        .arg(number_option(
+            alloc,
+            "blocks",
+            &defaults.blocks,
+            "Blocks in all: 1 to 65535",
+        ))
+}
+
+fn gctrace_command<'a>(alloc: Global, defaults: &'a Defaults) -> Result<Command<'a>, AllocError> {
+    let of_run = "Workers of a collection: 1";
+    let run = task_command(alloc, "run", ABOUT_RUN, of_run, defaults)?;
+    let of_workers = "Workers of a collection: 1 to 16";
+    let replay = task_command(alloc, "replay", ABOUT_REPLAY, of_workers, defaults)?;
+    Command::new(alloc, "gctrace")
+        .version(VERSION)
+        .about(ABOUT)
+        .after_help(AFTER_HELP)
+        .subcommand_required(true)
+        .subcommand(run.arg(cells_option(alloc))?)?
+        .subcommand(replay)
+}
+
+/// The task of the subcommand of this name.
+fn task_of(name: &str) -> Option<Task>
+    ensures run { (result ≡ Some Run) ↔ (name.now ≡ codes "run") }
+    ensures replay { (result ≡ Some Replay) ↔ (name.now ≡ codes "replay") }
+{
+    match name {
+        "run" => Some(Task::Run),
+        "replay" => Some(Task::Replay),
+        _ => None,
+    }
+}
+
+/// The sizes of the heap, in no particular range.
+fn sizes_of(matches: &ArgMatches<'_>) -> Option<Sizes> {
+    Some(Sizes {
+        block_words: matches.get_one::<u64>("block-words")?,
+        blocks: matches.get_one::<u64>("blocks")?,
+        mutators: matches.get_one::<u64>("mutators")?,
+        nursery_blocks: matches.get_one::<u64>("nursery")?,
+        generations: matches.get_one::<u64>("generations")?,
+        steps: matches.get_one::<u64>("steps")?,
+    })
+}
+
+fn options_of(name: &str, matches: &ArgMatches<'_>) -> Option<Options>
+    ensures run { IfSome result (λ options. (options.task ≡ Run) ↔ (name.now ≡ codes "run")) }
+    ensures replay { IfSome result (λ options. (options.task ≡ Replay) ↔ (name.now ≡ codes "replay")) }
+{
+    Some(Options {
+        task: task_of(name)?,
+        threads: matches.get_one::<u64>("threads")?,
+        sizes: sizes_of(matches)?,
+    })
+}
+
+/// What the words ask for, or the mistake in them as `clap` tells of it.
+fn parsed_words<'a, T: AsStr>(alloc: Global, words: &'a [T]) -> Result<Options, Error> {
+    let defaults = Defaults::of(alloc, Sizes::default())?;
+    let mut command = gctrace_command(alloc, &defaults)?;
+    let matches = command.try_get_matches_from_mut(words)?;
+    match matches
+        .subcommand()
+        .and_then(|(name, inner)| options_of(name, inner))
+    {
+        Some(options) => Ok(options),
+        // Each option has a default, so that it has a value.
+        None => Err(command.error(ErrorKind::MissingSubcommand, "a subcommand is wanted")?),
+    }
+}
+
+/// What is told of an error.
+fn refused_by(alloc: Global, error: &Error) -> Refused
+    ensures { IsToldOf (kind_of error.now) result }
+{
+    if error.kind() == ErrorKind::OutOfMemory {
+        return Refused::NoMemory;
+    }
+    let Ok(text) = format!(in alloc; "{error}") else {
+        return Refused::NoMemory;
+    };
+    if error.use_stderr() {
+        Refused::Usage(text)
+    } else {
+        Refused::Help(text)
+    }
+}
+
+/// What the words ask for, the first being the program's name, or why they can't be carried out.
+pub fn read_words<'a, T: AsStr>(alloc: Global, words: &'a [T]) -> Result<Options, Refused> {
+    match parsed_words(alloc, words) {
+        Ok(options) => Ok(options),
+        Err(error) => Err(refused_by(alloc, &error)),
+    }
+}

@@ -1,7 +1,0 @@
--- A fact for each way in which a line may come back.
-use Rattle.trace_lines.specs.declared.attempt.Attempt.{Attempt}
-use Rattle.trace_lines.specs.declared.attempt.Attempt.TheVariants.{Done, NurseryFull}
-
-abbrev pub MatchAttempt : Attempt → Type 0 → Type 0 → Type 0
-MatchAttempt Done done full = done
-MatchAttempt NurseryFull done full = full

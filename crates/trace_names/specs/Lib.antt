@@ -1,2 +1,0 @@
--- What the names in use are.
-pub mod NamesView

@@ -1,0 +1,50 @@
+-- A command that writes nothing, or that wants no blocks, as one of all commands.
+use Rattle.std.proofs.Common.{◌≡◌, ℕ, List, [], Option, Some, Result, Ok, Err}
+use Rattle.std.specs.Prelude.{OnOk, IfErr, IsOk}
+use Rattle.std.proofs.KnownBytes.{Appends-nil}
+use Rattle.model.specs.declared.kind.Kind.{Kind}
+use Rattle.model.specs.Config.{Config}
+use Rattle.model.specs.Store.{Store}
+use Rattle.model.specs.Commands.{Outcome as Stepped}
+use Rattle.trace_session.specs.declared.trace_lines.fault.Fault.{Fault}
+use Rattle.trace_session.specs.declared.trace_lines.fault.Fault.TheVariants.{BadTrace, BadSchedule, HeapFull, NoMemory, ReadFailed, WriteFailed}
+use Rattle.trace_session.specs.Faults.{MatchFault}
+use Rattle.trace_session.specs.Stepped.{AtEach, StepsTo, StepsQuietly}
+
+-- what was written stays as it is
+pub quiet_steps : {X E : Type 0} (r : Result X E) (stands stands' : Config → Store → Type 0) (step : Config → Store → Stepped) (held : Option (List ℕ)) → OnOk r (AtEach stands (λ config store. StepsQuietly stands' config (step config store))) → OnOk r (AtEach stands (λ config store. StepsTo stands' config (step config store) held held))
+quiet_steps (Ok x) stands stands' step held steps = λ config store at.
+    let quiet = steps config store at in
+    record { next = quiet.next; out = []; steps = quiet.steps; stands' = quiet.stands'; held = Appends-nil held }
+quiet_steps (Err e) stands stands' step held steps = tt
+
+-- no fault says that blocks are wanting
+pub never_full : {X : Type 0} (r : Result X Fault) (trace : ℕ → Kind → Type 0) (full memory : Option ℕ → Type 0) (written : Type 0) → IfErr r (λ e. MatchFault e trace (λ _. ⊥) memory ⊥ written) → IfErr r (λ e. MatchFault e trace full memory ⊥ written)
+never_full (Ok x) trace full memory written fault = tt
+never_full (Err (BadTrace line kind)) trace full memory written fault = fault
+never_full (Err (BadSchedule line kind)) trace full memory written fault = fault
+never_full (Err (HeapFull line)) trace full memory written fault = absurd fault
+never_full (Err (NoMemory line)) trace full memory written fault = fault
+never_full (Err ReadFailed) trace full memory written fault = fault
+never_full (Err WriteFailed) trace full memory written fault = fault
+
+module _ {X T : Type 0} (number : ℕ) (before after : T) (same : after ≡ before) (stands : Config → Store → Type 0) (step : Config → Store → Stepped) (full : Option ℕ → Type 0) (written : Type 0) where
+  -- and the writer is as before at each fault
+  pub quiet_faults : (r : Result X Fault)
+      → IfErr r (λ e. MatchFault e
+      (λ at kind. (at ≡ number) × AtEach stands (λ config store. step config store ≡ Err kind))
+      (λ _. ⊥)
+      (λ at. (at ≡ Some number) × AtEach stands (λ config store. IsOk (step config store)))
+      ⊥ ⊥)
+      → IfErr r (λ e. MatchFault e
+      (λ at kind. (at ≡ number) × AtEach stands (λ config store. step config store ≡ Err kind) × (after ≡ before))
+      full
+      (λ at. (at ≡ Some number) × AtEach stands (λ config store. IsOk (step config store)) × (after ≡ before))
+      ⊥ written)
+  quiet_faults (Ok x) fault = tt
+  quiet_faults (Err (BadTrace line kind)) fault = (fault.0, fault.1, same)
+  quiet_faults (Err (BadSchedule line kind)) fault = absurd fault
+  quiet_faults (Err (HeapFull line)) fault = absurd fault
+  quiet_faults (Err (NoMemory line)) fault = (fault.0, fault.1, same)
+  quiet_faults (Err ReadFailed) fault = absurd fault
+  quiet_faults (Err WriteFailed) fault = absurd fault

@@ -1,0 +1,55 @@
+use Rattle.std.proofs.Common.{refl}
+use Rattle.model.specs.Commands.{Set, Put, Get, Drop, target_of}
+use Rattle.trace_session.specs.Outcome.{command_step}
+use Rattle.trace_session.proofs.CommandFaults.{quiet_steps, quiet_faults, never_full}
+use Rattle.trace_session.proofs.NoMemory.{never_wanting}
+use Rattle.trace_session.proofs.trace_step.attempting.carry_out_command.Goals as goal
+
+pub returns-in-Set-clause-ok : goal.returns-in-Set-clause-ok
+returns-in-Set-clause-ok g c =
+    rw c.in-Set.is
+    (quiet_steps c.set.result _ _ (λ config store. command_step config store (Set c.in-Set.name.now c.in-Set.field (target_of (λ x. x.now) c.in-Set.target))) _ c.set.ensures.ok)
+
+pub returns-in-Set-clause-err : goal.returns-in-Set-clause-err
+returns-in-Set-clause-err g c =
+    rw c.in-Set.is
+    (quiet_faults c.args.number c.args.writer.now c.args.writer.now refl _ (λ config store. command_step config store (Set c.in-Set.name.now c.in-Set.field (target_of (λ x. x.now) c.in-Set.target))) _ _ c.set.result c.set.ensures.err)
+
+pub returns-in-Get-clause-ok : goal.returns-in-Get-clause-ok
+returns-in-Get-clause-ok g c =
+    rw c.in-Get.is
+    (quiet_steps c.get.result _ _ (λ config store. command_step config store (Get c.in-Get.new_name.now c.in-Get.name.now c.in-Get.field)) _ c.get.ensures.ok)
+
+pub returns-in-Get-clause-err : goal.returns-in-Get-clause-err
+returns-in-Get-clause-err g c =
+    rw c.in-Get.is
+    (quiet_faults c.args.number c.args.writer.now c.args.writer.now refl _ (λ config store. command_step config store (Get c.in-Get.new_name.now c.in-Get.name.now c.in-Get.field)) _ _ c.get.result c.get.ensures.err)
+
+pub returns-in-Census-clause-ok : goal.returns-in-Census-clause-ok
+returns-in-Census-clause-ok g c = rw c.in-Census.is c.census.ensures.ok
+
+pub returns-in-Heap-clause-ok : goal.returns-in-Heap-clause-ok
+returns-in-Heap-clause-ok g c = rw c.in-Heap.is c.show_heap.ensures.ok
+
+pub returns-in-Heap-clause-err : goal.returns-in-Heap-clause-err
+returns-in-Heap-clause-err g c = rw c.in-Heap.is (never_full c.show_heap.result _ _ _ _ c.show_heap.ensures.err)
+
+pub returns-in-Put-clause-ok : goal.returns-in-Put-clause-ok
+returns-in-Put-clause-ok g c =
+    rw c.in-Put.is
+    (quiet_steps c.put.result _ _ (λ config store. command_step config store (Put c.in-Put.name.now c.in-Put.field c.in-Put.value)) _ c.put.ensures.ok)
+
+pub returns-in-Put-clause-err : goal.returns-in-Put-clause-err
+returns-in-Put-clause-err g c =
+    rw c.in-Put.is
+    (quiet_faults c.args.number c.args.writer.now c.args.writer.now refl _ (λ config store. command_step config store (Put c.in-Put.name.now c.in-Put.field c.in-Put.value)) _ _ c.put.result (never_wanting c.put.result _ _ _ _ c.put.ensures.err))
+
+pub returns-in-Drop-clause-ok : goal.returns-in-Drop-clause-ok
+returns-in-Drop-clause-ok g c =
+    rw c.in-Drop.is
+    (quiet_steps c.remove.result _ _ (λ config store. command_step config store (Drop c.in-Drop.name.now)) _ c.remove.ensures.ok)
+
+pub returns-in-Drop-clause-err : goal.returns-in-Drop-clause-err
+returns-in-Drop-clause-err g c =
+    rw c.in-Drop.is
+    (quiet_faults c.args.number c.args.writer.now c.args.writer.now refl _ (λ config store. command_step config store (Drop c.in-Drop.name.now)) _ _ c.remove.result (never_wanting c.remove.result _ _ _ _ c.remove.ensures.err))

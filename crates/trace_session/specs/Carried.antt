@@ -1,0 +1,67 @@
+-- What carrying out the first lines of a text does, whatever follows the text.
+use Rattle.std.specs.Prelude.{◌≡◌, ℕ, ◌+◌, ◌-◌, ◌≤◌, List, [], ◌++◌, take, drop, Option, Some, None, slice_get}
+use Rattle.std.specs.Io.KnownBytes.{Appends}
+use Rattle.model.specs.declared.kind.Kind.{Kind}
+use Rattle.model.specs.Config.{Config}
+use Rattle.model.specs.Store.{Store}
+use Rattle.model.specs.Commands.{Run}
+use Rattle.trace_session.specs.Pieces.{finished, pieces}
+use Rattle.trace_session.specs.Outcome.{after, outcome_from, outcome_before}
+
+-- from line `number` on at a store, so many lines of the text print out and leave another store and the rest
+pub record Carried (config : Config) (number : ℕ) (store : Store) (text out : List ℕ) (lines : ℕ) (store' : Store) (rest : List ℕ) : Type 0 where
+  pub each : (k : ℕ) (more : List ℕ) → outcome_from config number store (take (lines + k) (pieces (text ++ more))) ≡ after out (outcome_from config (number + lines) store' (take k (pieces (rest ++ more))))
+  pub left : (more : List ℕ) → drop lines (pieces (text ++ more)) ≡ pieces (rest ++ more)
+
+pub record CarriesOut (config : Config) (number : ℕ) (store : Store) (text : List ℕ) (number' : ℕ) (store' : Store) (rest : List ℕ) (old new : Option (List ℕ)) : Type 0 where
+  pub out : List ℕ
+  pub lines : ℕ
+  pub number_is : number' ≡ number + lines
+  pub held : Appends old new out
+  pub carried : Carried config number store text out lines store' rest
+
+-- the fault is in a line of the text, and the lines before are printed
+pub record StopsAt (config : Config) (number : ℕ) (store : Store) (text : List ℕ) (line : ℕ) (kind : Kind) (old new : Option (List ℕ)) : Type 0 where
+  pub out : List ℕ
+  pub store' : Store
+  pub held : Appends old new out
+  pub stops : (more : List ℕ) → outcome_from config number store (pieces (text ++ more)) ≡ record { store = store'; output = out; fault = Some (line, kind) }
+
+-- P of a store and a line that has written nothing
+abbrev pub Silently : (Store → List ℕ → Type 0) → Store → List ℕ → (written : List ℕ) → Type 0
+Silently P store line written = P store line × (written ≡ [])
+
+-- the lines before a line of the text are printed and have no fault, and then what that line has written; P holds of the store before
+-- the line, of the line and of what it has written
+pub record LeavesBefore (P : Store → List ℕ → List ℕ → Type 0) (config : Config) (number : ℕ) (store : Store) (text : List ℕ) (line : Option ℕ) (old new : Option (List ℕ)) : Type 0 where
+  pub out : List ℕ
+  pub lines : ℕ
+  pub store' : Store
+  pub refused : List ℕ
+  pub written : List ℕ
+  pub line_is : line ≡ Some (number + lines)
+  pub held : Appends old new (out ++ written)
+  pub printed : (more : List ℕ) → outcome_from config number store (take lines (pieces (text ++ more))) ≡ record { store = store'; output = out; fault = None }
+  pub there : (more : List ℕ) → slice_get (pieces (text ++ more)) lines ≡ Some (finished refused)
+  pub holds : P store' refused written
+
+-- what is printed is the output of the lines before some line
+pub record PrintsFront (config : Config) (old new : Option (List ℕ)) (input : List ℕ) : Type 0 where
+  pub line : ℕ
+  pub held : Appends old new (outcome_before config line input).output
+
+-- what is printed is the output of the lines before this line, which have no fault, and what it has written; P holds of the store
+-- before it, of its text and of what it has written
+pub record LeavesOutput (P : Store → List ℕ → List ℕ → Type 0) (config : Config) (line : ℕ) (old new : Option (List ℕ)) (input : List ℕ) : Type 0 where
+  pub refused : List ℕ
+  pub written : List ℕ
+  pub counted : 1 ≤ line
+  pub there : slice_get (pieces input) (line - 1) ≡ Some (finished refused)
+  pub sound : (outcome_before config line input).fault ≡ None
+  pub held : Appends old new ((outcome_before config line input).output ++ written)
+  pub holds : P (outcome_before config line input).store refused written
+
+-- what is printed is the run's output, and its fault is this one
+pub record Prints (run : Run) (fault : Option (ℕ × Kind)) (old new : Option (List ℕ)) : Type 0 where
+  pub fault_is : run.fault ≡ fault
+  pub held : Appends old new run.output

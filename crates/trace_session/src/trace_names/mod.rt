@@ -1,0 +1,4 @@
+//! The names in use, and what each leads to.
+mod names;
+
+pub use names::Names;

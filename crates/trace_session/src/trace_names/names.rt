@@ -1,0 +1,85 @@
+//! The names in use.
+ghost use Rattle.std.specs.Prelude.{◌≡◌, ℕ, List, [], IfOk, IsTrue, OnOk, OnErr, not, filter, length, map};
+ghost use Rattle.std.specs.Option.{option_map};
+ghost use Rattle.std.specs.Ordering.{nat_cmp, eq_by_cmp};
+ghost use Rattle.std.specs.Cmp.Lexicographic.{slice_cmp};
+ghost use Rattle.std.specs.FinMap.{find, put};
+ghost use Rattle.std.specs.FinMap.Entries.{is_sorted};
+ghost use Rattle.heap_text.specs.HeapLines.{name_value};
+
+use heap::RootId;
+use heap_text::Name;
+use std::alloc::{AllocError, Allocator, Global};
+use std::collections::HashMap;
+use std::hash::{BuildHasherDefault, FoldHasher};
+use std::marker::Model;
+
+/// What each name in use leads to. A look-up or change finds it by its hash.
+#[derive(Drop)]
+pub struct Names<A: Allocator = Global> {
+    roots: HashMap<Vec<u8, A>, RootId, BuildHasherDefault<FoldHasher>, A>,
+}
+
+impl<A: Allocator> Model for Names<A> {
+    ghost use Rattle.std.specs.Prelude.{◌≡◌, ℕ, List};
+
+    // The names in byte order, each with the number of its root.
+    ghost Value = { List (List ℕ × ℕ) };
+
+    ghost use Rattle.trace_session.specs.NamesView.{names_view};
+
+    ghost view = { λ n. names_view n.roots };
+}
+
+impl<A: Allocator + Clone> Names<A> {
+    /// No names.
+    pub fn new(alloc: A) -> Names<A>
+        ensures { result ≡ [] }
+    {
+        Names {
+            roots: HashMap::new(alloc),
+        }
+    }
+
+    /// The root that a name leads to.
+    pub fn get(&self, name: &[u8]) -> Option<RootId>
+        ensures { option_map (λ r. r.number) result ≡ find (slice_cmp nat_cmp) name.now self.now }
+    {
+        self.roots.get(name).copied()
+    }
+
+    /// A name that is in use leads to the new root from now on.
+    pub fn insert(&mut self, alloc: A, name: &[u8], root: RootId) -> Result<(), AllocError>
+        ensures ok { OnOk result (self.new ≡ put (slice_cmp nat_cmp) name.now root.number self.old) }
+        ensures err { OnErr result (self.new ≡ self.old) }
+    {
+        let key = Vec::from_slice(alloc, name)?;
+        self.roots.insert(key, root)?;
+        Ok(())
+    }
+
+    /// Takes a name away, and gives the root that it led to.
+    pub fn remove(&mut self, name: &[u8]) -> Option<RootId>
+        ensures root { option_map (λ r. r.number) result ≡ find (slice_cmp nat_cmp) name.now self.old }
+        ensures names { self.new ≡ filter (λ e. not (eq_by_cmp (slice_cmp nat_cmp) name.now e.0)) self.old }
+    {
+        let _count = self.roots.len();
+        self.roots.remove(name)
+    }
+
+    /// The names in byte order, each with its root. The error says that memory ran out.
+    pub fn list(&self, alloc: A) -> Result<Vec<Name<'_>, A>, AllocError>
+        ensures names { IfOk result (λ list. map name_value list.items ≡ self.now) }
+        ensures sorted { IfOk result (λ _. IsTrue (is_sorted (slice_cmp nat_cmp) self.now)) }
+    {
+        let mut list = Vec::new(alloc);
+        for (text, root) in self.roots.iter() {
+            list.push(Name {
+                text: text.as_slice(),
+                root: *root,
+            })?;
+        }
+        list.sort_unstable_by_key(|name| name.text);
+        Ok(list)
+    }
+}

@@ -1,0 +1,178 @@
+//! The commands that print.
+ghost use Rattle.std.specs.Prelude.{◌≡◌, ◌+◌, ◌-◌, ◌^◌, ◌<◌, ◌≤◌, Some, Err, OnOk, IfErr, is_some};
+ghost use Rattle.std.specs.Io.KnownBytes.{Appends};
+ghost use Rattle.std.specs.List.{list_all};
+ghost use Rattle.collector.specs.Collects.{IsShortOfBlocks};
+ghost use Rattle.model.specs.Graph.{root_at};
+ghost use Rattle.model.specs.Store.{collected};
+ghost use Rattle.model.specs.Commands as meant;
+ghost use Rattle.model.specs.Commands.{Collect, Census};
+ghost use Rattle.trace_session.specs.CollectsFirst.{auto_line};
+ghost use Rattle.trace_session.specs.Faults.{MatchFault};
+ghost use Rattle.trace_session.specs.Outcome.{command_step};
+ghost use Rattle.trace_session.specs.Sound.{IsSoundCommand};
+ghost use Rattle.trace_session.specs.Stepped.{AtEach, StepsTo};
+ghost use Rattle.trace_session.specs.Refusals.{CommandMayBeFull};
+ghost use Rattle.trace_session.specs.Session.{Stands};
+
+use crate::Session;
+use crate::trace_lines::Fault;
+use collector::{CollectError, collect_one};
+use heap::Heap;
+use heap_text::{
+    Cause, Name, Sink, WriteError, WriteFailed, write_census, write_collection, write_heap,
+};
+use model::Kind;
+use std::alloc::Allocator;
+
+/// The fault of a text that was not written in a line.
+fn not_written(number: u128, error: WriteError) -> Fault
+    ensures { MatchFault result (λ _ _. ⊥) (λ _. ⊥) (λ at. (at ≡ Some number) × (error ≡ WriteError.NoMemory)) ⊥ (error ≡ WriteError.WriteFailed) }
+{
+    match error {
+        WriteError::NoMemory => Fault::NoMemory(Some(number)),
+        WriteError::WriteFailed => Fault::WriteFailed,
+    }
+}
+
+/// Writes the counts of the heap.
+pub fn census<A: Allocator + Clone, W: Sink>(
+    session: &mut Session<A>,
+    number: u128,
+    writer: &mut W,
+) -> Result<(), Fault>
+    requires { W.failed_writes writer.old < 2 ^ 64 - 1 }
+    ensures ok { OnOk result (AtEach (Stands session.old)
+        (λ config store. StepsTo (Stands session.new) config (command_step config store Census) (W.contents writer.old) (W.contents writer.new))) }
+    ensures counts { OnOk result (W.failed_writes writer.new ≡ W.failed_writes writer.old) }
+    ensures rises { W.failed_writes writer.new ≤ W.failed_writes writer.old + 1 }
+    ensures err { IfErr result (λ e. MatchFault e (λ _ _. ⊥) (λ _. ⊥)
+        (λ at. (at ≡ Some number) × AtEach (Stands session.old) (λ config store. IsSoundCommand config store Census) × (writer.new ≡ writer.old))
+        ⊥
+        (W.failed_writes writer.new ≡ W.failed_writes writer.old + 1)) }
+{
+    let Ok(alloc) = session.alloc.clone() else {
+        return Err(Fault::NoMemory(Some(number)));
+    };
+    let census = session.heap.census();
+    match write_census(alloc, &census, writer) {
+        Ok(()) => Ok(()),
+        Err(error) => Err(not_written(number, error)),
+    }
+}
+
+/// Collects the generations 0 to this one, and writes how many objects were kept and freed. `HeapFull` says that fewer
+/// blocks of this heap were free than the space bound.
+pub fn collect<A: Allocator + Clone, W: Sink>(
+    session: &mut Session<A>,
+    number: u128,
+    generation: u64,
+    writer: &mut W,
+) -> Result<(), Fault>
+    requires { W.failed_writes writer.old < 2 ^ 64 - 1 }
+    ensures ok { OnOk result (AtEach (Stands session.old)
+        (λ config store. StepsTo (Stands session.new) config (command_step config store (Collect generation)) (W.contents writer.old) (W.contents writer.new))) }
+    ensures counts { OnOk result (W.failed_writes writer.new ≡ W.failed_writes writer.old) }
+    ensures rises { W.failed_writes writer.new ≤ W.failed_writes writer.old + 1 }
+    ensures err { IfErr result (λ e. MatchFault e
+        (λ at kind. (at ≡ number) × AtEach (Stands session.old) (λ config store. command_step config store (Collect generation) ≡ Err kind) × (writer.new ≡ writer.old))
+        (λ at. (at ≡ Some number) × IsShortOfBlocks session.old.heap generation × AtEach (Stands session.old) (λ config store. CommandMayBeFull config store (Collect generation)) × (writer.new ≡ writer.old))
+        (λ at. (at ≡ Some number) × AtEach (Stands session.old) (λ config store. IsSoundCommand config store (Collect generation)) × (writer.new ≡ writer.old))
+        ⊥
+        (W.failed_writes writer.new ≡ W.failed_writes writer.old + 1)) }
+{
+    if generation >= session.heap.config().generations() as u64 {
+        return Err(Fault::BadTrace(number, Kind::NoGeneration));
+    }
+    let Ok(alloc) = session.alloc.clone() else {
+        return Err(Fault::NoMemory(Some(number)));
+    };
+    let report = match collect_one(alloc, &mut session.heap, generation) {
+        Ok(report) => report,
+        Err(CollectError::NoGeneration) => return Err(Fault::BadTrace(number, Kind::NoGeneration)),
+        Err(CollectError::HeapFull) => return Err(Fault::HeapFull(Some(number))),
+        Err(CollectError::NoMemory) => return Err(Fault::NoMemory(Some(number))),
+    };
+    let (kept, freed) = (report.kept, report.freed);
+    match write_collection(Cause::Command, generation, kept, freed, writer) {
+        Ok(()) => Ok(()),
+        Err(WriteFailed) => Err(Fault::WriteFailed),
+    }
+}
+
+/// Makes room in the nurseries for a new object: collects generation 0, and writes how many objects were kept and freed.
+/// The only error after the collection is that of a write.
+pub fn make_room<A: Allocator + Clone, W: Sink>(
+    session: &mut Session<A>,
+    number: u128,
+    writer: &mut W,
+) -> Result<(), Fault>
+    requires { W.failed_writes writer.old < 2 ^ 64 - 1 }
+    ensures ok { OnOk result (AtEach (Stands session.old)
+        (λ config store. Stands session.new config (collected config 0 store) × Appends (W.contents writer.old) (W.contents writer.new) (auto_line store))) }
+    ensures counts { OnOk result (W.failed_writes writer.new ≡ W.failed_writes writer.old) }
+    ensures rises { W.failed_writes writer.new ≤ W.failed_writes writer.old + 1 }
+    ensures err { IfErr result (λ e. MatchFault e (λ _ _. ⊥)
+        (λ at. (at ≡ Some number) × IsShortOfBlocks session.old.heap 0 × (session.new ≡ session.old) × (writer.new ≡ writer.old))
+        (λ at. (at ≡ Some number) × (session.new ≡ session.old) × (writer.new ≡ writer.old))
+        ⊥
+        (W.failed_writes writer.new ≡ W.failed_writes writer.old + 1)) }
+{
+    let _generations = session.heap.config().generations();
+    let Ok(alloc) = session.alloc.clone() else {
+        return Err(Fault::NoMemory(Some(number)));
+    };
+    let done = match collect_one(alloc, &mut session.heap, 0) {
+        Ok(done) => done,
+        Err(CollectError::NoGeneration) => unreachable!(),
+        Err(CollectError::HeapFull) => return Err(Fault::HeapFull(Some(number))),
+        Err(CollectError::NoMemory) => return Err(Fault::NoMemory(Some(number))),
+    };
+    match write_collection(Cause::FullNursery, 0, done.kept, done.freed, writer) {
+        Ok(()) => Ok(()),
+        Err(WriteFailed) => Err(Fault::WriteFailed),
+    }
+}
+
+/// Whether each name's root is one of the heap.
+fn are_rooted<A: Allocator + Clone>(heap: &Heap<A>, names: &[Name<'_>]) -> bool
+    ensures { result ≡ list_all (λ name. is_some (root_at heap.now.graph name.root.number)) names.now }
+{
+    names.iter().all(|name| heap.target(name.root).is_some())
+}
+
+/// Writes the names, and each object that a name leads to.
+pub fn show_heap<A: Allocator + Clone, W: Sink>(
+    session: &mut Session<A>,
+    number: u128,
+    writer: &mut W,
+) -> Result<(), Fault>
+    requires { W.failed_writes writer.old < 2 ^ 64 - 1 }
+    ensures ok { OnOk result (AtEach (Stands session.old)
+        (λ config store. StepsTo (Stands session.new) config (command_step config store meant.Heap) (W.contents writer.old) (W.contents writer.new))) }
+    ensures counts { OnOk result (W.failed_writes writer.new ≡ W.failed_writes writer.old) }
+    ensures rises { W.failed_writes writer.new ≤ W.failed_writes writer.old + 1 }
+    ensures err { IfErr result (λ e. MatchFault e
+        (λ at kind. (at ≡ number) × AtEach (Stands session.old) (λ config store. command_step config store meant.Heap ≡ Err kind) × (writer.new ≡ writer.old))
+        (λ _. ⊥)
+        (λ at. (at ≡ Some number) × AtEach (Stands session.old) (λ config store. IsSoundCommand config store meant.Heap) × (writer.new ≡ writer.old))
+        ⊥
+        (W.failed_writes writer.new ≡ W.failed_writes writer.old + 1)) }
+{
+    let Ok(alloc) = session.alloc.clone() else {
+        return Err(Fault::NoMemory(Some(number)));
+    };
+    let Ok(names_alloc) = session.alloc.clone() else {
+        return Err(Fault::NoMemory(Some(number)));
+    };
+    let Ok(names) = session.names.list(names_alloc) else {
+        return Err(Fault::NoMemory(Some(number)));
+    };
+    if !are_rooted(&session.heap, &names) {
+        return Err(Fault::BadTrace(number, Kind::UnknownName));
+    }
+    match write_heap(alloc, &session.heap, &names, writer) {
+        Ok(()) => Ok(()),
+        Err(error) => Err(not_written(number, error)),
+    }
+}

@@ -1,0 +1,52 @@
+//! What one line does.
+ghost use Rattle.std.specs.Prelude.{◌≡◌, ℕ, ◌+◌, ◌-◌, ◌^◌, ◌<◌, ◌≤◌, Option, Some, Err, OnOk, IfErr};
+ghost use Rattle.trace_session.specs.CollectsFirst.{IsSoundSoFar};
+ghost use Rattle.trace_session.specs.Faults.{MatchFault};
+ghost use Rattle.trace_session.specs.Outcome.{line_step};
+ghost use Rattle.trace_session.specs.Stepped.{AtEach, StepsTo, Writes};
+ghost use Rattle.trace_session.specs.Refusals.{IsFullForLine, MayBeFull};
+ghost use Rattle.trace_session.specs.Session.{Stands};
+
+use crate::trace_lines::{Attempt, Fault};
+use crate::trace_prints::{Session, make_room};
+use crate::trace_step::attempting::attempt;
+use heap_text::Sink;
+use std::alloc::Allocator;
+
+/// Carries out one line by one worker. Where a new object has no room in its nursery, generation 0 is collected first.
+/// `HeapFull` says that this heap, as it was before the line, has too few free blocks for it (`full`).
+pub fn carry_out<A: Allocator + Clone, W: Sink>(
+    session: &mut Session<A>,
+    number: u128,
+    line: &[u8],
+    writer: &mut W,
+) -> Result<(), Fault>
+    requires { W.failed_writes writer.old < 2 ^ 64 - 1 }
+    ensures ok { OnOk result (AtEach (Stands session.old)
+        (λ config store. StepsTo (Stands session.new) config (line_step config store line.now) (W.contents writer.old) (W.contents writer.new))) }
+    ensures counts { OnOk result (W.failed_writes writer.new ≡ W.failed_writes writer.old) }
+    ensures rises { W.failed_writes writer.new ≤ W.failed_writes writer.old + 1 }
+    ensures err { IfErr result (λ e. MatchFault e
+        (λ at kind. (at ≡ number) × AtEach (Stands session.old) (λ config store. (line_step config store line.now ≡ Err kind) × (writer.new ≡ writer.old)))
+        (λ at. (at ≡ Some number) × AtEach (Stands session.old) (λ config store. MayBeFull config store line.now × (writer.new ≡ writer.old)))
+        (λ at. (at ≡ Some number) × AtEach (Stands session.old) (λ config store. Writes (IsSoundSoFar config store line.now) (W.contents writer.old) (W.contents writer.new)))
+        ⊥
+        (W.failed_writes writer.new ≡ W.failed_writes writer.old + 1)) }
+    ensures full { (at : Option ℕ) → result ≡ Err (Fault.HeapFull at) → AtEach (Stands session.old) (λ config store. IsFullForLine session.old.heap config store line.now) }
+{
+    match attempt(session, number, line, writer) {
+        Ok(Attempt::Done) => return Ok(()),
+        Ok(Attempt::NurseryFull) => {}
+        Err(fault) => return Err(fault),
+    }
+    match make_room(session, number, writer) {
+        Ok(()) => {}
+        Err(fault) => return Err(fault),
+    }
+    match attempt(session, number, line, writer) {
+        Ok(Attempt::Done) => Ok(()),
+        // A collection leaves each nursery with room.
+        Ok(Attempt::NurseryFull) => Err(Fault::HeapFull(Some(number))),
+        Err(fault) => Err(fault),
+    }
+}

@@ -1,5 +1,0 @@
-use Rattle.std.proofs.Common.{rules}
-use Rattle.workspace.proofs.workspace.Workspace.unaside.Goals as goal
-
-pub returns : goal.returns
-returns g c = search rules

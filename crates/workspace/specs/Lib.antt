@@ -1,2 +1,0 @@
--- One worker of a collection, as contracts see it.
-pub mod Shown
