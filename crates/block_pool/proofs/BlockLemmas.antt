@@ -5,7 +5,7 @@ use Rattle.std.proofs.lemmas.List.{get_or-take, take-take, length-map, length-se
 use Rattle.std.proofs.lemmas.Option.{slice_get-get_or}
 use Rattle.layout.specs.Object.{Raw, raw_size}
 use Rattle.block_pool.specs.BlockValue.{words_of, offset_of, without_last}
-use Rattle.block_pool.specs.Words.{ordinal_of, span, raw_at, HasOrdinal, Tiles, IsWritten, IsSound}
+use Rattle.block_pool.specs.Words.{ordinal_of, span, raw_at, HasOrdinal, Tiles, IsWritten, IsSoundBlock}
 use Rattle.block_pool.proofs.WordLemmas.{Tiles-le, Tiles-agree, map-agree, Tiles-push, Tiles-take, Tiles-ordinal, Tiles-end, words_of-tiles, offset_of-tiles}
 
 -- what holds of the block as a whole
@@ -14,7 +14,7 @@ pub record HasObjects (ws os : List ℕ) (len used : ℕ) (now : List Raw) : Typ
   pub used_is : words_of now ≡ used
   pub at_most_used : len ≤ used
 
-pub has_objects : (ws os : List ℕ) (len used front number : ℕ) (now : List Raw) → IsSound ws os len used front number → map (raw_at ws) (take len os) ≡ now → HasObjects ws os len used now
+pub has_objects : (ws os : List ℕ) (len used front number : ℕ) (now : List Raw) → IsSoundBlock ws os len used front number → map (raw_at ws) (take len os) ≡ now → HasObjects ws os len used now
 has_objects ws os len used front number now s e =
     let few : length (take len os) ≡ len = length-take-le len os s.len_in_offsets in
     subst (HasObjects ws os len used) e
@@ -33,7 +33,7 @@ pub record HasObject (ws os : List ℕ) (len : ℕ) (now : List Raw) (k : ℕ) :
   pub offset_is : offset_of now k ≡ get_or os k 0
   pub object_is : slice_get now k ≡ Some (raw_at ws (get_or os k 0))
 
-has_object_at : (ws os : List ℕ) (len used front number k : ℕ) → IsSound ws os len used front number → k < len → HasObject ws os len (map (raw_at ws) (take len os)) k
+has_object_at : (ws os : List ℕ) (len used front number k : ℕ) → IsSoundBlock ws os len used front number → k < len → HasObject ws os len (map (raw_at ws) (take len os)) k
 has_object_at ws os len used front number k s l =
     let few : length (take len os) ≡ len = length-take-le len os s.len_in_offsets in
     let within : k < length (take len os) = omega arith in
@@ -53,17 +53,17 @@ has_object_at ws os len used front number k s l =
           ∙ ap (λ (n : ℕ). Some (raw_at ws n)) same;
     }
 
-pub has_object : (ws os : List ℕ) (len used front number : ℕ) (now : List Raw) (k : ℕ) → IsSound ws os len used front number → map (raw_at ws) (take len os) ≡ now → k < length now → HasObject ws os len now k
+pub has_object : (ws os : List ℕ) (len used front number : ℕ) (now : List Raw) (k : ℕ) → IsSoundBlock ws os len used front number → map (raw_at ws) (take len os) ≡ now → k < length now → HasObject ws os len now k
 has_object ws os len used front number now k s e l =
     let count : length now ≡ len = (has_objects ws os len used front number now s e).count in
     subst (λ (objects : List Raw). HasObject ws os len objects k) e (has_object_at ws os len used front number k s (omega arith))
 
 -- the block after an object was written at its end
 pub record IsPushed (ws vs os : List ℕ) (len used end front number : ℕ) (object : Raw) : Type 0 where
-  pub sound : IsSound vs (set os len used) (len + 1) end front number
+  pub sound : IsSoundBlock vs (set os len used) (len + 1) end front number
   pub objects_are : map (raw_at vs) (take (len + 1) (set os len used)) ≡ map (raw_at ws) (take len os) ++ object ∷ []
 
-pub is_pushed : (ws vs os : List ℕ) (len used end front number : ℕ) (object : Raw) → IsSound ws os len used front number → IsWritten ws vs used len object → length vs ≡ length ws → used + raw_size object ≡ end → end ≤ length ws → IsPushed ws vs os len used end front number object
+pub is_pushed : (ws vs os : List ℕ) (len used end front number : ℕ) (object : Raw) → IsSoundBlock ws os len used front number → IsWritten ws vs used len object → length vs ≡ length ws → used + raw_size object ≡ end → end ≤ length ws → IsPushed ws vs os len used end front number object
 is_pushed ws vs os len used end front number object s w same is fits =
     let few : length (take len os) ≡ len = length-take-le len os s.len_in_offsets in
     let count : 0 + length (take len os) ≤ used = Tiles-le ws 0 0 (take len os) used s.tiles in
@@ -92,10 +92,10 @@ is_pushed ws vs os len used end front number object s w same is fits =
 
 -- the block after its last object was taken back
 pub record IsTakenBack (ws os : List ℕ) (len front number : ℕ) : Type 0 where
-  pub sound : IsSound ws os (len - 1) (get_or os (len - 1) 0) front number
+  pub sound : IsSoundBlock ws os (len - 1) (get_or os (len - 1) 0) front number
   pub objects_are : map (raw_at ws) (take (len - 1) os) ≡ without_last (map (raw_at ws) (take len os))
 
-pub is_taken_back : (ws os : List ℕ) (len used front number : ℕ) → IsSound ws os len used front number → front < len → IsTakenBack ws os len front number
+pub is_taken_back : (ws os : List ℕ) (len used front number : ℕ) → IsSoundBlock ws os len used front number → front < len → IsTakenBack ws os len front number
 is_taken_back ws os len used front number s l =
     let few : length (take len os) ≡ len = length-take-le len os s.len_in_offsets in
     let within : len - 1 < length (take len os) = omega arith in
@@ -119,7 +119,7 @@ is_taken_back ws os len used front number s l =
     }
 
 -- the word where an object begins has its ordinal
-pub ordinal_of-begin : (ws os : List ℕ) (len used front number : ℕ) (now : List Raw) (k offset word : ℕ) → IsSound ws os len used front number → map (raw_at ws) (take len os) ≡ now → k < length now → offset_of now k ≡ offset → word ≡ get_or ws offset word → ordinal_of word ≡ k
+pub ordinal_of-begin : (ws os : List ℕ) (len used front number : ℕ) (now : List Raw) (k offset word : ℕ) → IsSoundBlock ws os len used front number → map (raw_at ws) (take len os) ≡ now → k < length now → offset_of now k ≡ offset → word ≡ get_or ws offset word → ordinal_of word ≡ k
 ordinal_of-begin ws os len used front number now k offset word s e l is read =
     let f : HasObject ws os len now k = has_object ws os len used front number now k s e l in
     let there : get_or os k 0 ≡ offset = sym f.offset_is ∙ is in

@@ -13,7 +13,7 @@ use Rattle.model.specs.Total.{total}
 use Rattle.model.proofs.Times.{times-append}
 use Rattle.model.proofs.Totals.{total-set, total-same, total-snoc, total-at, total-whole, total-below}
 use Rattle.block_pool.specs.declared.claims.claim_plays.Share.{Share}
-use Rattle.block_pool.specs.Drawn.{share, times_in, drawn_in, outs_in, IsSound, IsKept, newcomer, dealt, both, spent, after_draw, Drew}
+use Rattle.block_pool.specs.Drawn.{share, times_in, drawn_in, outs_in, IsSoundDraws, IsKeptDraws, newcomer, dealt, both, spent, after_draw, Drew}
 
 abbrev St : Type 0
 St = State (Unit {0}) Share
@@ -27,7 +27,7 @@ times-take x k xs = let parts : times_in x (take k xs) + times_in x (drop k xs) 
 times-self : (x : ℕ) → times_in x (x ∷ []) ≡ 1
 times-self x = rw (eq-eqb x x refl) (omega arith)
 
-outs_few : (free : List ℕ) (seats : ℕ) (s : St) → IsKept free seats s → outs_in s.views ≤ seats
+outs_few : (free : List ℕ) (seats : ℕ) (s : St) → IsKeptDraws free seats s → outs_in s.views ≤ seats
 outs_few free seats s r = let h = total-below (λ (v : Share). v.outs) (λ (v : Share). v.parts) s.views (λ i v at. (r.sound i v at).outs) in let w = r.whole in omega arith
 
 -- one more of the free list
@@ -35,8 +35,8 @@ taken_more : (x : ℕ) (free : List ℕ) (n : ℕ) → n < length free → times
 taken_more x free n low = ap (times_in x) (take_more free n 0 low) ∙ times-append (λ k. k) x (take n free) (get_or free n 0 ∷ [])
 
 -- the seat drew the number at the place found
-takes_next : (free : List ℕ) (seats : ℕ) (s : St) (id : ℕ) (me : Sat) → IsKept free seats s → get_elem? s.views id ≡ some me.0 → me.0.free ≡ free → me.0.parts ≡ 1 → me.0.outs ≡ 0 → get_or s.words 0 0 < length free
-    → IsKept free seats (stepped s 0 (get_or s.words 0 0 + 1) id me.1 (share me.0.free me.0.seats me.0.parts (me.0.drawn ++ get_or me.0.free (get_or s.words 0 0) 0 ∷ []) me.0.outs) keeps)
+takes_next : (free : List ℕ) (seats : ℕ) (s : St) (id : ℕ) (me : Sat) → IsKeptDraws free seats s → get_elem? s.views id ≡ some me.0 → me.0.free ≡ free → me.0.parts ≡ 1 → me.0.outs ≡ 0 → get_or s.words 0 0 < length free
+    → IsKeptDraws free seats (stepped s 0 (get_or s.words 0 0 + 1) id me.1 (share me.0.free me.0.seats me.0.parts (me.0.drawn ++ get_or me.0.free (get_or s.words 0 0) 0 ∷ []) me.0.outs) keeps)
 takes_next free seats s id me r at same part in_play low =
     let x : ℕ = get_or s.words 0 0 in
     let v : Share = me.0 in
@@ -51,7 +51,7 @@ takes_next free seats s id me r at same part in_play low =
     record {
       wide = length-set s.words 0 (x + 1) ∙ r.wide;
       whole = total-same (λ (u : Share). u.parts) s.views id v w at refl ∙ r.whole;
-      sound = λ j u e. ⊎_elim (λ (t : (j ≡ id) × (w ≡ u)). subst (λ (z : Share). IsSound z) t.1 (record { drawn = λ z. absurd (omega arith); outs = mine.outs }))
+      sound = λ j u e. ⊎_elim (λ (t : (j ≡ id) × (w ≡ u)). subst (λ (z : Share). IsSoundDraws z) t.1 (record { drawn = λ z. absurd (omega arith); outs = mine.outs }))
           (λ (t : (j ≢ id) × (get_elem? s.views j ≡ some u)). r.sound j u t.1) (at_set s.views id j w u e);
       counter = (let there = get_or-set_same s.words 0 (x + 1) 0 (omega arith) in omega arith);
       few = omega arith;
@@ -67,8 +67,8 @@ takes_next free seats s id me r at same part in_play low =
     }
 
 -- the seat found none left
-takes_none : (free : List ℕ) (seats : ℕ) (s : St) (id : ℕ) (me : Sat) → IsKept free seats s → get_elem? s.views id ≡ some me.0 → me.0.parts ≡ 1 → me.0.outs ≡ 0 → length free ≤ get_or s.words 0 0
-    → IsKept free seats (stepped s 0 (get_or s.words 0 0 + 1) id me.1 (share me.0.free me.0.seats me.0.parts me.0.drawn (me.0.outs + 1)) keeps)
+takes_none : (free : List ℕ) (seats : ℕ) (s : St) (id : ℕ) (me : Sat) → IsKeptDraws free seats s → get_elem? s.views id ≡ some me.0 → me.0.parts ≡ 1 → me.0.outs ≡ 0 → length free ≤ get_or s.words 0 0
+    → IsKeptDraws free seats (stepped s 0 (get_or s.words 0 0 + 1) id me.1 (share me.0.free me.0.seats me.0.parts me.0.drawn (me.0.outs + 1)) keeps)
 takes_none free seats s id me r at part in_play high =
     let x : ℕ = get_or s.words 0 0 in
     let v : Share = me.0 in
@@ -82,7 +82,7 @@ takes_none free seats s id me r at part in_play high =
     record {
       wide = length-set s.words 0 (x + 1) ∙ r.wide;
       whole = total-same (λ (u : Share). u.parts) s.views id v w at refl ∙ r.whole;
-      sound = λ j u e. ⊎_elim (λ (t : (j ≡ id) × (w ≡ u)). subst (λ (z : Share). IsSound z) t.1 (record { drawn = mine.drawn; outs = omega arith }))
+      sound = λ j u e. ⊎_elim (λ (t : (j ≡ id) × (w ≡ u)). subst (λ (z : Share). IsSoundDraws z) t.1 (record { drawn = mine.drawn; outs = omega arith }))
           (λ (t : (j ≢ id) × (get_elem? s.views j ≡ some u)). r.sound j u t.1) (at_set s.views id j w u e);
       counter = (let there = get_or-set_same s.words 0 (x + 1) 0 (omega arith) in let c = r.counter in omega arith);
       few = omega arith;
@@ -91,7 +91,7 @@ takes_none free seats s id me r at part in_play high =
     }
 
 -- no draw has given the number that is next
-fresh_next : (free : List ℕ) (seats : ℕ) (s : St) (id : ℕ) (v : Share) → IsKept free seats s → ((x : ℕ) → times_in x free ≤ 1) → get_elem? s.views id ≡ some v → get_or s.words 0 0 < length free → times_in (get_or free (get_or s.words 0 0) 0) v.drawn ≡ 0
+fresh_next : (free : List ℕ) (seats : ℕ) (s : St) (id : ℕ) (v : Share) → IsKeptDraws free seats s → ((x : ℕ) → times_in x free ≤ 1) → get_elem? s.views id ≡ some v → get_or s.words 0 0 < length free → times_in (get_or free (get_or s.words 0 0) 0) v.drawn ≡ 0
 fresh_next free seats s id v r distinct at low =
     let x : ℕ = get_or s.words 0 0 in
     let number : ℕ = get_or free x 0 in
@@ -105,7 +105,7 @@ fresh_next free seats s id v r distinct at low =
     omega arith
 
 -- a seat has drawn no more than there are
-few_more : (free : List ℕ) (seats : ℕ) (s : St) (id : ℕ) (v : Share) → IsKept free seats s → v.free ≡ free → get_elem? s.views id ≡ some v → (b : Bool) → nat_lt (get_or s.words 0 0) (length v.free) ≡ b → length (after_draw v (get_or s.words 0 0) b).drawn ≤ length v.free
+few_more : (free : List ℕ) (seats : ℕ) (s : St) (id : ℕ) (v : Share) → IsKeptDraws free seats s → v.free ≡ free → get_elem? s.views id ≡ some v → (b : Bool) → nat_lt (get_or s.words 0 0) (length v.free) ≡ b → length (after_draw v (get_or s.words 0 0) b).drawn ≤ length v.free
 few_more free seats s id v r same at true low =
     let mine = total-at (λ (u : Share). length u.drawn) s.views id v at in
     let c = r.counter in
@@ -119,7 +119,7 @@ few_more free seats s id v r same at false high =
     omega arith
 
 -- the only seat finds none only where it drew all
-all_used_up : (free : List ℕ) (seats : ℕ) (s : St) (id : ℕ) (v : Share) → IsKept free seats s → get_elem? s.views id ≡ some v → v.parts ≡ 1 → v.outs ≡ 0 → seats ≡ 1 → length free ≤ get_or s.words 0 0 → (x : ℕ) → times_in x v.drawn ≡ times_in x free
+all_used_up : (free : List ℕ) (seats : ℕ) (s : St) (id : ℕ) (v : Share) → IsKeptDraws free seats s → get_elem? s.views id ≡ some v → v.parts ≡ 1 → v.outs ≡ 0 → seats ≡ 1 → length free ≤ get_or s.words 0 0 → (x : ℕ) → times_in x v.drawn ≡ times_in x free
 all_used_up free seats s id v r at part in_play alone high x =
     let whole : total (λ (u : Share). u.parts) s.views ≡ v.parts = r.whole ∙ (alone ∙ sym part) in
     let drawn = total-whole (λ (u : Share). u.parts) (λ (u : Share). length u.drawn) s.views (λ i u e z. ap length ((r.sound i u e).drawn z)) id v at whole in
@@ -129,20 +129,20 @@ all_used_up free seats s id v r at part in_play alone high x =
     sym mine ∙ (r.once x ∙ ap (λ (n : ℕ). times_in x (take n free)) all ∙ ap (times_in x) (take-length free))
 
 pub draws : (free : List ℕ) (seats slots id : ℕ) (me : Sat) → me.0.free ≡ free → me.0.seats ≡ seats → me.0.parts ≡ 1 → me.0.outs ≡ 0 → length free + seats < 2 ^ 63 → ((x : ℕ) → times_in x free ≤ 1)
-    → Allows (IsKept free seats) slots id me 0 (λ n. (n + 1) % 2 ^ 64) (Drew (step slots 0 1 0 none) me)
+    → Allows (IsKeptDraws free seats) slots id me 0 (λ n. (n + 1) % 2 ^ 64) (Drew (step slots 0 1 0 none) me)
 draws free seats slots id me same many part in_play small distinct s r _ at _ =
     let x : ℕ = get_or s.words 0 0 in
     let few_out = outs_few free seats s r in
     let next : x + 1 ≡ (x + 1) % 2 ^ 64 = (let c = r.counter in let f = r.few in omega arith) in
     let known : length me.0.free ≡ length free = ap length same in
     let w : Share = after_draw me.0 x (nat_lt x (length me.0.free)) in
-    let kept : IsKept free seats (stepped s 0 (x + 1) id me.1 w keeps) = dite (dec_le (suc x) (length free))
-    (λ (low : x < length free). let t : nat_lt x (length me.0.free) ≡ true = grind (arith, nat_tests) in subst (λ (b : Bool). IsKept free seats (stepped s 0 (x + 1) id me.1 (after_draw me.0 x b) keeps)) (sym t) (takes_next free seats s id me r at same part in_play low))
-    (λ high. let t : nat_lt x (length me.0.free) ≡ false = grind (arith, nat_tests) in subst (λ (b : Bool). IsKept free seats (stepped s 0 (x + 1) id me.1 (after_draw me.0 x b) keeps)) (sym t) (takes_none free seats s id me r at part in_play (omega arith))) in (
+    let kept : IsKeptDraws free seats (stepped s 0 (x + 1) id me.1 w keeps) = dite (dec_le (suc x) (length free))
+    (λ (low : x < length free). let t : nat_lt x (length me.0.free) ≡ true = grind (arith, nat_tests) in subst (λ (b : Bool). IsKeptDraws free seats (stepped s 0 (x + 1) id me.1 (after_draw me.0 x b) keeps)) (sym t) (takes_next free seats s id me r at same part in_play low))
+    (λ high. let t : nat_lt x (length me.0.free) ≡ false = grind (arith, nat_tests) in subst (λ (b : Bool). IsKeptDraws free seats (stepped s 0 (x + 1) id me.1 (after_draw me.0 x b) keeps)) (sym t) (takes_none free seats s id me r at part in_play (omega arith))) in (
       w,
       keeps,
       tt,
-      subst (λ (n : ℕ). IsKept free seats (stepped s 0 n id me.1 w keeps)) next kept,
+      subst (λ (n : ℕ). IsKeptDraws free seats (stepped s 0 n id me.1 w keeps)) next kept,
       record {
         after = refl;
         few = few_more free seats s id me.0 r same at (nat_lt x (length me.0.free)) refl;
@@ -152,9 +152,9 @@ draws free seats slots id me same many part in_play small distinct s r _ at _ =
     )
 
 -- a change of views that keeps each sum
-sums : (free : List ℕ) (seats : ℕ) (s : St) (vs : List Share) → IsKept free seats s → total (λ (u : Share). u.parts) vs ≡ total (λ (u : Share). u.parts) s.views → drawn_in vs ≡ drawn_in s.views → outs_in vs ≡ outs_in s.views
-    → ((x : ℕ) → total (λ (u : Share). times_in x u.drawn) vs ≡ total (λ (u : Share). times_in x u.drawn) s.views) → ((i : ℕ) (v : Share) → get_elem? vs i ≡ some v → IsSound v)
-    → IsKept free seats (record { words = s.words; homes = s.homes; views = vs })
+sums : (free : List ℕ) (seats : ℕ) (s : St) (vs : List Share) → IsKeptDraws free seats s → total (λ (u : Share). u.parts) vs ≡ total (λ (u : Share). u.parts) s.views → drawn_in vs ≡ drawn_in s.views → outs_in vs ≡ outs_in s.views
+    → ((x : ℕ) → total (λ (u : Share). times_in x u.drawn) vs ≡ total (λ (u : Share). times_in x u.drawn) s.views) → ((i : ℕ) (v : Share) → get_elem? vs i ≡ some v → IsSoundDraws v)
+    → IsKeptDraws free seats (record { words = s.words; homes = s.homes; views = vs })
 sums free seats s vs r parts drawn outs same sound = record {
   wide = r.wide;
   whole = parts ∙ r.whole;
@@ -165,7 +165,7 @@ sums free seats s vs r parts drawn outs same sound = record {
   once = λ x. same x ∙ (r.once x ∙ ap (λ (n : ℕ). times_in x (take n free)) (sym drawn));
 }
 
-pub deals : (free : List ℕ) (seats id : ℕ) (v : Share) → 0 < v.parts → v.drawn ≡ [] → v.outs ≡ 0 → Splits (IsKept free seats) id v (dealt v) (newcomer v)
+pub deals : (free : List ℕ) (seats id : ℕ) (v : Share) → 0 < v.parts → v.drawn ≡ [] → v.outs ≡ 0 → Splits (IsKeptDraws free seats) id v (dealt v) (newcomer v)
 deals free seats id v more nothing in_play s r at =
     let vs : List Share = set s.views id (dealt v) in
     let is_in : v.outs ≡ 0 = in_play in
@@ -175,10 +175,10 @@ deals free seats id v more nothing in_play s r at =
     (let a = total-snoc (λ (u : Share). u.outs) vs (newcomer v) in let b = total-set (λ (u : Share). u.outs) s.views id v (dealt v) at in omega arith)
     (λ x. let a = total-snoc (λ (u : Share). times_in x u.drawn) vs (newcomer v) in let b = total-set (λ (u : Share). times_in x u.drawn) s.views id v (dealt v) at in omega arith)
     (λ i u e. ⊎_elim
-    (λ (t : get_elem? vs i ≡ some u). ⊎_elim (λ (y : (i ≡ id) × (dealt v ≡ u)). subst (λ (z : Share). IsSound z) y.1 (record { drawn = λ z. nothing; outs = omega arith })) (λ (y : (i ≢ id) × (get_elem? s.views i ≡ some u)). r.sound i u y.1) (at_set s.views id i (dealt v) u t))
-    (λ (t : newcomer v ≡ u). subst (λ (z : Share). IsSound z) t (record { drawn = λ _. refl; outs = omega arith })) (at_snoc vs (newcomer v) u i e))
+    (λ (t : get_elem? vs i ≡ some u). ⊎_elim (λ (y : (i ≡ id) × (dealt v ≡ u)). subst (λ (z : Share). IsSoundDraws z) y.1 (record { drawn = λ z. nothing; outs = omega arith })) (λ (y : (i ≢ id) × (get_elem? s.views i ≡ some u)). r.sound i u y.1) (at_set s.views id i (dealt v) u t))
+    (λ (t : newcomer v ≡ u). subst (λ (z : Share). IsSoundDraws z) t (record { drawn = λ _. refl; outs = omega arith })) (at_snoc vs (newcomer v) u i e))
 
-pub gathers : (free : List ℕ) (seats id : ℕ) (v : Share) (other : ℕ) (w : Share) → v.parts ≢ 0 → Joins (IsKept free seats) id v other w (both v w) spent
+pub gathers : (free : List ℕ) (seats id : ℕ) (v : Share) (other : ℕ) (w : Share) → v.parts ≢ 0 → Joins (IsKeptDraws free seats) id v other w (both v w) spent
 gathers free seats id v other w part s r at apart at' =
     let vs : List Share = set s.views id (both v w) in
     let there : get_elem? s.views other ≡ some w = ⊎_elim (λ (y : (other ≡ id) × (both v w ≡ w)). absurd (apart y.0)) (λ (y : (other ≢ id) × (get_elem? s.views other ≡ some w)). y.1) (at_set s.views id other (both v w) w at') in
@@ -189,8 +189,8 @@ gathers free seats id v other w part s r at apart at' =
     (let a = total-set (λ (u : Share). length u.drawn) s.views id v (both v w) at in let b = total-set (λ (u : Share). length u.drawn) vs other w spent at' in let n : length (w.drawn ++ v.drawn) ≡ length w.drawn + length v.drawn = length-append w.drawn v.drawn in omega arith)
     (let a = total-set (λ (u : Share). u.outs) s.views id v (both v w) at in let b = total-set (λ (u : Share). u.outs) vs other w spent at' in omega arith)
     (λ x. let a = total-set (λ (u : Share). times_in x u.drawn) s.views id v (both v w) at in let b = total-set (λ (u : Share). times_in x u.drawn) vs other w spent at' in let n = times-append (λ k. k) x w.drawn v.drawn in omega arith)
-    (λ i u e. ⊎_elim (λ (y : (i ≡ other) × (spent ≡ u)). subst (λ (z : Share). IsSound z) y.1 (record { drawn = λ _. refl; outs = omega arith }))
-    (λ (y : (i ≢ other) × (get_elem? vs i ≡ some u)). ⊎_elim (λ (x : (i ≡ id) × (both v w ≡ u)). subst (λ (z : Share). IsSound z) x.1 (record { drawn = λ z. absurd (omega arith); outs = (let a = mine.outs in let b = theirs.outs in omega arith) })) (λ (x : (i ≢ id) × (get_elem? s.views i ≡ some u)). r.sound i u x.1) (at_set s.views id i (both v w) u y.1))
+    (λ i u e. ⊎_elim (λ (y : (i ≡ other) × (spent ≡ u)). subst (λ (z : Share). IsSoundDraws z) y.1 (record { drawn = λ _. refl; outs = omega arith }))
+    (λ (y : (i ≢ other) × (get_elem? vs i ≡ some u)). ⊎_elim (λ (x : (i ≡ id) × (both v w ≡ u)). subst (λ (z : Share). IsSoundDraws z) x.1 (record { drawn = λ z. absurd (omega arith); outs = (let a = mine.outs in let b = theirs.outs in omega arith) })) (λ (x : (i ≢ id) × (get_elem? s.views i ≡ some u)). r.sound i u x.1) (at_set s.views id i (both v w) u y.1))
     (at_set vs other i spent u e))
 
 -- what who has every part knows of the end, where k numbers were drawn
@@ -200,7 +200,7 @@ pub record IsEnd (free : List ℕ) (k word : ℕ) (v : Share) : Type 0 where
   pub all : 0 < v.outs → k ≡ length free
   pub read : min word (length free) ≡ k
 
-pub ends : (free : List ℕ) (seats : ℕ) (s : St) (id : ℕ) (v : Share) → IsKept free seats s → get_elem? s.views id ≡ some v → v.parts ≡ seats → IsEnd free (length v.drawn) (get_or s.words 0 0) v
+pub ends : (free : List ℕ) (seats : ℕ) (s : St) (id : ℕ) (v : Share) → IsKeptDraws free seats s → get_elem? s.views id ≡ some v → v.parts ≡ seats → IsEnd free (length v.drawn) (get_or s.words 0 0) v
 ends free seats s id v r at parts =
     let whole : total (λ (u : Share). u.parts) s.views ≡ v.parts = r.whole ∙ sym parts in
     let drawn = total-whole (λ (u : Share). u.parts) (λ (u : Share). length u.drawn) s.views (λ i u e z. ap length ((r.sound i u e).drawn z)) id v at whole in
@@ -219,5 +219,5 @@ first_word [] w e = absurd (some-ne-none w (sym e))
 first_word (x ∷ xs) w e = some-injective x w e
 
 -- the end, from the table as it was closed
-pub closes : (free : List ℕ) (seats id : ℕ) (v : Share) (words : List ℕ) (word : ℕ) → (s : St) × Seen (IsKept free seats) id v s × (s.words ≡ words) → get_elem? words 0 ≡ some word → v.parts ≡ seats → IsEnd free (length v.drawn) word v
+pub closes : (free : List ℕ) (seats id : ℕ) (v : Share) (words : List ℕ) (word : ℕ) → (s : St) × Seen (IsKeptDraws free seats) id v s × (s.words ≡ words) → get_elem? words 0 ≡ some word → v.parts ≡ seats → IsEnd free (length v.drawn) word v
 closes free seats id v words word final at parts = subst (λ (n : ℕ). IsEnd free (length v.drawn) n v) (ap (λ (ws : List ℕ). get_or ws 0 0) final.2 ∙ first_word words word at) (ends free seats final.0 id v final.1.0 final.1.1 parts)

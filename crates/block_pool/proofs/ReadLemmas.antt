@@ -4,7 +4,7 @@ use Rattle.std.proofs.Common.{◌≡◌, ℕ, ◌+◌, ◌<◌, List, length, ge
 use Rattle.std.specs.List.{slice_get}
 use Rattle.std.proofs.lemmas.List.{get_or-take, get_or-drop, get_or_read, length-take, length-drop}
 use Rattle.layout.specs.Object.{Raw}
-use Rattle.block_pool.specs.Words.{pointers_of, plain_of, raw_at, IsSound}
+use Rattle.block_pool.specs.Words.{pointers_of, plain_of, raw_at, IsSoundBlock}
 use Rattle.block_pool.proofs.BlockLemmas.{HasObject, has_object}
 
 -- the object begins at that word, and its pointers follow
@@ -14,7 +14,7 @@ pub record HasPointers (ws : List ℕ) (at : ℕ) (raw : Raw) : Type 0 where
   pub fits : at + 1 + length raw.pointers + plain_of (get_or ws at 0) < length ws + 1
   pub reads : (i : ℕ) → i < length raw.pointers → get_or raw.pointers i 0 ≡ get_or ws (at + 1 + i) 0
 
-pub has_pointers : (ws os : List ℕ) (len used front number : ℕ) (now : List Raw) (k at : ℕ) (raw : Raw) → IsSound ws os len used front number → map (raw_at ws) (take len os) ≡ now → k < length now → at ≡ get_or os k at → slice_get now k ≡ Some raw → HasPointers ws at raw
+pub has_pointers : (ws os : List ℕ) (len used front number : ℕ) (now : List Raw) (k at : ℕ) (raw : Raw) → IsSoundBlock ws os len used front number → map (raw_at ws) (take len os) ≡ now → k < length now → at ≡ get_or os k at → slice_get now k ≡ Some raw → HasPointers ws at raw
 unfolding raw_at
 has_pointers ws os len used front number now k at raw s e l read there =
     let o : HasObject ws os len now k = has_object ws os len used front number now k s e l in

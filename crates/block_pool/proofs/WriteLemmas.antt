@@ -6,7 +6,7 @@ use Rattle.std.proofs.lemmas.List.{take-set, drop-set-lt, drop-set-add, get_or-s
 use Rattle.std.proofs.lemmas.Option.{get_or_from_slice_get}
 use Rattle.layout.specs.Object.{Raw}
 use Rattle.block_pool.specs.BlockValue.{offset_of, with_pointer_word, with_plain_word}
-use Rattle.block_pool.specs.Words.{pointers_of, plain_of, span, raw_at, Tiles, IsSound}
+use Rattle.block_pool.specs.Words.{pointers_of, plain_of, span, raw_at, Tiles, IsSoundBlock}
 use Rattle.block_pool.proofs.WordLemmas.{window-agree, raw_at-agree, Tiles-le, Tiles-take}
 use Rattle.block_pool.proofs.BlockLemmas.{HasObject, has_object}
 
@@ -92,10 +92,10 @@ map-set_word ws p w ordinal at (o ∷ os) used (suc k) t h f =
 pub record IsRewritten (ws os : List ℕ) (len used front number : ℕ) (now : List Raw) (k p w : ℕ) (change : Raw → Raw) : Type 0 where
   pub in_words : p < length ws
   pub few : p < 512
-  pub sound : IsSound (set ws p w) os len used front number
+  pub sound : IsSoundBlock (set ws p w) os len used front number
   pub objects_are : (raw : Raw) → slice_get now k ≡ Some raw → map (raw_at (set ws p w)) (take len os) ≡ set now k (change raw)
 
-is_rewritten : (ws os : List ℕ) (len used front number : ℕ) (now : List Raw) (k p w : ℕ) (change : Raw → Raw) → IsSound ws os len used front number → map (raw_at ws) (take len os) ≡ now → k < length now → IsFieldOf ws os k p → raw_at (set ws p w) (get_or os k 0) ≡ change (raw_at ws (get_or os k 0)) → IsRewritten ws os len used front number now k p w change
+is_rewritten : (ws os : List ℕ) (len used front number : ℕ) (now : List Raw) (k p w : ℕ) (change : Raw → Raw) → IsSoundBlock ws os len used front number → map (raw_at ws) (take len os) ≡ now → k < length now → IsFieldOf ws os k p → raw_at (set ws p w) (get_or os k 0) ≡ change (raw_at ws (get_or os k 0)) → IsRewritten ws os len used front number now k p w change
 is_rewritten ws os len used front number now k p w change s e l f c =
     let o : HasObject ws os len now k = has_object ws os len used front number now k s e l in
     let few : length (take len os) ≡ len = length-take-le len os s.len_in_offsets in
@@ -127,7 +127,7 @@ is_rewritten ws os len used front number now k p w change s e l f c =
     }
 
 -- after a pointer of the k-th object was changed
-pub pointer_rewritten : (ws os : List ℕ) (len used front number : ℕ) (now : List Raw) (k at i w : ℕ) → IsSound ws os len used front number → map (raw_at ws) (take len os) ≡ now → k < length now → at ≡ get_or os k at → ((raw : Raw) → slice_get now k ≡ Some raw → i < length raw.pointers) → IsRewritten ws os len used front number now k (at + 1 + i) w (λ raw. with_pointer_word raw i w)
+pub pointer_rewritten : (ws os : List ℕ) (len used front number : ℕ) (now : List Raw) (k at i w : ℕ) → IsSoundBlock ws os len used front number → map (raw_at ws) (take len os) ≡ now → k < length now → at ≡ get_or os k at → ((raw : Raw) → slice_get now k ≡ Some raw → i < length raw.pointers) → IsRewritten ws os len used front number now k (at + 1 + i) w (λ raw. with_pointer_word raw i w)
 unfolding raw_at
 pointer_rewritten ws os len used front number now k at i w s e l read field =
     let o : HasObject ws os len now k = has_object ws os len used front number now k s e l in
@@ -137,13 +137,13 @@ pointer_rewritten ws os len used front number now k at i w s e l read field =
     rw is (is_rewritten ws os len used front number now k (get_or os k 0 + 1 + i) w (λ raw. with_pointer_word raw i w) s e l (omega arith, omega arith) (raw_at-pointer ws w (get_or os k 0) i in_pointers))
 
 -- the header of the k-th object is one of the words
-pub header_in_words : (ws os : List ℕ) (len used front number : ℕ) (now : List Raw) (k at : ℕ) → IsSound ws os len used front number → map (raw_at ws) (take len os) ≡ now → k < length now → at ≡ get_or os k at → at < length ws
+pub header_in_words : (ws os : List ℕ) (len used front number : ℕ) (now : List Raw) (k at : ℕ) → IsSoundBlock ws os len used front number → map (raw_at ws) (take len os) ≡ now → k < length now → at ≡ get_or os k at → at < length ws
 header_in_words ws os len used front number now k at s e l read =
     let o : HasObject ws os len now k = has_object ws os len used front number now k s e l in
     omega (arith, get_or_read os k at o.in_offsets read 0, o.ends)
 
 -- after a plain word of the k-th object was changed
-pub plain_rewritten : (ws os : List ℕ) (len used front number : ℕ) (now : List Raw) (k at header i w : ℕ) → IsSound ws os len used front number → map (raw_at ws) (take len os) ≡ now → k < length now → at ≡ get_or os k at → header ≡ get_or ws at header → ((raw : Raw) → slice_get now k ≡ Some raw → i < length raw.plain) → IsRewritten ws os len used front number now k (at + 1 + pointers_of header + i) w (λ raw. with_plain_word raw i w)
+pub plain_rewritten : (ws os : List ℕ) (len used front number : ℕ) (now : List Raw) (k at header i w : ℕ) → IsSoundBlock ws os len used front number → map (raw_at ws) (take len os) ≡ now → k < length now → at ≡ get_or os k at → header ≡ get_or ws at header → ((raw : Raw) → slice_get now k ≡ Some raw → i < length raw.plain) → IsRewritten ws os len used front number now k (at + 1 + pointers_of header + i) w (λ raw. with_plain_word raw i w)
 unfolding raw_at
 plain_rewritten ws os len used front number now k at header i w s e l read word field =
     let o : HasObject ws os len now k = has_object ws os len used front number now k s e l in
@@ -155,7 +155,7 @@ plain_rewritten ws os len used front number now k at header i w s e l read word 
     rw (head, is) (is_rewritten ws os len used front number now k (first + i) w (λ raw. with_plain_word raw i w) s e l (omega arith, omega arith) (raw_at-plain ws w (get_or os k 0) i in_plain))
 
 -- the same where the object is named by the offset that it begins at
-module _ (ws os : List ℕ) (len used front number : ℕ) (now : List Raw) (k at : ℕ) (s : IsSound ws os len used front number) (e : map (raw_at ws) (take len os) ≡ now) (l : k < length now) (begins : offset_of now k ≡ at) where
+module _ (ws os : List ℕ) (len used front number : ℕ) (now : List Raw) (k at : ℕ) (s : IsSoundBlock ws os len used front number) (e : map (raw_at ws) (take len os) ≡ now) (l : k < length now) (begins : offset_of now k ≡ at) where
   read : at ≡ get_or os k at
   read =
       let o : HasObject ws os len now k = has_object ws os len used front number now k s e l in

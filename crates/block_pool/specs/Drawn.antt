@@ -22,15 +22,15 @@ abbrev pub outs_in : List Share → ℕ
 outs_in = total (λ (v : Share). v.outs)
 
 -- who has no part has drawn nothing, and each part counts at most one draw that found none
-pub record IsSound (v : Share) : Type 0 where
+pub record IsSoundDraws (v : Share) : Type 0 where
   pub drawn : v.parts ≡ 0 → v.drawn ≡ []
   pub outs : v.outs ≤ v.parts
 
 -- The counter is the number of draws. A draw finds none only where every number was drawn. As many numbers of the free list as were drawn, from the first on, were drawn once, and no others
-pub record IsKept (free : List ℕ) (seats : ℕ) (s : State (Unit {0}) Share) : Type 0 where
+pub record IsKeptDraws (free : List ℕ) (seats : ℕ) (s : State (Unit {0}) Share) : Type 0 where
   pub wide : length s.words ≡ 1
   pub whole : total (λ (v : Share). v.parts) s.views ≡ seats
-  pub sound : (i : ℕ) (v : Share) → get_elem? s.views i ≡ some v → IsSound v
+  pub sound : (i : ℕ) (v : Share) → get_elem? s.views i ≡ some v → IsSoundDraws v
   pub counter : slice_index s.words 0 ≡ drawn_in s.views + outs_in s.views
   pub few : drawn_in s.views ≤ length free
   pub used_up : 0 < outs_in s.views → drawn_in s.views ≡ length free

@@ -35,7 +35,7 @@ Tiles words ordinal at (offset ∷ offsets) used =
     (offset ≡ at) × HasOrdinal words at ordinal × Tiles words (ordinal + 1) (at + span words at) offsets used
 
 -- what holds of the fields of a block
-pub record IsSound (words offsets : List ℕ) (len used front number : ℕ) : Type 0 where
+pub record IsSoundBlock (words offsets : List ℕ) (len used front number : ℕ) : Type 0 where
   pub tiles : Tiles words 0 0 (take len offsets) used
   pub used_in_words : used ≤ length words
   pub as_many_offsets : length offsets ≡ length words

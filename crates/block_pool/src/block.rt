@@ -47,7 +47,7 @@ impl<A: Allocator> Model for Block<A> {
 
     ghost coded = { block_code };
 
-    ghost use Rattle.block_pool.specs.Words.{raw_at, IsSound};
+    ghost use Rattle.block_pool.specs.Words.{raw_at, IsSoundBlock};
 
     ghost view = { λ b. record {
       number = b.number;
@@ -60,7 +60,7 @@ impl<A: Allocator> Model for Block<A> {
       origins = b.origins.numbers;
     } };
 
-    ghost invariant = { λ b. IsSound b.words.items b.offsets.items b.len b.used b.front b.number };
+    ghost invariant = { λ b. IsSoundBlock b.words.items b.offsets.items b.len b.used b.front b.number };
 }
 
 impl<A: Allocator + Clone> Block<A> {

@@ -13,7 +13,7 @@ use Rattle.steps.specs.HeapValue.{HeapValue}
 use Rattle.steps.specs.CollectionValue.{CollectionValue, AreFreeBlocks, target_of_slot, young_names}
 use Rattle.steps.specs.CollectedHeap.{CollectedHeap}
 use Rattle.steps.specs.ReportValue.{WorkerLists, renaming_of, all_won}
-use Rattle.steps.specs.declared.heap_data.report.Delivery.{Delivery}
+use Rattle.steps.specs.declared.heap_values.report.Delivery.{Delivery}
 use Rattle.heap.proofs.SoundHeap.{heap_free, heap_large_name}
 use Rattle.workers.specs.Setting.{Setting, is_large_name}
 use Rattle.workers.specs.Worker.{Worker, Hand, Nothing, current_in, current_object}
@@ -29,14 +29,14 @@ use Rattle.workers.proofs.OneMore.{stepped_more, reached_more}
 use Rattle.workers.proofs.AloneSteps.{ended_in_order}
 use Rattle.workers.proofs.RunBrings.{refused_below}
 use Rattle.scavenge.specs.Named.{named}
-use Rattle.serial.specs.SerialValue.{SerialValue, WantsDraw, system_of, setting_in, targets_in, destinations_in, lane_of, waiting_in}
-use Rattle.serial.specs.IsSerial.{IsReadyToCollect}
+use Rattle.one_worker.specs.SerialValue.{SerialValue, WantsDraw, system_of, setting_in, targets_in, destinations_in, lane_of, waiting_in}
+use Rattle.one_worker.specs.IsSerial.{IsReadyToCollect}
 use Rattle.collector.specs.Settling.{IsReportOf, ScansWhatItWon, exports_of, own_deliveries}
-use Rattle.serial.proofs.OpenBlocks.{none_open}
-use Rattle.serial.proofs.Starts.{targets_live}
-use Rattle.serial.specs.Stepping.{IsOf, IsDone, IsFull, HasStepped}
+use Rattle.one_worker.proofs.OpenBlocks.{none_open}
+use Rattle.one_worker.proofs.Starts.{targets_live}
+use Rattle.one_worker.specs.Stepping.{IsOf, IsDone, IsFullForLook, HasStepped}
 use Rattle.collector.specs.Collects.{is_small_word, won_places, ScansInOrder, RunsAlone, ScansAlone, ScansOnce, CollectsAlone, IsShortOfBlocks}
-use Rattle.serial.proofs.Going.{reached_of}
+use Rattle.one_worker.proofs.Going.{reached_of}
 
 pub begins : (v : SerialValue) → system_of v ≡ opening (destinations_in v) 1 (targets_in v) v.heap.free → HasStepped v
 begins v e =

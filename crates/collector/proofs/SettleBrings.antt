@@ -28,11 +28,11 @@ use Rattle.workers.proofs.OneMore.{reached_more}
 use Rattle.workers.proofs.RunBrings.{ended_brings}
 use Rattle.workers.proofs.Kept.{kept}
 use Rattle.scavenge.specs.Named.{named, IsWhole}
-use Rattle.serial.specs.Brings.{left_blocks}
-use Rattle.serial.proofs.Bridge.{settled}
-use Rattle.serial.specs.SerialValue.{SerialValue, lane_of, waiting_in, system_of, setting_in, targets_in, destinations_in}
-use Rattle.serial.specs.IsSerial.{IsSerial}
-use Rattle.serial.proofs.Starts.{has_starts, targets_live}
+use Rattle.one_worker.specs.Brings.{left_blocks}
+use Rattle.one_worker.proofs.Bridge.{settled}
+use Rattle.one_worker.specs.SerialValue.{SerialValue, lane_of, waiting_in, system_of, setting_in, targets_in, destinations_in}
+use Rattle.one_worker.specs.IsSerial.{IsSerial}
+use Rattle.one_worker.proofs.Starts.{has_starts, targets_live}
 use Rattle.collector.specs.Settling.{ScansWhatItWon, shown_after}
 use Rattle.collector.proofs.ShownLarge.{places_show}
 

@@ -12,8 +12,8 @@ use Rattle.layout.specs.Place.{place_word}
 use Rattle.block_pool.specs.BlockValue.{BlockValue}
 use Rattle.pending_queues.specs.declared.exports.deliveries.Delivery.{Delivery as Outcome}
 use Rattle.pending_queues.specs.PlainValue.{PlainLane, empty_lane, outcomes, outcomes_of}
-use Rattle.steps.specs.declared.heap_data.report.Won.{Won}
-use Rattle.steps.specs.declared.heap_data.report.Delivery.{Delivery}
+use Rattle.steps.specs.declared.heap_values.report.Won.{Won}
+use Rattle.steps.specs.declared.heap_values.report.Delivery.{Delivery}
 use Rattle.steps.specs.ReportValue.{renaming_of}
 use Rattle.steps.specs.ReportView.{won_value}
 use Rattle.workers.specs.Joined.{somes}

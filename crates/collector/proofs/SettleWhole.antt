@@ -28,8 +28,8 @@ use Rattle.workers.specs.Finish.{IsReached}
 use Rattle.scavenge.specs.Named.{named, named_copies, IsWhole}
 use Rattle.scavenge.specs.Fronts.{slot_at}
 use Rattle.scavenge.specs.Shown.{pair_of}
-use Rattle.serial.specs.SerialValue.{SerialValue, lane_of, waiting_in, system_of, setting_in, targets_in, destinations_in}
-use Rattle.serial.specs.IsSerial.{IsSerial}
+use Rattle.one_worker.specs.SerialValue.{SerialValue, lane_of, waiting_in, system_of, setting_in, targets_in, destinations_in}
+use Rattle.one_worker.specs.IsSerial.{IsSerial}
 use Rattle.collector.specs.Settling.{IsReportOf, ScansWhatItWon, exports_of, shown_after}
 use Rattle.collector.proofs.ShownLarge.{shown_in}
 use Rattle.collector.proofs.SettleBrings.{won_live, settles, cells_show, scans_won}

@@ -17,7 +17,7 @@ use Rattle.layout.specs.declared.place.LargeNumber.{LargeNumber}
 use Rattle.layout.specs.declared.place.Place.{Place}
 use Rattle.layout.specs.declared.place.Place.TheVariants.{Small, Large}
 use Rattle.layout.specs.Place.{small_word, large_word, place_word}
-use Rattle.steps.specs.declared.heap_data.report.Won.{Won}
+use Rattle.steps.specs.declared.heap_values.report.Won.{Won}
 use Rattle.steps.specs.HeapValue.{HeapValue}
 use Rattle.steps.specs.CollectionValue.{CollectionValue, IsOpened, young_names}
 use Rattle.steps.specs.ReportValue.{renaming_of}

@@ -8,7 +8,7 @@ use Rattle.heap.specs.HeapValue.{HeapValue}
 use Rattle.heap.specs.ReportValue.{WorkerLists, all_won, renaming_of}
 use Rattle.heap.specs.CollectionValue.{young_names, slots_of, target_of_slot}
 use Rattle.heap.specs.CollectedHeap.{CollectedHeap}
-use Rattle.steps.specs.declared.heap_data.report.Delivery.{Delivery}
+use Rattle.steps.specs.declared.heap_values.report.Delivery.{Delivery}
 use Rattle.workers.specs.Block.{Block}
 use Rattle.workers.specs.Setting.{Setting, setting_of}
 use Rattle.workers.specs.Worker.{Worker}

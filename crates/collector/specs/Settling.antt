@@ -4,12 +4,12 @@ use Rattle.std.specs.List.{enumerate_from}
 use Rattle.layout.specs.Place.{large_word}
 use Rattle.steps.specs.ReportValue.{WorkerLists, renaming_of}
 use Rattle.steps.specs.CollectionValue.{young_names}
-use Rattle.steps.specs.declared.heap_data.report.Delivery.{Delivery}
+use Rattle.steps.specs.declared.heap_values.report.Delivery.{Delivery}
 use Rattle.workers.specs.Block.{Block}
 use Rattle.workers.specs.Worker.{Worker}
 use Rattle.workers.specs.Total.{times, wins_of}
 use Rattle.scavenge.specs.Named.{named}
-use Rattle.serial.specs.SerialValue.{SerialValue, lane_of}
+use Rattle.one_worker.specs.SerialValue.{SerialValue, lane_of}
 
 -- one worker reports: what it won, by number, and what it scanned
 pub record IsReportOf (v : SerialValue) (workers : List WorkerLists) : Type 0 where

@@ -4,7 +4,7 @@ use Rattle.std.specs.List.{enumerate_from, range_with_len}
 use Rattle.heap.specs.HeapValue.{HeapValue}
 use Rattle.heap.specs.ReportValue.{WorkerLists, renaming_of}
 use Rattle.heap.specs.CollectionValue.{young_names}
-use Rattle.steps.specs.declared.heap_data.report.Delivery.{Delivery}
+use Rattle.steps.specs.declared.heap_values.report.Delivery.{Delivery}
 use Rattle.workers.specs.Block.{Block}
 use Rattle.workers.specs.Worker.{Worker}
 use Rattle.workers.specs.System.{System, Event}

@@ -4,7 +4,7 @@ use Rattle.std.specs.Prelude.{Option}
 use Rattle.std.proofs.lemmas.List.{set-get_or, get_or-map, get_or_read, get_or_default, length-map}
 use Rattle.once_cell.specs.declared.race.note.Note.{Note}
 use Rattle.forwarding.specs.declared.box_cells.bid.Bid.{Bid}
-use Rattle.forwarding.specs.Noted.{NotedValue, IsSound, bid_at}
+use Rattle.forwarding.specs.Noted.{NotedValue, IsSoundNotes, bid_at}
 use Rattle.forwarding.specs.Gathered.{IsCovered, IsGathered}
 use Rattle.forwarding.specs.Boxed.{note_cell, Joined, Joins}
 
@@ -48,7 +48,7 @@ joined_from None b c x j e = inr (sym j ∙ e)
 joined_from (Some y) b c x j e = inl (sym j.0 ∙ e)
 
 -- one more pass was joined
-pub gathered_more : (i : ℕ) (passes : List NotedValue) (p e : NotedValue) (all more : List (Option Bid)) → p ≡ get_or passes i e → i < length passes → IsSound p.number p.known p.won → Joins all p.known more → IsGathered i passes all → IsGathered (i + 1) passes more
+pub gathered_more : (i : ℕ) (passes : List NotedValue) (p e : NotedValue) (all more : List (Option Bid)) → p ≡ get_or passes i e → i < length passes → IsSoundNotes p.number p.known p.won → Joins all p.known more → IsGathered i passes all → IsGathered (i + 1) passes more
 gathered_more i passes p e all more at within sound joins g =
     let same : (d : NotedValue) → get_or passes i d ≡ p = λ d. get_or_default passes i d e within ∙ sym at in
     record {

@@ -16,7 +16,7 @@ use Rattle.layout.specs.declared.place.Place.{Place}
 use Rattle.forwarding.specs.declared.box_cells.bid.Bid.{Bid}
 use Rattle.forwarding.specs.Learned.{Learns}
 use Rattle.forwarding.specs.Settled.{Pairs, wins_of, ones}
-use Rattle.forwarding.specs.Noted.{NotedValue, IsSound, IsPassOf, IsApart, bid_at, bid_of, place_of, new_pass, new_passes}
+use Rattle.forwarding.specs.Noted.{NotedValue, IsSoundNotes, IsPassOf, IsApart, bid_at, bid_of, place_of, new_pass, new_passes}
 use Rattle.forwarding.specs.Boxed.{note_cell, note_known, names_of, IsNoted}
 use Rattle.model.proofs.Times.{times-append}
 use Rattle.forwarding.proofs.Wins.{wins-one, wins-other, sum_wins, sum_lt, sum_of_ones}
@@ -79,13 +79,13 @@ module _ (known : List (Option Bid)) (i : ℕ) (r : Option Bid) (within : i < le
     others = λ k ne. ap place_of (now_there k ne);
   }
 
-  pub keeps : (number : ℕ) (won : Pairs) → IsSound number known won → IsSound number (set known i r) won
+  pub keeps : (number : ℕ) (won : Pairs) → IsSoundNotes number known won → IsSoundNotes number (set known i r) won
   keeps number won s = record {
     own = All-weaker (λ (x : ℕ × Place). bid_at known x.0 ≡ Some (bid_of x.1 number)) (λ (x : ℕ × Place). bid_at (set known i r) x.0 ≡ Some (bid_of x.1 number)) (λ x e. still x.0 _ e) won s.own;
     once = λ name. let was = s.once name in let more = more_known (bid_at known name) (bid_at (set known i r) name) (still name) in omega arith;
   }
 
-  pub wins : (number : ℕ) (won : Pairs) (place : Place) → IsSound number known won → bid_at known i ≡ None → r ≡ Some (bid_of place number) → IsSound number (set known i r) (won ++ (i, place) ∷ [])
+  pub wins : (number : ℕ) (won : Pairs) (place : Place) → IsSoundNotes number known won → bid_at known i ≡ None → r ≡ Some (bid_of place number) → IsSoundNotes number (set known i r) (won ++ (i, place) ∷ [])
   wins number won place s unknown mine = let kept = keeps number won s in record {
     own = All-push (λ (x : ℕ × Place). bid_at (set known i r) x.0 ≡ Some (bid_of x.1 number)) won (i, place) kept.own (now_here ∙ mine);
     once = λ name. let more = times-append (λ (x : ℕ × Place). x.0) name won ((i, place) ∷ []) in let was = s.once name in dite (ℕ_discrete i name)
@@ -96,12 +96,12 @@ module _ (known : List (Option Bid)) (i : ℕ) (r : Option Bid) (within : i < le
   }
 
 -- the names that were won are below the number of cells
-pub own_below : (number : ℕ) (known : List (Option Bid)) (won : Pairs) → IsSound number known won → All (λ (x : ℕ × Place). x.0 < length known) won
+pub own_below : (number : ℕ) (known : List (Option Bid)) (won : Pairs) → IsSoundNotes number known won → All (λ (x : ℕ × Place). x.0 < length known) won
 own_below number known won s = All-weaker (λ (x : ℕ × Place). bid_at known x.0 ≡ Some (bid_of x.1 number)) (λ (x : ℕ × Place). x.0 < length known)
     (λ x e. dite (dec_le (suc x.0) (length known)) (λ (b : x.0 < length known). b) (λ high. let past : bid_at known x.0 ≡ None = get_or_past known x.0 None (omega arith) in absurd (cc))) won s.own
 
 -- there is room for a name that is not known
-pub room_for : (number : ℕ) (known : List (Option Bid)) (won : Pairs) (i : ℕ) → IsSound number known won → i < length known → bid_at known i ≡ None → length won < length known
+pub room_for : (number : ℕ) (known : List (Option Bid)) (won : Pairs) (i : ℕ) → IsSoundNotes number known won → i < length known → bid_at known i ≡ None → length won < length known
 room_for number known won i s l unknown =
     let none : ones (bid_at known i) ≡ 0 = ap ones unknown in
     let here = s.once i in
@@ -142,7 +142,7 @@ module _ (number i room : ℕ) (notes : Notes) (known : List (Option Bid)) (won 
   pub noted_won : (place : Place) (more : Pairs) (room' : ℕ) → more ≡ won ++ (i, place) ∷ [] → room' ≡ room → n.known ≡ None → r ≡ Some (bid_of place number) → IsNoted number (set notes i m) (set known i r) more room'
   noted_won place more room' are same unknown mine = record {
     told = told_set notes known i m r noted.told is;
-    sound = subst (λ (ps : Pairs). IsSound number (set known i r) ps) (sym are) (wins known i r inside lasts number won place noted.sound (here ∙ unknown) mine);
+    sound = subst (λ (ps : Pairs). IsSoundNotes number (set known i r) ps) (sym are) (wins known i r inside lasts number won place noted.sound (here ∙ unknown) mine);
     enough = (let e = noted.enough in let l = length-set known i r in omega arith);
   }
 

@@ -16,7 +16,7 @@ use Rattle.model.proofs.Totals.{total-whole}
 use Rattle.forwarding.specs.declared.word_cells.plays.Mind.{Mind}
 use Rattle.forwarding.specs.declared.word_cells.plays.Plan.{Plan}
 use Rattle.forwarding.specs.Settled.{Pairs, wins_of, ones, all_pairs, KnowsOnly, AgreeWith, Agree, IsSettled}
-use Rattle.forwarding.specs.Kept.{set_count, IsShown, IsKept}
+use Rattle.forwarding.specs.Kept.{set_count, IsShown, IsKeptWords}
 use Rattle.forwarding.specs.Known.{known_in}
 use Rattle.forwarding.specs.Words.{WordPassValue}
 use Rattle.forwarding.proofs.PairLemmas.{known_all}
@@ -33,7 +33,7 @@ one_more places words n w y many shown is at k below o shows = dite (ℕ_discret
     last ∙ is o (shows ∙ (ap (λ (m : ℕ). get_or words m 0) here ∙ found words n w at)))
     (λ other. let l : k < n = omega arith in let front : get_or (places ++ y ∷ []) k None ≡ get_or places k None = grind (arith, common_steps) in front ∙ shown k l o shows)
 
-past : (plan : Plan) (s : St) → IsKept plan s → (name : ℕ) → plan.count ≤ name → get_or s.words name 0 ≡ 0
+past : (plan : Plan) (s : St) → IsKeptWords plan s → (name : ℕ) → plan.count ≤ name → get_or s.words name 0 ≡ 0
 past plan s r name high = dite (ℕ_discrete name plan.count)
     (λ is. ap (λ (k : ℕ). get_or s.words k 0) is ∙ r.spare)
     (λ ne. let wide = r.wide in get_or_past s.words name 0 (omega arith))
@@ -43,12 +43,12 @@ pub record IsRead (plan : Plan) (words : List ℕ) (places : List (Option Place)
   pub many : length places ≡ plan.count
   pub shown : (name : ℕ) → name < plan.count → (o : Option Place) → pointer_word o ≡ get_or words name 0 → get_or places name None ≡ o
 
-reads : (plan : Plan) (s : St) (places : List (Option Place)) → IsKept plan s → IsRead plan s.words places → (name : ℕ) (o : Option Place) → pointer_word o ≡ get_or s.words name 0 → get_or places name None ≡ o
+reads : (plan : Plan) (s : St) (places : List (Option Place)) → IsKeptWords plan s → IsRead plan s.words places → (name : ℕ) (o : Option Place) → pointer_word o ≡ get_or s.words name 0 → get_or places name None ≡ o
 reads plan s places r are name o shows = dite (dec_le (suc name) plan.count) (λ (l : name < plan.count). are.shown name l o shows)
     (λ high. let m = are.many in get_or_past places name None (omega arith) ∙ pointer_word-one_to_one None o (sym (shows ∙ past plan s r name (omega arith))))
 
 -- who has every part has won each word that is set, once
-wins_all : (plan : Plan) (s : St) (id : ℕ) (v : Mind) → IsKept plan s → get_elem? s.views id ≡ some v → v.parts ≡ plan.passes → (name : ℕ) → wins_of name v.won ≡ set_count (get_or s.words name 0)
+wins_all : (plan : Plan) (s : St) (id : ℕ) (v : Mind) → IsKeptWords plan s → get_elem? s.views id ≡ some v → v.parts ≡ plan.passes → (name : ℕ) → wins_of name v.won ≡ set_count (get_or s.words name 0)
 wins_all plan s id v r at parts name =
     let whole = total-whole (λ (u : Mind). u.parts) (λ (u : Mind). wins_of name u.won) s.views (λ i u e z. ap (wins_of name) ((r.sound i u e).spent z)) id v at (r.whole ∙ sym parts) in
     sym whole ∙ r.once name
@@ -63,7 +63,7 @@ each_known f (p ∷ ps) a =
 
 -- the seat that has every part says what the passes are
 module _ (plan : Plan) (id : ℕ) (v : Mind) (words : List ℕ) (places : List (Option Place)) (ps : List WordPassValue)
-    (final : (s : St) × Seen (IsKept plan) id v s × (s.words ≡ words)) (are : IsRead plan words places) (parts : v.parts ≡ plan.passes)
+    (final : (s : St) × Seen (IsKeptWords plan) id v s × (s.words ≡ words)) (are : IsRead plan words places) (parts : v.parts ≡ plan.passes)
     (known : v.known ≡ all_pairs (λ (p : WordPassValue). p.known) ps) (won : v.won ≡ all_pairs (λ (p : WordPassValue). p.won) ps) where
   abbrev last : St
   last = final.0

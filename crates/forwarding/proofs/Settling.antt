@@ -12,7 +12,7 @@ use Rattle.forwarding.specs.declared.box_cells.bid.Bid.{Bid}
 use Rattle.forwarding.specs.Settled.{Pairs, wins_of, ones, all_pairs, Agree, IsSettled}
 use Rattle.model.specs.Total.{times}
 use Rattle.forwarding.specs.BoxSettled.{AllWon}
-use Rattle.forwarding.specs.Noted.{NotedValue, IsSound, IsApart, bid_at, bid_of, place_of, known_at, won_by}
+use Rattle.forwarding.specs.Noted.{NotedValue, IsSoundNotes, IsApart, bid_at, bid_of, place_of, known_at, won_by}
 use Rattle.forwarding.specs.Gathered.{IsCovered, IsGathered, win_count}
 use Rattle.model.proofs.Times.{times-append}
 use Rattle.forwarding.proofs.Wins.{sum_names, sum_zero, sum_wins, sum_le, sum_same, sum_first}
@@ -77,7 +77,7 @@ nobody : NotedValue
 nobody = record { number = 0; cells = []; known = []; won = [] }
 
 -- a pass that won a name knows its own bid of it
-won_own : (p : NotedValue) (name : ℕ) → IsSound p.number p.known p.won → 0 < wins_of name p.won → (place : Place) × (bid_at p.known name ≡ Some (bid_of place p.number))
+won_own : (p : NotedValue) (name : ℕ) → IsSoundNotes p.number p.known p.won → 0 < wins_of name p.won → (place : Place) × (bid_at p.known name ≡ Some (bid_of place p.number))
 won_own p name s h = let x = wins_has name p.won h in (x.0, at_pair (λ (y : ℕ × Place). bid_at p.known y.0 ≡ Some (bid_of y.1 p.number)) p.won (name, x.0) s.own x.1)
 
 module _ (all : List (Option Bid)) where

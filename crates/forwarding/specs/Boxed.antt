@@ -5,7 +5,7 @@ use Rattle.once_cell.specs.declared.race.note.Note.{Note}
 use Rattle.once_cell.specs.Once.{cell_name}
 use Rattle.forwarding.specs.declared.box_cells.bid.Bid.{Bid}
 use Rattle.forwarding.specs.Settled.{Pairs}
-use Rattle.forwarding.specs.Noted.{IsSound, bid_at}
+use Rattle.forwarding.specs.Noted.{IsSoundNotes, bid_at}
 
 abbrev pub note_cell : Note Bid → ℕ
 note_cell n = n.cell
@@ -20,7 +20,7 @@ names_of cells = map cell_name cells
 -- The notes know what the pass knows, and there is room for each name among the pairs that it won
 pub record IsNoted (number : ℕ) (notes : List (Note Bid)) (known : List (Option Bid)) (won : Pairs) (room : ℕ) : Type 0 where
   pub told : map note_known notes ≡ known
-  pub sound : IsSound number known won
+  pub sound : IsSoundNotes number known won
   pub enough : length known ≤ room
 
 -- what is known by one or the other, who agree where both know something

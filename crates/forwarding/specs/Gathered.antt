@@ -1,7 +1,7 @@
 -- What passes of boxed cells know together.
 use Rattle.std.specs.Prelude.{◌≡◌, ℕ, ◌<◌, List, length, slice_index_or, Option, Some}
 use Rattle.forwarding.specs.declared.box_cells.bid.Bid.{Bid}
-use Rattle.forwarding.specs.Noted.{NotedValue, IsSound, bid_at}
+use Rattle.forwarding.specs.Noted.{NotedValue, IsSoundNotes, bid_at}
 
 -- how many pairs the pass won
 abbrev pub win_count : NotedValue → ℕ
@@ -9,7 +9,7 @@ win_count p = length p.won
 
 -- what the pass knows is known to all, and it won what it says
 abbrev pub IsCovered : List (Option Bid) → NotedValue → Type 0
-IsCovered all p = IsSound p.number p.known p.won × ((name : ℕ) (b : Bid) → bid_at p.known name ≡ Some b → bid_at all name ≡ Some b)
+IsCovered all p = IsSoundNotes p.number p.known p.won × ((name : ℕ) (b : Bid) → bid_at p.known name ≡ Some b → bid_at all name ≡ Some b)
 
 -- of the first passes, one knows the bid of the name
 abbrev pub IsKnownTo : ℕ → List NotedValue → ℕ → Bid → Type 0

@@ -23,17 +23,17 @@ abbrev pub IsShown : List ℕ → ℕ × Place → Type 0
 IsShown words x = slice_index words x.0 ≡ place_word x.1
 
 -- What holds of each pass: its pairs are those of the words, and one with no part has won nothing
-pub record IsSound (words : List ℕ) (v : Mind) : Type 0 where
+pub record IsSoundMind (words : List ℕ) (v : Mind) : Type 0 where
   pub known : All (IsShown words) v.known
   pub won : All (IsShown words) v.won
   pub spent : v.parts ≡ 0 → v.won ≡ []
 
 -- A word that is set is that of a place, which stands in one won list, once
-pub record IsKept (plan : Plan) (s : State (Unit {0}) Mind) : Type 0 where
+pub record IsKeptWords (plan : Plan) (s : State (Unit {0}) Mind) : Type 0 where
   pub wide : length s.words ≡ plan.count + 1
   pub spare : slice_index s.words plan.count ≡ 0
   pub whole : total (λ (v : Mind). v.parts) s.views ≡ plan.passes
-  pub sound : (i : ℕ) (v : Mind) → get_elem? s.views i ≡ some v → IsSound s.words v
+  pub sound : (i : ℕ) (v : Mind) → get_elem? s.views i ≡ some v → IsSoundMind s.words v
   pub once : (name : ℕ) → total (λ (v : Mind). wins_of name v.won) s.views ≡ set_count (slice_index s.words name)
   pub set : (name : ℕ) → slice_index s.words name ≢ 0 → (p : Place) × (slice_index s.words name ≡ place_word p)
 

@@ -57,6 +57,6 @@ abbrev pub new_passes : List ℕ → ℕ → List NotedValue
 new_passes cells count = map (new_pass cells) (range_with_len 0 count)
 
 -- A pair that was won is known as the pass's own bid, and each name was won at most once
-pub record IsSound (number : ℕ) (known : List (Option Bid)) (won : Pairs) : Type 0 where
+pub record IsSoundNotes (number : ℕ) (known : List (Option Bid)) (won : Pairs) : Type 0 where
   pub own : All (λ x. bid_at known x.0 ≡ Some (bid_of x.1 number)) won
   pub once : (name : ℕ) → wins_of name won ≤ ones (bid_at known name)

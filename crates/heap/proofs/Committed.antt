@@ -9,7 +9,7 @@ use Rattle.model.specs.Graph.{Graph, Object, IsClosed, object_at, field_at, is_l
 use Rattle.model.specs.Live.{Live, IsYoung, IsOlder}
 use Rattle.model.specs.OldSlots.{Slot, old_slots}
 use Rattle.model.specs.Laws.{IsOldToYoung}
-use Rattle.model.specs.Collected.{Collected, IsKept, renamed, moved_to}
+use Rattle.model.specs.Collected.{Collected, IsLiveOrOlder, renamed, moved_to}
 use Rattle.model.specs.Destination.{dest}
 use Rattle.model.proofs.Among.{Among, among_Contains, Contains-among, among_left, among_right, among_either}
 use Rattle.model.proofs.LiveLemmas.{Live-young}
@@ -258,7 +258,7 @@ module _ (objects objects' : ObjectsValue) (slots slots' : List (Option Place)) 
   some_from f None x is = absurd (some_not_none (sym is))
   some_from f (Some y) x is = (y, refl)
 
-  none_else : (place : ℕ) (o : Object) → object_at (heap_of objects' slots').graph place ≡ Some o → (name : ℕ) × IsKept old collection.generation name × (renamed renaming name ≡ place)
+  none_else : (place : ℕ) (o : Object) → object_at (heap_of objects' slots').graph place ≡ Some o → (name : ℕ) × IsLiveOrOlder old collection.generation name × (renamed renaming name ≡ place)
   none_else place o is =
       let was = some_from (with_writes writes place) (get installed.replaced.objects place) o (sym (installed.objects place) ∙ is) in
       ⊎_elim
@@ -289,12 +289,12 @@ module _ (objects objects' : ObjectsValue) (slots slots' : List (Option Place)) 
   now_sound = record { sound = objects_at objects' empty (roots_map slots') [] [] sound'; closed = now_closed }
 
   -- the blocks of the large objects that are kept, and no others, stay theirs
-  blocks_stay : (name : ℕ) (bs : List ℕ) → get objects'.large_blocks name ≡ Some bs → IsKept old collection.generation name × (get objects.large_blocks name ≡ Some bs)
+  blocks_stay : (name : ℕ) (bs : List ℕ) → get objects'.large_blocks name ≡ Some bs → IsLiveOrOlder old collection.generation name × (get objects.large_blocks name ≡ Some bs)
   blocks_stay name bs is =
       let was = (installed.replaces.large_blocks name bs).0 (ap (λ m. get m name) (sym installed.large_blocks) ∙ is) in
       (stays_kept objects slots collection places blocks won sound closed settled name was.1.0 was.1.1 was.1.2, was.0)
 
-  blocks_kept : (name : ℕ) (bs : List ℕ) → IsKept old collection.generation name → get objects.large_blocks name ≡ Some bs → get objects'.large_blocks name ≡ Some bs
+  blocks_kept : (name : ℕ) (bs : List ℕ) → IsLiveOrOlder old collection.generation name → get objects.large_blocks name ≡ Some bs → get objects'.large_blocks name ≡ Some bs
   blocks_kept name bs kept is =
       let theirs = sound.large.theirs name bs is in
       let there : get objects.objects name ≡ Some theirs.0 = theirs.1 in

@@ -9,7 +9,7 @@ use Rattle.layout.specs.declared.place.Place.{Place}
 use Rattle.layout.specs.Place.{place_word}
 use Rattle.steps.specs.CollectionValue.{SlotValue, root_slot}
 use Rattle.steps.specs.SlotView.{slot_value}
-use Rattle.steps.specs.declared.heap_data.collection.Slot.{Slot}
+use Rattle.steps.specs.declared.heap_values.collection.Slot.{Slot}
 use Rattle.heap.specs.Roots.{roots_map, words_of}
 use Rattle.heap.proofs.RootMap.{entries-roots, root_pairs}
 

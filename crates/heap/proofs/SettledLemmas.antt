@@ -13,7 +13,7 @@ use Rattle.model.specs.Live.{Live, IsYoung, IsRooted, IsEdge}
 use Rattle.model.specs.OldSlots.{Slot, is_young_name, old_slots}
 use Rattle.model.specs.Laws.{IsOldToYoung}
 use Rattle.model.specs.Reached.{has, first, later}
-use Rattle.model.specs.Collected.{IsKept, renamed, moved_to}
+use Rattle.model.specs.Collected.{IsLiveOrOlder, renamed, moved_to}
 use Rattle.model.specs.Destination.{Shape, IsStep, dest, oldest, steps_in}
 use Rattle.model.proofs.Among.{Among, among_either, Contains-among}
 use Rattle.model.proofs.LiveLemmas.{Live-young}
@@ -180,14 +180,14 @@ module _ (objects : ObjectsValue) (slots : List (Option Place)) (collection : Co
       go number named (Some place) is some = settled.renaming.only_live name (place_word place) (subst (λ n. find nat_cmp n places_new ≡ Some (place_word place)) named (new_name number place is))
 
   -- what stays is kept, and each large object that is kept stays
-  pub stays_kept : (name : ℕ) (o : Object) → object_at graph name ≡ Some o → Stays objects collection.generation places name o → IsKept graph collection.generation name
+  pub stays_kept : (name : ℕ) (o : Object) → object_at graph name ≡ Some o → Stays objects collection.generation places name o → IsLiveOrOlder graph collection.generation name
   stays_kept name o is (inl above) = inr (record { object = o; there = is; older = above })
   stays_kept name o is (inr large) = ⊎_elim
       (λ above. inr (record { object = o; there = is; older = above }))
       (λ low. inl (placed_live name (record { object = o; there = is; young = low }) large.1))
       (cases_lt collection.generation o.generation)
 
-  pub kept_stays : (name : ℕ) (o : Object) → object_at graph name ≡ Some o → IsTrue (is_large objects.config.block_words o) → IsKept graph collection.generation name → Stays objects collection.generation places name o
+  pub kept_stays : (name : ℕ) (o : Object) → object_at graph name ≡ Some o → IsTrue (is_large objects.config.block_words o) → IsLiveOrOlder graph collection.generation name → Stays objects collection.generation places name o
   kept_stays name o is large (inl alive) = inr (large, live_placed name alive)
   kept_stays name o is large (inr older) = inl (subst (λ x. collection.generation < x.generation) (some_is (sym older.there ∙ is)) older.older)
 

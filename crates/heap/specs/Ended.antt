@@ -5,7 +5,7 @@ use Rattle.std.specs.FinMap.{get}
 use Rattle.model.specs.Graph.{Object, object_at, is_large}
 use Rattle.model.specs.Live.{Live}
 use Rattle.model.specs.Reached.{has}
-use Rattle.model.specs.Collected.{Collected, IsKept, renamed}
+use Rattle.model.specs.Collected.{Collected, IsLiveOrOlder, renamed}
 use Rattle.model.specs.Store.{full_rooms}
 use Rattle.steps.specs.HeapValue.{HeapValue}
 use Rattle.steps.specs.CollectedHeap.{IsIn, IsFreeBlock}
@@ -18,4 +18,4 @@ pub record IsEnded (old : HeapValue) (g : ℕ) (places : List (ℕ × ℕ)) (new
   pub rooms : new.rooms ≡ full_rooms old.config
   pub free : (block : ℕ) → IsTrue (has new.free block) ↔ IsFreeBlock new block
   pub rising : IsStrictlyIncreasing new.free
-  pub large_blocks : (name : ℕ) (blocks : List ℕ) → (get new.large_blocks name ≡ Some blocks) ↔ (IsKept old.graph g name × (get old.large_blocks name ≡ Some blocks))
+  pub large_blocks : (name : ℕ) (blocks : List ℕ) → (get new.large_blocks name ≡ Some blocks) ↔ (IsLiveOrOlder old.graph g name × (get old.large_blocks name ≡ Some blocks))

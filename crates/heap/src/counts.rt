@@ -9,8 +9,7 @@ ghost use Rattle.steps.specs.CensusView.{step_value};
 use arrayvec::ArrayVec;
 use heap_objects::HeapObjects;
 use std::alloc::Allocator;
-use steps::StepId;
-use steps::heap_data::{MOST_STEPS, StepCount};
+use steps::{MOST_STEPS, StepCount, StepId};
 
 /// The objects of each of these steps.
 fn counts_of<A: Allocator + Clone>(

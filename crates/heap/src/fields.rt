@@ -9,7 +9,7 @@ use crate::barrier::remember;
 use crate::heap::{FieldError, Heap, LoadError, StoreError};
 use layout::Place;
 use std::alloc::Allocator;
-use steps::heap_data::RootId;
+use steps::RootId;
 
 impl<A: Allocator + Clone> Heap<A> {
     /// Makes pointer `field` of a root's object lead where another root does, or makes it nil. Where it leads to an object

@@ -31,8 +31,7 @@ use layout::{ObjectRef, Place};
 use remembered_set::Remembered;
 use std::alloc::{AllocError, Allocator, Global};
 use std::marker::Model;
-use steps::heap_data::{Census, Collection, Report, RootId, Settled};
-use steps::{Config, StepId};
+use steps::{Census, Collection, Config, Report, RootId, Settled, StepId};
 use thiserror::Error;
 
 /// The most pointers, and the most plain words, that an object may have.

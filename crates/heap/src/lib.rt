@@ -15,7 +15,7 @@ pub use found::Found;
 pub use heap::{
     AllocateError, FieldError, Heap, LoadError, MakeError, NoRoot, OpenError, StoreError,
 };
-pub use steps::heap_data::{
-    Census, Collection, Delivery, Report, RootId, Settled, Slot, StepCount, Won, WorkerReport,
+pub use steps::{
+    BadConfig, Census, Collection, Config, Delivery, Report, RootId, Settled, Sizes, Slot,
+    StepCount, StepId, Won, WorkerReport,
 };
-pub use steps::{BadConfig, Config, Sizes, StepId};

@@ -14,7 +14,7 @@ use crate::roots::Roots;
 use heap_objects::HeapObjects;
 use remembered_set::Remembered;
 use std::alloc::{AllocError, Allocator};
-use steps::heap_data::{Collection, RootId, Slot};
+use steps::{Collection, RootId, Slot};
 
 /// The roots by rising number.
 fn root_slots<A: Allocator>(alloc: A, roots: &Roots<A>) -> Result<Vec<Slot, A>, AllocError>

@@ -9,7 +9,7 @@ ghost use Rattle.heap_objects.specs.Large.{young_before, CoversYoungLarge, AreIn
 use large_objects::LargeTable;
 use layout::LargeNumber;
 use std::alloc::{AllocError, Allocator};
-use steps::heap_data::LargeCount;
+use steps::LargeCount;
 
 /// Whether the large object with a number is of generation at most `g`.
 fn is_young<A: Allocator>(large: &LargeTable<A>, number: LargeNumber, g: u8) -> bool

@@ -29,8 +29,7 @@ use large_objects::LargeTable;
 use layout::{LargeNumber, ObjectRef, Place, word_of};
 use std::alloc::{AllocError, Allocator, Global};
 use std::marker::Model;
-use steps::heap_data::{LargeCount, Numbering, Slot, StepCount};
-use steps::{Config, StepId};
+use steps::{Config, LargeCount, Numbering, Slot, StepCount, StepId};
 
 /// The objects of a heap. Small ones stand in blocks, one after the other. Each large one has blocks of its own, and never
 /// moves.

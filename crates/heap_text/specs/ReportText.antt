@@ -2,7 +2,7 @@
 use Rattle.std.specs.Prelude.{ℕ, List, ◌++◌, length, flat_map, codes, decimal}
 use Rattle.std.specs.List.{enumerate_from}
 use Rattle.steps.specs.ReportValue.{WorkerLists}
-use Rattle.steps.specs.declared.heap_data.report.Delivery.{Delivery}
+use Rattle.steps.specs.declared.heap_values.report.Delivery.{Delivery}
 use Rattle.model.specs.Text.{collection_line}
 use Rattle.heap_text.specs.declared.cause.Cause.{Cause}
 use Rattle.heap_text.specs.CollectionLine.{cause_word}

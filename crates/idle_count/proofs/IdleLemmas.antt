@@ -10,7 +10,7 @@ use Rattle.atomic_table.proofs.Lists.{at_set, at_snoc}
 use Rattle.model.specs.Total.{total}
 use Rattle.model.proofs.Totals.{total-set, total-same, total-snoc, total-at, total-below, total-whole}
 use Rattle.idle_count.specs.declared.idle_plays.Share.{Share}
-use Rattle.idle_count.specs.Idled.{share, idles_in, IsSound, IsKept, newcomer, dealt, both, spent, Rested, Looked, after_wake, Woke}
+use Rattle.idle_count.specs.Idled.{share, idles_in, IsSoundShare, IsKeptIdling, newcomer, dealt, both, spent, Rested, Looked, after_wake, Woke}
 
 abbrev St : Type 0
 St = State (Unit {0}) Share
@@ -19,35 +19,35 @@ abbrev Sat : Type 0
 Sat = Me (Unit {0}) Share
 
 -- what holds of one new view and of all others holds of all
-each_sound : (seats word : ℕ) (views : List Share) (id : ℕ) (w : Share) → IsSound seats word w
-    → ((j : ℕ) (u : Share) → get_elem? views j ≡ some u → IsSound seats word u) → (j : ℕ) (u : Share) → get_elem? (set views id w) j ≡ some u → IsSound seats word u
+each_sound : (seats word : ℕ) (views : List Share) (id : ℕ) (w : Share) → IsSoundShare seats word w
+    → ((j : ℕ) (u : Share) → get_elem? views j ≡ some u → IsSoundShare seats word u) → (j : ℕ) (u : Share) → get_elem? (set views id w) j ≡ some u → IsSoundShare seats word u
 each_sound seats word views id w mine others j u e = ⊎_elim
-    (λ (t : (j ≡ id) × (w ≡ u)). subst (IsSound seats word) t.1 mine)
+    (λ (t : (j ≡ id) × (w ≡ u)). subst (IsSoundShare seats word) t.1 mine)
     (λ (t : (j ≢ id) × (get_elem? views j ≡ some u)). others j u t.1)
     (at_set views id j w u e)
 
 -- one view changes, and the word with it
-moved : (seats : ℕ) (s : St) (id : ℕ) (me : Sat) (w : Share) (word : ℕ) → IsKept seats s → get_elem? s.views id ≡ some me.0 → w.parts ≡ me.0.parts → IsSound seats word w
-    → word ≡ idles_in (set s.views id w) → (get_or s.words 0 0 ≡ seats → word ≡ seats) → IsKept seats (stepped s 0 word id me.1 w keeps)
+moved : (seats : ℕ) (s : St) (id : ℕ) (me : Sat) (w : Share) (word : ℕ) → IsKeptIdling seats s → get_elem? s.views id ≡ some me.0 → w.parts ≡ me.0.parts → IsSoundShare seats word w
+    → word ≡ idles_in (set s.views id w) → (get_or s.words 0 0 ≡ seats → word ≡ seats) → IsKeptIdling seats (stepped s 0 word id me.1 w keeps)
 moved seats s id me w word r at parts mine counted lasts =
     let wide = r.wide in
     let there : get_or (set s.words 0 word) 0 0 ≡ word = get_or-set_same s.words 0 word 0 (omega arith) in
     record {
       wide = length-set s.words 0 word ∙ r.wide;
       whole = total-same (λ (u : Share). u.parts) s.views id me.0 w at parts ∙ r.whole;
-      sound = subst (λ n. (j : ℕ) (u : Share) → get_elem? (set s.views id w) j ≡ some u → IsSound seats n u) (sym there)
+      sound = subst (λ n. (j : ℕ) (u : Share) → get_elem? (set s.views id w) j ≡ some u → IsSoundShare seats n u) (sym there)
           (each_sound seats word s.views id w mine (λ j u e. let old = r.sound j u e in record { same = old.same; idles = old.idles; ended = λ part end. lasts (old.ended part end) }));
       word = there ∙ counted;
     }
 
 -- no more seats are idle than there are
-all_idles : (seats : ℕ) (s : St) → IsKept seats s → idles_in s.views ≤ seats
+all_idles : (seats : ℕ) (s : St) → IsKeptIdling seats s → idles_in s.views ≤ seats
 all_idles seats s r =
     let below = total-below (λ (u : Share). u.idles) (λ (u : Share). u.parts) s.views (λ i u e. (r.sound i u e).idles) in
     let whole = r.whole in omega arith
 
 -- who isn't idle knows that not all are
-not_all : (seats : ℕ) (s : St) (id : ℕ) (v : Share) → IsKept seats s → get_elem? s.views id ≡ some v → v.parts ≡ 1 → v.idles ≡ 0 → get_or s.words 0 0 < seats
+not_all : (seats : ℕ) (s : St) (id : ℕ) (v : Share) → IsKeptIdling seats s → get_elem? s.views id ≡ some v → v.parts ≡ 1 → v.idles ≡ 0 → get_or s.words 0 0 < seats
 not_all seats s id v r at part busy =
     let w : Share = share v.seats v.parts 1 v.seen v.steps in
     let more = total-set (λ (u : Share). u.idles) s.views id v w at in
@@ -58,7 +58,7 @@ not_all seats s id v r at part busy =
     let all = r.whole in let c = r.word in omega arith
 
 pub rests : (seats slots id : ℕ) (me : Sat) → me.0.parts ≡ 1 → me.0.idles ≡ 0 → seats < 2 ^ 32
-    → Allows (IsKept seats) slots id me 0 (λ n. (n + 1) % 2 ^ 64) (Rested (step slots 0 1 0 none) me)
+    → Allows (IsKeptIdling seats) slots id me 0 (λ n. (n + 1) % 2 ^ 64) (Rested (step slots 0 1 0 none) me)
 rests seats slots id me part busy small s r _ at _ =
     let x : ℕ = get_or s.words 0 0 in
     let v : Share = me.0 in
@@ -68,20 +68,20 @@ rests seats slots id me part busy small s r _ at _ =
     let mine = r.sound id v at in
     let known : v.seats ≡ seats = mine.same (λ z. omega arith) in
     let counted : x + 1 ≡ idles_in (set s.views id w) = (let t = total-set (λ (u : Share). u.idles) s.views id v w at in let c = r.word in omega arith) in
-    let sound : IsSound seats (x + 1) w = record { same = mine.same; idles = omega arith; ended = λ _ end. omega arith } in (
+    let sound : IsSoundShare seats (x + 1) w = record { same = mine.same; idles = omega arith; ended = λ _ end. omega arith } in (
       w,
       keeps,
       tt,
-      subst (λ n. IsKept seats (stepped s 0 n id me.1 w keeps)) next (moved seats s id me w (x + 1) r at refl sound counted (λ all. absurd (omega arith))),
+      subst (λ n. IsKeptIdling seats (stepped s 0 n id me.1 w keeps)) next (moved seats s id me w (x + 1) r at refl sound counted (λ all. absurd (omega arith))),
       record { after = refl; low = omega arith },
     )
 
 -- the word stays, and so does what the seat counts as
-stays : (seats : ℕ) (s : St) (id : ℕ) (me : Sat) (w : Share) → IsKept seats s → get_elem? s.views id ≡ some me.0 → w.parts ≡ me.0.parts → w.idles ≡ me.0.idles → IsSound seats (get_or s.words 0 0) w
-    → IsKept seats (stepped s 0 (get_or s.words 0 0) id me.1 w keeps)
+stays : (seats : ℕ) (s : St) (id : ℕ) (me : Sat) (w : Share) → IsKeptIdling seats s → get_elem? s.views id ≡ some me.0 → w.parts ≡ me.0.parts → w.idles ≡ me.0.idles → IsSoundShare seats (get_or s.words 0 0) w
+    → IsKeptIdling seats (stepped s 0 (get_or s.words 0 0) id me.1 w keeps)
 stays seats s id me w r at parts idles mine = moved seats s id me w (get_or s.words 0 0) r at parts mine (r.word ∙ sym (total-same (λ (u : Share). u.idles) s.views id me.0 w at idles)) (λ all. all)
 
-pub looks : (seats slots id : ℕ) (me : Sat) → me.0.parts ≡ 1 → Allows (IsKept seats) slots id me 0 (λ n. n) (Looked (step slots 0 0 0 none) me)
+pub looks : (seats slots id : ℕ) (me : Sat) → me.0.parts ≡ 1 → Allows (IsKeptIdling seats) slots id me 0 (λ n. n) (Looked (step slots 0 0 0 none) me)
 looks seats slots id me part s r _ at _ =
     let x : ℕ = get_or s.words 0 0 in
     let v : Share = me.0 in
@@ -90,7 +90,7 @@ looks seats slots id me part s r _ at _ =
     let known : v.seats ≡ seats = mine.same (λ z. omega arith) in
     let c = r.word in
     let few = all_idles seats s r in
-    let sound : IsSound seats x w = record { same = mine.same; idles = mine.idles; ended = λ _ end. omega arith } in (
+    let sound : IsSoundShare seats x w = record { same = mine.same; idles = mine.idles; ended = λ _ end. omega arith } in (
       w,
       keeps,
       tt,
@@ -104,36 +104,36 @@ looks seats slots id me part s r _ at _ =
     )
 
 wakes_seen : (seats slots id : ℕ) (me : Sat) → me.0.parts ≡ 1 → me.0.idles ≡ 1 → 0 < me.0.seen → me.0.seen < seats
-    → Allows (IsKept seats) slots id me 0 (λ n. either (eqb n me.0.seen) (me.0.seen - 1) n) (Woke (step slots 0 me.0.seen (me.0.seen - 1) none) me)
+    → Allows (IsKeptIdling seats) slots id me 0 (λ n. either (eqb n me.0.seen) (me.0.seen - 1) n) (Woke (step slots 0 me.0.seen (me.0.seen - 1) none) me)
 wakes_seen seats slots id me part idle some_idle going s r _ at _ =
     let x : ℕ = get_or s.words 0 0 in
     let v : Share = me.0 in
     let mine = r.sound id v at in
     let w : Share = after_wake v (x == v.seen) in
-    let kept : IsKept seats (stepped s 0 (either (eqb x v.seen) (v.seen - 1) x) id me.1 w keeps) = dite (ℕ_discrete x v.seen)
+    let kept : IsKeptIdling seats (stepped s 0 (either (eqb x v.seen) (v.seen - 1) x) id me.1 w keeps) = dite (ℕ_discrete x v.seen)
     (λ hit.
     let awake : Share = after_wake v true in
-    let sound : IsSound seats (v.seen - 1) awake = record { same = mine.same; idles = omega arith; ended = λ _ end. absurd (omega arith) } in
+    let sound : IsSoundShare seats (v.seen - 1) awake = record { same = mine.same; idles = omega arith; ended = λ _ end. absurd (omega arith) } in
     let counted : v.seen - 1 ≡ idles_in (set s.views id awake) = (let t = total-set (λ (u : Share). u.idles) s.views id v awake at in let c = r.word in omega arith) in
-    subst (λ (b : Bool). IsKept seats (stepped s 0 (either b (v.seen - 1) x) id me.1 (after_wake v b) keeps)) (sym (eq-eqb x v.seen hit))
+    subst (λ (b : Bool). IsKeptIdling seats (stepped s 0 (either b (v.seen - 1) x) id me.1 (after_wake v b) keeps)) (sym (eq-eqb x v.seen hit))
     (moved seats s id me awake (v.seen - 1) r at refl sound counted (λ all. absurd (omega arith))))
     (λ miss.
     let asleep : Share = after_wake v false in
-    let sound : IsSound seats x asleep = record { same = mine.same; idles = mine.idles; ended = mine.ended } in
-    subst (λ (b : Bool). IsKept seats (stepped s 0 (either b (v.seen - 1) x) id me.1 (after_wake v b) keeps)) (sym (ne_eqb x v.seen miss))
+    let sound : IsSoundShare seats x asleep = record { same = mine.same; idles = mine.idles; ended = mine.ended } in
+    subst (λ (b : Bool). IsKeptIdling seats (stepped s 0 (either b (v.seen - 1) x) id me.1 (after_wake v b) keeps)) (sym (ne_eqb x v.seen miss))
     (stays seats s id me asleep r at refl refl sound)) in
     (w, keeps, tt, kept, refl)
 
 -- the same, where the seat says what it has seen
 pub wakes : (seats slots id : ℕ) (me : Sat) (seen : ℕ) → me.0.seen ≡ seen → me.0.parts ≡ 1 → me.0.idles ≡ 1 → 0 < seen → seen < seats
-    → Allows (IsKept seats) slots id me 0 (λ n. either (eqb n seen) (seen - 1) n) (Woke (step slots 0 seen (seen - 1) none) me)
+    → Allows (IsKeptIdling seats) slots id me 0 (λ n. either (eqb n seen) (seen - 1) n) (Woke (step slots 0 seen (seen - 1) none) me)
 wakes seats slots id me seen is part idle some_idle going =
-    subst (λ k. Allows (IsKept seats) slots id me 0 (λ n. either (eqb n k) (k - 1) n) (Woke (step slots 0 k (k - 1) none) me)) is
+    subst (λ k. Allows (IsKeptIdling seats) slots id me 0 (λ n. either (eqb n k) (k - 1) n) (Woke (step slots 0 k (k - 1) none) me)) is
     (wakes_seen seats slots id me part idle (omega arith) (omega arith))
 
 -- a change of views that keeps each sum
-sums : (seats : ℕ) (s : St) (vs : List Share) → IsKept seats s → total (λ (u : Share). u.parts) vs ≡ total (λ (u : Share). u.parts) s.views → idles_in vs ≡ idles_in s.views
-    → ((i : ℕ) (v : Share) → get_elem? vs i ≡ some v → IsSound seats (get_or s.words 0 0) v) → IsKept seats (record { words = s.words; homes = s.homes; views = vs })
+sums : (seats : ℕ) (s : St) (vs : List Share) → IsKeptIdling seats s → total (λ (u : Share). u.parts) vs ≡ total (λ (u : Share). u.parts) s.views → idles_in vs ≡ idles_in s.views
+    → ((i : ℕ) (v : Share) → get_elem? vs i ≡ some v → IsSoundShare seats (get_or s.words 0 0) v) → IsKeptIdling seats (record { words = s.words; homes = s.homes; views = vs })
 sums seats s vs r parts idles sound = record {
   wide = r.wide;
   whole = parts ∙ r.whole;
@@ -141,25 +141,25 @@ sums seats s vs r parts idles sound = record {
   word = r.word ∙ sym idles;
 }
 
-pub deals : (seats id : ℕ) (v : Share) → 0 < v.parts → v.seats ≡ seats → v.idles ≡ 0 → v.seen ≡ 0 → Splits (IsKept seats) id v (dealt v) (newcomer v)
+pub deals : (seats id : ℕ) (v : Share) → 0 < v.parts → v.seats ≡ seats → v.idles ≡ 0 → v.seen ≡ 0 → Splits (IsKeptIdling seats) id v (dealt v) (newcomer v)
 deals seats id v more known busy unseen s r at =
     let x : ℕ = get_or s.words 0 0 in
     let vs : List Share = set s.views id (dealt v) in
     let some_seats : 0 < seats = (let t = total-at (λ (u : Share). u.parts) s.views id v at in let w = r.whole in omega arith) in
-    let new : IsSound seats x (newcomer v) = record { same = λ _. known; idles = omega arith; ended = λ _ end. absurd (omega arith) } in
-    let left : IsSound seats x (dealt v) = record { same = λ _. known; idles = omega arith; ended = λ _ end. absurd (omega arith) } in
+    let new : IsSoundShare seats x (newcomer v) = record { same = λ _. known; idles = omega arith; ended = λ _ end. absurd (omega arith) } in
+    let left : IsSoundShare seats x (dealt v) = record { same = λ _. known; idles = omega arith; ended = λ _ end. absurd (omega arith) } in
     sums seats s (vs ++ newcomer v ∷ []) r
     (let a = total-snoc (λ (u : Share). u.parts) vs (newcomer v) in let b = total-set (λ (u : Share). u.parts) s.views id v (dealt v) at in omega arith)
     (let a = total-snoc (λ (u : Share). u.idles) vs (newcomer v) in let b = total-set (λ (u : Share). u.idles) s.views id v (dealt v) at in omega arith)
     (λ i u e. ⊎_elim
     (λ (t : get_elem? vs i ≡ some u). each_sound seats x s.views id (dealt v) left r.sound i u t)
-    (λ (t : newcomer v ≡ u). subst (IsSound seats x) t new) (at_snoc vs (newcomer v) u i e))
+    (λ (t : newcomer v ≡ u). subst (IsSoundShare seats x) t new) (at_snoc vs (newcomer v) u i e))
 
 -- whichever of two has seen the end, it has come
 ended_by : (v w seats word : ℕ) → (seats ≤ v → word ≡ seats) → (seats ≤ w → word ≡ seats) → seats ≤ max v w → word ≡ seats
 ended_by v w seats word one other end = dite (dec_le seats v) one (λ low. other (omega arith))
 
-pub gathers : (seats id : ℕ) (v : Share) (other : ℕ) (w : Share) → v.parts ≢ 0 → w.parts ≢ 0 → Joins (IsKept seats) id v other w (both v w) spent
+pub gathers : (seats id : ℕ) (v : Share) (other : ℕ) (w : Share) → v.parts ≢ 0 → w.parts ≢ 0 → Joins (IsKeptIdling seats) id v other w (both v w) spent
 gathers seats id v other w part its_part s r at apart at' =
     let x : ℕ = get_or s.words 0 0 in
     let vs : List Share = set s.views id (both v w) in
@@ -168,12 +168,12 @@ gathers seats id v other w part its_part s r at apart at' =
     (λ (y : (other ≢ id) × (get_elem? s.views other ≡ some w)). y.1) (at_set s.views id other (both v w) w at') in
     let mine = r.sound id v at in
     let theirs = r.sound other w there in
-    let sound : IsSound seats x (both v w) = record {
+    let sound : IsSoundShare seats x (both v w) = record {
       same = λ _. mine.same part;
       idles = (let a = mine.idles in let b = theirs.idles in omega arith);
       ended = λ _ end. ended_by v.seen w.seen seats x (mine.ended part) (theirs.ended its_part) end;
     } in
-    let gone : IsSound seats x spent = record { same = λ z. absurd (z refl); idles = omega arith; ended = λ z. absurd (z refl) } in
+    let gone : IsSoundShare seats x spent = record { same = λ z. absurd (z refl); idles = omega arith; ended = λ z. absurd (z refl) } in
     sums seats s (set vs other spent) r
     (let a = total-set (λ (u : Share). u.parts) s.views id v (both v w) at in let b = total-set (λ (u : Share). u.parts) vs other w spent at' in omega arith)
     (let a = total-set (λ (u : Share). u.idles) s.views id v (both v w) at in let b = total-set (λ (u : Share). u.idles) vs other w spent at' in omega arith)
@@ -190,7 +190,7 @@ first_word [] w e = absurd (some-ne-none w (sym e))
 first_word (x ∷ xs) w e = some-injective x w e
 
 -- the end, from the table as it was closed
-pub closes : (seats id : ℕ) (v : Share) (words : List ℕ) (word : ℕ) → (s : St) × Seen (IsKept seats) id v s × (s.words ≡ words) → get_elem? words 0 ≡ some word → v.parts ≡ seats → IsEnd seats word v
+pub closes : (seats id : ℕ) (v : Share) (words : List ℕ) (word : ℕ) → (s : St) × Seen (IsKeptIdling seats) id v s × (s.words ≡ words) → get_elem? words 0 ≡ some word → v.parts ≡ seats → IsEnd seats word v
 closes seats id v words word final at parts =
     let s : St = final.0 in
     let r = final.1.0 in

@@ -14,16 +14,16 @@ abbrev pub idles_in : List Share → ℕ
 idles_in = total (λ (v : Share). v.idles)
 
 -- Each part counts as one idle seat at most. Where a seat has seen that all are idle, they are
-pub record IsSound (seats word : ℕ) (v : Share) : Type 0 where
+pub record IsSoundShare (seats word : ℕ) (v : Share) : Type 0 where
   pub same : v.parts ≢ 0 → v.seats ≡ seats
   pub idles : v.idles ≤ v.parts
   pub ended : v.parts ≢ 0 → seats ≤ v.seen → word ≡ seats
 
 -- The word is the number of idle seats
-pub record IsKept (seats : ℕ) (s : State (Unit {0}) Share) : Type 0 where
+pub record IsKeptIdling (seats : ℕ) (s : State (Unit {0}) Share) : Type 0 where
   pub wide : length s.words ≡ 1
   pub whole : total (λ (v : Share). v.parts) s.views ≡ seats
-  pub sound : (i : ℕ) (v : Share) → get_elem? s.views i ≡ some v → IsSound seats (slice_index s.words 0) v
+  pub sound : (i : ℕ) (v : Share) → get_elem? s.views i ≡ some v → IsSoundShare seats (slice_index s.words 0) v
   pub word : slice_index s.words 0 ≡ idles_in s.views
 
 -- a seat with one part

@@ -14,9 +14,9 @@ pub struct Share {
 pub struct Rule;
 
 impl TableRule<(), Share, usize> for Rule {
-    ghost use Rattle.idle_count.specs.Idled.{share, IsKept};
+    ghost use Rattle.idle_count.specs.Idled.{share, IsKeptIdling};
 
-    ghost holds = { IsKept };
+    ghost holds = { IsKeptIdling };
 
     ghost first = { λ seats. share seats seats 0 0 0 };
 }

@@ -9,7 +9,7 @@ use Rattle.steps.specs.HeapValue.{HeapValue}
 use Rattle.steps.specs.CollectionValue.{CollectionValue, young_names, target_of_slot, slots_of}
 use Rattle.steps.specs.CollectedHeap.{CollectedHeap}
 use Rattle.steps.specs.ReportValue.{WorkerLists, all_won, renaming_of}
-use Rattle.steps.specs.declared.heap_data.report.Delivery.{Delivery}
+use Rattle.steps.specs.declared.heap_values.report.Delivery.{Delivery}
 use Rattle.workers.specs.System.{opening}
 use Rattle.workers.specs.Steps.{Run}
 use Rattle.machine.specs.Collects.{setting_at, opening_at}

@@ -26,16 +26,16 @@ use Rattle.workers.specs.Alone.{RunBrings, AreEmpty}
 use Rattle.workers.proofs.RunBrings.{ended_brings}
 use Rattle.workers.proofs.Reached.{reached_left}
 use Rattle.workers.proofs.Kept.{kept}
-use Rattle.serial.specs.Brings.{left_blocks}
-use Rattle.serial.proofs.Bridge.{settled}
-use Rattle.interleaved.proofs.Starts.{has_starts, targets_live}
+use Rattle.one_worker.specs.Brings.{left_blocks}
+use Rattle.one_worker.proofs.Bridge.{settled}
+use Rattle.workers_in_turn.proofs.Starts.{has_starts, targets_live}
 use Rattle.collector.specs.Settling.{shown_after}
 use Rattle.collector.proofs.ShownLarge.{shown_in, places_show}
 use Rattle.collector.proofs.SettleBrings.{stands_has, times-places}
 use Rattle.collector.proofs.SettleWhole.{held_place}
-use Rattle.interleaved.specs.InterleavedValue.{InterleavedValue, MemberValue, worker_of, system_of, setting_in, targets_in, destinations_in}
-use Rattle.interleaved.specs.IsInterleaved.{IsInterleaved}
-use Rattle.interleaved.proofs.Places.{get-map}
+use Rattle.workers_in_turn.specs.InterleavedValue.{InterleavedValue, MemberValue, worker_of, system_of, setting_in, targets_in, destinations_in}
+use Rattle.workers_in_turn.specs.IsInterleaved.{IsInterleaved}
+use Rattle.workers_in_turn.proofs.Places.{get-map}
 use Rattle.collector.specs.Collects.{ScansOnce}
 use Rattle.machine.specs.Telling.{IsAtRest, AreBrought}
 use Rattle.machine.proofs.EndedLists.{joined_lists, joined_map, renamed_joined, same_places, parts_won, parts_left, parts_scanned, wins_among, each_name, each_place}

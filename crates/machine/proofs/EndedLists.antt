@@ -8,7 +8,7 @@ use Rattle.workers.specs.Total.{total, one_if, times, wins_of}
 use Rattle.workers.specs.Joined.{Each, Part, blocks_of}
 use Rattle.workers.specs.Kept.{won_lists}
 use Rattle.workers.proofs.Totals.{total-append}
-use Rattle.serial.specs.Brings.{left_blocks}
+use Rattle.one_worker.specs.Brings.{left_blocks}
 
 abbrev pub joined_lists : {A : Type 0} → List (List A) → List A
 joined_lists xss = flat_map (λ xs. xs) xss

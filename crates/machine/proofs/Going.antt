@@ -10,15 +10,15 @@ use Rattle.workers.specs.System as system
 use Rattle.workers.specs.Lawful.{IsLawful, IsRefused, IsNext, AllEnded, next_lawful}
 use Rattle.workers.proofs.Reached.{reached_next, reached_none}
 use Rattle.workers.proofs.RunBrings.{refused_below}
-use Rattle.interleaved.specs.IsSerial.{IsReadyToCollect}
-use Rattle.interleaved.proofs.Starts.{targets_live}
-use Rattle.interleaved.specs.declared.event.Event.{Event}
-use Rattle.interleaved.specs.Events.{event_of}
-use Rattle.interleaved.specs.InterleavedValue.{InterleavedValue, Goes, Stays, system_of, destinations_in, targets_in}
-use Rattle.interleaved.specs.InterleavedValue as interleaved
-use Rattle.interleaved.proofs.Reaching.{reached_by, reached_still, reached_first}
+use Rattle.workers_in_turn.specs.IsSerial.{IsReadyToCollect}
+use Rattle.workers_in_turn.proofs.Starts.{targets_live}
+use Rattle.workers_in_turn.specs.declared.event.Event.{Event}
+use Rattle.workers_in_turn.specs.Events.{event_of}
+use Rattle.workers_in_turn.specs.InterleavedValue.{InterleavedValue, Goes, Stays, system_of, destinations_in, targets_in}
+use Rattle.workers_in_turn.specs.InterleavedValue as interleaved
+use Rattle.workers_in_turn.proofs.Reaching.{reached_by, reached_still, reached_first}
 use Rattle.machine.specs.MachineValue.{MachineValue, IsMachine, HasReached, machine_of, setting_in}
-use Rattle.machine.specs.Events.{IsFull, Opens}
+use Rattle.machine.specs.Events.{IsFullForEvent, Opens}
 
 ready_of : (old new : InterleavedValue) → new.heap ≡ old.heap → new.collection ≡ old.collection → IsReadyToCollect old.heap old.collection → IsReadyToCollect new.heap new.collection
 ready_of old new heap collection ready = subst (λ h. IsReadyToCollect h new.collection) (sym heap) (subst (IsReadyToCollect old.heap) (sym collection) ready)
@@ -31,7 +31,7 @@ lasts event heap c old new k (Err x) goes stays =
     record { heap_is = k.heap_is ∙ sym stays.heap; collection_is = k.collection_is ∙ sym stays.collection; ready = ready_of old new stays.heap stays.collection k.ready; reached = reached_still old new k.reached stays }
 
 -- a look that was refused a block
-pub is_full : (heap : HeapValue) (c : CollectionValue) (v : InterleavedValue) → IsMachine heap c v → (event : system.Event) → IsRefused (interleaved.setting_in v) (system_of v) event → IsFull event (machine_of v)
+pub is_full : (heap : HeapValue) (c : CollectionValue) (v : InterleavedValue) → IsMachine heap c v → (event : system.Event) → IsRefused (interleaved.setting_in v) (system_of v) event → IsFullForEvent event (machine_of v)
 is_full heap c v k event refused =
     record {
       refused = refused;

@@ -13,14 +13,14 @@ use Rattle.workers.specs.Finish as finish
 use Rattle.workers.proofs.Finish.{lawful_choice}
 use Rattle.workers.proofs.OneMore.{run_more, stepped_more}
 use Rattle.workers.proofs.Reached.{reached_falls, young_covers}
-use Rattle.interleaved.specs.declared.event.Event.{Event as Named}
-use Rattle.interleaved.specs.Events.{event_of}
-use Rattle.interleaved.specs.InterleavedValue.{setting_for}
-use Rattle.interleaved.proofs.Places.{get-map}
+use Rattle.workers_in_turn.specs.declared.event.Event.{Event as Named}
+use Rattle.workers_in_turn.specs.Events.{event_of}
+use Rattle.workers_in_turn.specs.InterleavedValue.{setting_for}
+use Rattle.workers_in_turn.proofs.Places.{get-map}
 use Rattle.machine.specs.declared.step_error.StepError.{StepError}
 use Rattle.machine.specs.declared.step_error.StepError.TheVariants.{NotLawful, HeapFull}
 use Rattle.machine.specs.MachineValue.{MachineValue, HasReached, setting_in}
-use Rattle.machine.specs.Events.{IsSameCollection, Comes, Ran, WentOn, IsFull, Stopped, IsStuck}
+use Rattle.machine.specs.Events.{IsSameCollection, Comes, Ran, WentOn, IsFullForEvent, Stopped, IsStuck}
 
 take_next : {A : Type 0} (xs : List A) (i : ℕ) (x : A) → slice_get xs i ≡ Some x → take (i + 1) xs ≡ take i xs ++ x ∷ []
 take_next [] i x e = absurd (cc)
@@ -49,7 +49,7 @@ ran_on events i e old mid new at ran comes =
     (record { same = onward old mid new ran.same comes.same; run = run_more (setting_in old) e ran.run (step_of old mid new e ran.same comes) })
 
 pub stopped_on : (events : List Event) (i : ℕ) (e : Event) (error : StepError) (old mid new : MachineValue) → new ≡ mid → slice_get events i ≡ Some e → Ran (take i events) old mid
-    → (error ≡ NotLawful → ¬ IsLawful (setting_in mid) mid.system e) → (error ≡ HeapFull → IsFull e mid) → Stopped events i error old new
+    → (error ≡ NotLawful → ¬ IsLawful (setting_in mid) mid.system e) → (error ≡ HeapFull → IsFullForEvent e mid) → Stopped events i error old new
 stopped_on events i e error old mid new is at ran unlawful full =
     subst (λ (m : MachineValue). Stopped events i error old m) (sym is) (record { event = e; there = at; ran = ran; unlawful = unlawful; full = full })
 
@@ -74,7 +74,7 @@ went_on old mid new event went next comes =
 pub went_still : (old mid new : MachineValue) → WentOn old mid → new ≡ mid → WentOn old new
 went_still old mid new went is = subst (λ (m : MachineValue). WentOn old m) (sym is) went
 
-pub is_stuck : (mid new : MachineValue) (event : Event) → new ≡ mid → next_lawful (setting_in mid) mid.system ≡ Some event → IsFull event mid → IsStuck new
+pub is_stuck : (mid new : MachineValue) (event : Event) → new ≡ mid → next_lawful (setting_in mid) mid.system ≡ Some event → IsFullForEvent event mid → IsStuck new
 is_stuck mid new event is next full = subst (λ (m : MachineValue). IsStuck m) (sym is) (record { event = event; is_next = next; full = full })
 
 -- what comes next makes it less

@@ -17,7 +17,7 @@ use Rattle.scavenge.specs.Named.{named, IsWhole}
 use Rattle.scavenge.specs.Fronts.{slot_at}
 use Rattle.scavenge.specs.Shown.{WorkspaceValue, pair_of}
 use Rattle.collector.proofs.SettleWhole.{somes-map, somes_each}
-use Rattle.interleaved.specs.InterleavedValue.{MemberValue, worker_of}
+use Rattle.workers_in_turn.specs.InterleavedValue.{MemberValue, worker_of}
 use Rattle.machine.specs.Telling.{IsAtRest, IsPartOf, AreBrought}
 
 -- what holds of each name that was won

@@ -6,7 +6,7 @@ use Rattle.std.proofs.lemmas.List.FromFn.{length-enumerate_from, get_or-enumerat
 use Rattle.std.specs.Prelude.{flat_map}
 use Rattle.std.specs.List.{enumerate_from}
 use Rattle.pending_queues.specs.declared.exports.deliveries.Delivery.{Delivery as Outcome}
-use Rattle.steps.specs.declared.heap_data.report.Delivery.{Delivery}
+use Rattle.steps.specs.declared.heap_values.report.Delivery.{Delivery}
 use Rattle.machine.specs.Telling.{delivery_of, deliveries_of, all_deliveries}
 
 abbrev pub untold : Outcome

@@ -48,7 +48,7 @@ abbrev pub IsShortOfBlocks : HeapValue → ℕ → ℕ → Type 0
 IsShortOfBlocks heap g n = (words : ℕ) → LiveWords heap.graph g heap.config.block_words words → length heap.free < space_bound words heap.config.block_words n (dest_count heap.config.shape g)
 
 -- the event is a look that wants a block, and none is left: there were too few
-pub record IsFull (event : Event) (m : MachineValue) : Type 0 where
+pub record IsFullForEvent (event : Event) (m : MachineValue) : Type 0 where
   pub refused : IsRefused (setting_in m) m.system event
   pub short : IsShortOfBlocks m.heap m.collection.generation m.workers
 
@@ -56,7 +56,7 @@ pub record IsFull (event : Event) (m : MachineValue) : Type 0 where
 pub record IsStuck (m : MachineValue) : Type 0 where
   pub event : Event
   pub is_next : next_lawful (setting_in m) m.system ≡ Some event
-  pub full : IsFull event m
+  pub full : IsFullForEvent event m
 
 -- those before number i came, and that one didn't: it isn't lawful, or no block is left for it, or memory ran out
 pub record Stopped (events : List Event) (i : ℕ) (error : StepError) (old new : MachineValue) : Type 0 where
@@ -64,4 +64,4 @@ pub record Stopped (events : List Event) (i : ℕ) (error : StepError) (old new 
   pub there : slice_get events i ≡ Some event
   pub ran : Ran (take i events) old new
   pub unlawful : error ≡ NotLawful → ¬ IsLawful (setting_in new) new.system event
-  pub full : error ≡ HeapFull → IsFull event new
+  pub full : error ≡ HeapFull → IsFullForEvent event new

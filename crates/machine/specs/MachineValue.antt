@@ -10,10 +10,10 @@ use Rattle.workers.specs.Setting.{Setting}
 use Rattle.workers.specs.Worker.{Worker}
 use Rattle.workers.specs.System.{System}
 use Rattle.workers.specs.Finish.{IsReached}
-use Rattle.interleaved.specs.SerialCode.{copies_code, worker_code}
-use Rattle.interleaved.specs.IsSerial.{IsReadyToCollect}
-use Rattle.interleaved.specs.InterleavedValue.{InterleavedValue, setting_for}
-use Rattle.interleaved.specs.InterleavedValue as interleaved
+use Rattle.workers_in_turn.specs.SerialCode.{copies_code, worker_code}
+use Rattle.workers_in_turn.specs.IsSerial.{IsReadyToCollect}
+use Rattle.workers_in_turn.specs.InterleavedValue.{InterleavedValue, setting_for}
+use Rattle.workers_in_turn.specs.InterleavedValue as interleaved
 
 -- the heap, the collection of it, how many workers there are, and where they stand
 pub record MachineValue : Type 0 where

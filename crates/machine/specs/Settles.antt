@@ -5,7 +5,7 @@ use Rattle.block_pool.specs.BlockValue.{BlockValue}
 use Rattle.steps.specs.CollectionValue.{CollectionValue}
 use Rattle.steps.specs.ReportValue.{WorkerLists, all_won}
 use Rattle.steps.specs.SettledValue.{IsSettled}
-use Rattle.steps.specs.declared.heap_data.report.Delivery.{Delivery}
+use Rattle.steps.specs.declared.heap_values.report.Delivery.{Delivery}
 use Rattle.machine.specs.Collects.{ScansOnce}
 use Rattle.machine.specs.Together.{Reports}
 use Rattle.workers.specs.Scans.{ScansInBlocks}

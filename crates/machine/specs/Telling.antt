@@ -7,11 +7,11 @@ use Rattle.pending_queues.specs.declared.exports.deliveries.Delivery.{Delivery a
 use Rattle.steps.specs.HeapValue.{HeapValue}
 use Rattle.steps.specs.ReportValue.{WorkerLists, all_won, renaming_of}
 use Rattle.steps.specs.CollectionValue.{CollectionValue, young_names}
-use Rattle.steps.specs.declared.heap_data.report.Delivery.{Delivery}
+use Rattle.steps.specs.declared.heap_values.report.Delivery.{Delivery}
 use Rattle.workers.specs.Joined.{Each, blocks_of}
 use Rattle.scavenge.specs.Named.{named, IsWhole}
 use Rattle.scavenge.specs.Shown.{WorkspaceValue}
-use Rattle.interleaved.specs.InterleavedValue.{MemberValue, worker_of}
+use Rattle.workers_in_turn.specs.InterleavedValue.{MemberValue, worker_of}
 use Rattle.collector.specs.Together.{AreReportsOf}
 
 -- it proposes nothing, and won only what is collected

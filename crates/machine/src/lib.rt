@@ -11,8 +11,8 @@ mod step_error;
 mod stepping;
 
 pub use crate::interleaved_settling::SettleError;
-pub use interleaved::Event;
 pub use machine::Machine;
 pub use machine_error::MachineError;
 pub use scavenge::LookError;
 pub use step_error::StepError;
+pub use workers_in_turn::Event;

@@ -2,16 +2,16 @@
 ghost use Rattle.std.specs.Prelude.{◌≡◌, ◌↔◌, None, Err, IsTrue, IfSome, OnOk, OnErr};
 ghost use Rattle.std.specs.Option.{option_map};
 ghost use Rattle.workers.specs.Lawful.{IsLawful, AllEnded, next_lawful};
-ghost use Rattle.interleaved.specs.Events.{event_of};
+ghost use Rattle.workers_in_turn.specs.Events.{event_of};
 ghost use Rattle.machine.specs.MachineValue.{HasReached, setting_in};
-ghost use Rattle.machine.specs.Events.{Comes, IsFull};
+ghost use Rattle.machine.specs.Events.{Comes, IsFullForEvent};
 
 use crate::carrying::carry_out;
 use crate::machine::Machine;
 use crate::step_error::StepError;
-use interleaved::Event;
 use scavenge::LookError;
 use std::alloc::Allocator;
+use workers_in_turn::Event;
 
 impl<'a, A: Allocator + Clone> Machine<'a, A> {
     /// Whether the event is lawful now.
@@ -40,7 +40,7 @@ impl<'a, A: Allocator + Clone> Machine<'a, A> {
     pub(crate) fn go_on(&mut self, event: Event) -> Result<(), LookError>
         requires { IsLawful (setting_in self.old) self.old.system (event_of event) }
         ensures ok { OnOk result (Comes (event_of event) self.old self.new) }
-        ensures full { result ≡ Err LookError.HeapFull → IsFull (event_of event) self.old }
+        ensures full { result ≡ Err LookError.HeapFull → IsFullForEvent (event_of event) self.old }
         ensures err { OnErr result (self.new ≡ self.old) }
     {
         let alloc = self.alloc.clone()?;
@@ -52,7 +52,7 @@ impl<'a, A: Allocator + Clone> Machine<'a, A> {
     pub fn step(&mut self, event: Event) -> Result<(), StepError>
         ensures ok { OnOk result (Comes (event_of event) self.old self.new) }
         ensures unlawful { (result ≡ Err StepError.NotLawful) ↔ ¬ IsLawful (setting_in self.old) self.old.system (event_of event) }
-        ensures full { result ≡ Err StepError.HeapFull → IsFull (event_of event) self.old }
+        ensures full { result ≡ Err StepError.HeapFull → IsFullForEvent (event_of event) self.old }
         ensures memory { result ≡ Err StepError.NoMemory → IsLawful (setting_in self.old) self.old.system (event_of event) }
         ensures err { OnErr result (self.new ≡ self.old) }
     {

@@ -9,7 +9,7 @@ use Rattle.std.specs.FinMap.{get, insert, find, get-empty}
 use Rattle.model.specs.Graph.{Graph, Object, object_at, root_at, field_at, with_object, with_root, without_root, with_pointer, fresh_object, empty_graph, IsClosed}
 use Rattle.model.specs.Live.{IsYoung, IsOlder, IsRooted}
 use Rattle.model.specs.Reached.{first, later}
-use Rattle.model.specs.Collected.{Collected, IsKept, renamed, moved_to}
+use Rattle.model.specs.Collected.{Collected, IsLiveOrOlder, renamed, moved_to}
 use Rattle.model.specs.Destination.{Shape, dest}
 use Rattle.model.proofs.LiveLemmas.{Live-young}
 use Rattle.model.proofs.NatMap.{get-insert_same, get-insert_other, get-remove_same, get-remove_other}
@@ -156,7 +156,7 @@ module _ (shape : Shape) (block_words : ℕ) (old : Graph) (g : ℕ) (places : L
     pub new_there : object_at new (renamed places name) ≡ Some new_object
     pub pointers : new_object.pointers ≡ map (option_map (renamed places)) object.pointers
 
-  kept_there : (name : ℕ) → IsKept old g name → IsThere name
+  kept_there : (name : ℕ) → IsLiveOrOlder old g name → IsThere name
   kept_there name kept =
       ⊎_elim
       (λ live.
@@ -186,7 +186,7 @@ module _ (shape : Shape) (block_words : ℕ) (old : Graph) (g : ℕ) (places : L
       (cases_lt g there.0.generation)
 
   -- what a pointer of a kept object, or a root, leads to is kept
-  target_kept : (name i target : ℕ) → IsKept old g name → field_at old name i ≡ Some (Some target) → IsKept old g target
+  target_kept : (name i target : ℕ) → IsLiveOrOlder old g name → field_at old name i ≡ Some (Some target) → IsLiveOrOlder old g target
   target_kept name i target kept e =
       ⊎_elim
       (λ young.
@@ -197,14 +197,14 @@ module _ (shape : Shape) (block_words : ℕ) (old : Graph) (g : ℕ) (places : L
       (λ older. inr older)
       (young_or_older target (closed.fields name i target e))
 
-  root_kept : (root target : ℕ) → root_at old root ≡ Some target → IsKept old g target
+  root_kept : (root target : ℕ) → root_at old root ≡ Some target → IsLiveOrOlder old g target
   root_kept root target e =
       ⊎_elim
       (λ young. let rooted : IsRooted old target = record { root = root; leads = e } in inl (first (young, inl rooted)))
       (λ older. inr older)
       (young_or_older target (closed.roots root target e))
 
-  kept_target : (name target : ℕ) → IsKept old g name → renamed places name ≡ target → (o : Object) × (object_at new target ≡ Some o)
+  kept_target : (name target : ℕ) → IsLiveOrOlder old g name → renamed places name ≡ target → (o : Object) × (object_at new target ≡ Some o)
   kept_target name target kept is = let there = kept_there name kept in (there.new_object, ap (object_at new) (sym is) ∙ there.new_there)
 
   -- after a collection each pointer and root leads to an object again

@@ -19,14 +19,14 @@ abbrev pub moved_to : List (ℕ × ℕ) → ℕ × ℕ → Object → Object
 moved_to places at object = kept_at at (map (option_map (renamed places)) object.pointers) object
 
 -- an object that the collection keeps
-abbrev pub IsKept : Graph → ℕ → ℕ → Type 0
-IsKept graph g name = Live graph g name ⊎ IsOlder graph g name
+abbrev pub IsLiveOrOlder : Graph → ℕ → ℕ → Type 0
+IsLiveOrOlder graph g name = Live graph g name ⊎ IsOlder graph g name
 
 -- one to one on what is kept, defined exactly on the live objects, the identity on large ones
 pub record Renaming (block_words : ℕ) (old : Graph) (g : ℕ) (places : List (ℕ × ℕ)) : Type 0 where
   pub only_live : (name place : ℕ) → find nat_cmp name places ≡ Some place → Live old g name
   pub all_live : (name : ℕ) → Live old g name → (place : ℕ) × (find nat_cmp name places ≡ Some place)
-  pub one_to_one : (a b : ℕ) → IsKept old g a → IsKept old g b → renamed places a ≡ renamed places b → a ≡ b
+  pub one_to_one : (a b : ℕ) → IsLiveOrOlder old g a → IsLiveOrOlder old g b → renamed places a ≡ renamed places b → a ≡ b
   pub large_stays : (name : ℕ) (o : Object) → Live old g name → object_at old name ≡ Some o → IsTrue (is_large block_words o) → renamed places name ≡ name
 
 -- new is what a collection of the generations 0 to g leaves of old, renamed by places
@@ -34,5 +34,5 @@ pub record Collected (shape : Shape) (block_words : ℕ) (old : Graph) (g : ℕ)
   pub renaming : Renaming block_words old g places
   pub live : (name : ℕ) (o : Object) → Live old g name → object_at old name ≡ Some o → object_at new (renamed places name) ≡ Some (moved_to places (dest shape (o.generation, o.step)) o)
   pub older : (name : ℕ) (o : Object) → IsOlder old g name → object_at old name ≡ Some o → object_at new name ≡ Some (moved_to places (o.generation, o.step) o)
-  pub no_others : (place : ℕ) (o : Object) → object_at new place ≡ Some o → (name : ℕ) × IsKept old g name × (renamed places name ≡ place)
+  pub no_others : (place : ℕ) (o : Object) → object_at new place ≡ Some o → (name : ℕ) × IsLiveOrOlder old g name × (renamed places name ≡ place)
   pub roots : (root : ℕ) → root_at new root ≡ option_map (renamed places) (root_at old root)

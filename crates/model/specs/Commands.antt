@@ -47,9 +47,9 @@ abbrev pub named : Store → List ℕ → Option ℕ
 named store name = find (slice_cmp nat_cmp) name store.names
 
 -- a fault where the test fails
-abbrev pub unless : Bool → Kind → Outcome → Outcome
-unless true kind outcome = Err kind
-unless false kind outcome = outcome
+abbrev pub fault_if : Bool → Kind → Outcome → Outcome
+fault_if true kind outcome = Err kind
+fault_if false kind outcome = outcome
 
 abbrev pub silent : Store → Outcome
 silent store = Ok (store, [])
@@ -125,20 +125,20 @@ is_too_big p q = nat_lt 100000 p || nat_lt 100000 q
 
 abbrev pub carried : Config → Store → Command → Outcome
 carried config store (New text mutator p q) =
-    unless (is_some (named store text)) NameInUse
-    (unless (not (nat_lt mutator config.mutators)) NoMutator
-    (unless (is_too_big p q) TooBig
+    fault_if (is_some (named store text)) NameInUse
+    (fault_if (not (nat_lt mutator config.mutators)) NoMutator
+    (fault_if (is_too_big p q) TooBig
     (placed_at_size config text mutator p q store (is_large_size config (1 + p + q)))))
 carried config store (Set text i target) =
-    on_object store text (λ name o. unless (not (nat_lt i (length o.pointers))) NoField (on_target store target (λ value. silent (with_object name (with_pointer o i value) store))))
+    on_object store text (λ name o. fault_if (not (nat_lt i (length o.pointers))) NoField (on_target store target (λ value. silent (with_object name (with_pointer o i value) store))))
 carried config store (Put text i value) =
-    on_object store text (λ name o. unless (not (nat_lt i (length o.plain))) NoField (silent (with_object name (record o { plain = slice_set o.plain i value }) store)))
+    on_object store text (λ name o. fault_if (not (nat_lt i (length o.plain))) NoField (silent (with_object name (record o { plain = slice_set o.plain i value }) store)))
 carried config store (Get new_text text i) =
-    unless (is_some (named store new_text)) NameInUse
+    fault_if (is_some (named store new_text)) NameInUse
     (on_object store text (λ name o. on_pointer (slice_get o.pointers i) (λ target. silent (with_name new_text target store))))
-carried config store (Drop text) = unless (not (is_some (named store text))) UnknownName (silent (without_name text store))
+carried config store (Drop text) = fault_if (not (is_some (named store text))) UnknownName (silent (without_name text store))
 carried config store (Collect g) =
-    unless (not (nat_lt g config.shape.generations)) NoGeneration (Ok (collected config g store, line_of (codes "collected") g store))
+    fault_if (not (nat_lt g config.shape.generations)) NoGeneration (Ok (collected config g store, line_of (codes "collected") g store))
 carried config store Census = Ok (store, census_text (store_census config store))
 carried config store Heap = Ok (store, heap_text store)
 

@@ -14,7 +14,7 @@ use Rattle.block_pool.specs.BlockValue.{BlockValue}
 use Rattle.pending_queues.specs.declared.lanes.view.View.{View}
 use Rattle.pending_queues.specs.Labelled.{times_at}
 use Rattle.pending_queues.specs.PassValue.{Meets, position_on, position_of}
-use Rattle.pending_queues.specs.LaneRule.{StandsIn, parts_of, exporter_of, about_in, MeetsIn, opening, spent, named, less_one, part_of, kept, handed, gathered, Sent, TookIn, Settled, FitsIn, IsKept}
+use Rattle.pending_queues.specs.LaneRule.{StandsIn, parts_of, exporter_of, about_in, MeetsIn, opening, spent, named, less_one, part_of, kept, handed, gathered, Sent, TookIn, Settled, FitsIn, IsKeptLane}
 use Rattle.pending_queues.proofs.LaneLists.{get_longer, get_middle, get_snoc, stand_grown, stand_more, times_append, times_one, none_below, one_more, total-fork, total-merge, total-two}
 
 module _ {K : Type 0} where
@@ -63,7 +63,7 @@ module _ {V : Type 0} (F : V → Type 0) where
 
 module _ {K A : Type 0} (fits : K → BlockValue → Type 0) where
   abbrev Kept : List BlockValue → List (View K A) → Type 0
-  Kept = IsKept {K = K} {A = A} fits
+  Kept = IsKeptLane {K = K} {A = A} fits
 
   -- a view with no part fits whatever was sent
   is_spent : (about : Option (K × ℕ × ℕ)) (sent front : List BlockValue) → FitsIn about sent front (spent {K = K} {A = A})

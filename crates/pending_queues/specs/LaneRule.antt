@@ -115,7 +115,7 @@ module _ {K A : Type 0} where
     pub idle_senders : 0 < parts_of about → v.parts ≡ 0 → v.senders ≡ 0
 
   -- the queue holds these blocks, and its passes have these views
-  pub record IsKept (fits : K → BlockValue → Type 0) (items : List BlockValue) (views : List (View K A)) : Type 0 where
+  pub record IsKeptLane (fits : K → BlockValue → Type 0) (items : List BlockValue) (views : List (View K A)) : Type 0 where
     pub about : Option (K × ℕ × ℕ)
     -- what was sent, and the front of it that was taken
     pub sent : List BlockValue

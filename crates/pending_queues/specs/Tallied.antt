@@ -14,15 +14,15 @@ abbrev pub raised_in : List Count → ℕ
 raised_in = total (λ (v : Count). v.raised)
 
 -- who has no part has not raised, and what was seen was raised
-pub record IsSound (raised : ℕ) (v : Count) : Type 0 where
+pub record IsSoundCount (raised : ℕ) (v : Count) : Type 0 where
   pub partless : v.parts ≡ 0 → v.raised ≡ 0
   pub seen : v.seen ≤ raised
 
 -- The word is the number of raises, as far as a word can tell it
-pub record IsKept (seats : ℕ) (s : State (Unit {0}) Count) : Type 0 where
+pub record IsKeptTally (seats : ℕ) (s : State (Unit {0}) Count) : Type 0 where
   pub wide : length s.words ≡ 1
   pub whole : total (λ (v : Count). v.parts) s.views ≡ seats
-  pub sound : (i : ℕ) (v : Count) → get_elem? s.views i ≡ some v → IsSound (raised_in s.views) v
+  pub sound : (i : ℕ) (v : Count) → get_elem? s.views i ≡ some v → IsSoundCount (raised_in s.views) v
   pub word : slice_index s.words 0 ≡ raised_in s.views % 2 ^ 64
 
 -- a seat with one part

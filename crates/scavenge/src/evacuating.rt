@@ -10,7 +10,7 @@ ghost use Rattle.scavenge.specs.Slots.{seen, IsUntouched, Looks};
 ghost use Rattle.scavenge.specs.Evacuates.{IsLeft, LooksAndRaces};
 ghost use Rattle.scavenge.specs.declared.evacuating.Evacuated.TheVariants.{Left, NoSlot, Looked, Raced};
 
-use crate::looking::standing;
+use crate::looking::forwarded_place;
 use crate::proposing::propose_there;
 use crate::racing::race_for;
 use crate::slots::slot;
@@ -86,7 +86,7 @@ pub fn evacuate<A: Allocator + Clone, C: Cells>(
         return Evacuated::Looked;
     };
     if let Some(shown) = cells.look(pass, number) {
-        let place = standing(heap, name, found.object, shown);
+        let place = forwarded_place(heap, name, found.object, shown);
         workspace.finish(Some(place));
         return Evacuated::Looked;
     }

@@ -48,7 +48,7 @@ impl From<AllocError> for LookError {
 
 /// Where an object stands whose cell shows this place: a large object at its own.
 #[inline(always)]
-pub(crate) fn standing<A: Allocator + Clone>(
+pub(crate) fn forwarded_place<A: Allocator + Clone>(
     heap: &Heap<A>,
     name: Place,
     object: ObjectRef<'_>,
@@ -147,7 +147,7 @@ pub fn look<A: Allocator + Clone, C: Cells>(
             Ok(true)
         }
         Some(place) => {
-            let place = standing(heap, name, found.object, place);
+            let place = forwarded_place(heap, name, found.object, place);
             workspace.finish(Some(place));
             Ok(true)
         }

@@ -1,8 +1,8 @@
 -- What a census shows of its table.
 use Rattle.std.specs.Prelude.{map}
 use Rattle.model.specs.Census.{Census, StepCount}
-use Rattle.steps.specs.declared.heap_data.census.StepCount as table
-use Rattle.steps.specs.declared.heap_data.census.Census.TheInside.{Inside}
+use Rattle.steps.specs.declared.heap_values.census.StepCount as table
+use Rattle.steps.specs.declared.heap_values.census.Census.TheInside.{Inside}
 
 abbrev pub step_value : table.StepCount → StepCount
 step_value c = record { generation = c.generation; step = c.step; objects = c.objects; words = c.words }

@@ -5,7 +5,7 @@ use Rattle.std.specs.FinMap.{get}
 use Rattle.model.specs.Graph.{Graph, Object, object_at, is_large}
 use Rattle.model.specs.Live.{Live}
 use Rattle.model.specs.Reached.{has}
-use Rattle.model.specs.Collected.{Collected, IsKept, renamed}
+use Rattle.model.specs.Collected.{Collected, IsLiveOrOlder, renamed}
 use Rattle.model.specs.Store.{full_rooms}
 use Rattle.layout.specs.Place.{small_word}
 use Rattle.steps.specs.HeapValue.{HeapValue, nursery_count}
@@ -39,7 +39,7 @@ pub record CollectedHeap (old : HeapValue) (g : ℕ) (places : List (ℕ × ℕ)
   pub free : (block : ℕ) → IsTrue (has new.free block) ↔ IsFreeBlock new block
   pub rising : IsStrictlyIncreasing new.free
   -- the blocks of the large objects that are kept stay theirs
-  pub large_blocks : (name : ℕ) (blocks : List ℕ) → (get new.large_blocks name ≡ Some blocks) ↔ (IsKept old.graph g name × (get old.large_blocks name ≡ Some blocks))
+  pub large_blocks : (name : ℕ) (blocks : List ℕ) → (get new.large_blocks name ≡ Some blocks) ↔ (IsLiveOrOlder old.graph g name × (get old.large_blocks name ≡ Some blocks))
   -- the remembered sets, one for each generation, are exactly those of the objects
   pub sets : length new.remembered ≡ length old.remembered
   pub remembered : RemembersExactly new.graph new.remembered

@@ -1,7 +1,7 @@
 -- A slot as numbers and words.
 use Rattle.layout.specs.Place.{place_word}
-use Rattle.steps.specs.declared.heap_data.collection.Slot.{Slot}
-use Rattle.steps.specs.declared.heap_data.collection.Slot.TheVariants.{Root, Field}
+use Rattle.steps.specs.declared.heap_values.collection.Slot.{Slot}
+use Rattle.steps.specs.declared.heap_values.collection.Slot.TheVariants.{Root, Field}
 use Rattle.steps.specs.CollectionValue.{SlotValue, root_slot, field_slot}
 
 abbrev pub slot_value : Slot → SlotValue

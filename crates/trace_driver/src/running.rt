@@ -12,8 +12,7 @@ ghost use Rattle.trace_replay.specs.Session.{Stands};
 use crate::config::RunConfig;
 use heap_text::{Sink, Source};
 use std::alloc::Allocator;
-use trace_replay::{Session, carry_out};
-use trace_session::{Fault, read_all, split_line};
+use trace_session::{Fault, Session, carry_out, read_all, split_line};
 use trace_text::Kind;
 
 /// The most bytes that a line has before its line feed.

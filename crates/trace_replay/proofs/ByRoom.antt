@@ -12,7 +12,7 @@ use Rattle.steps.specs.HeapValue.{HeapValue}
 use Rattle.steps.specs.CollectionValue.{CollectionValue, young_names}
 use Rattle.steps.specs.CollectedHeap.{CollectedHeap}
 use Rattle.steps.specs.ReportValue.{WorkerLists, all_won, renaming_of}
-use Rattle.steps.specs.declared.heap_data.report.Delivery.{Delivery}
+use Rattle.steps.specs.declared.heap_values.report.Delivery.{Delivery}
 use Rattle.workers.proofs.OneMore.{stepped_run}
 use Rattle.trace_replay.specs.Collects.{Collects, setting_at}
 use Rattle.trace_replay.specs.Together.{CollectsTogether}

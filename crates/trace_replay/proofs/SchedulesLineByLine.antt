@@ -23,7 +23,7 @@ use Rattle.trace_session.specs.Pieces.{HasNoFeed, Piece, finished, unfinished, p
 use Rattle.trace_session.proofs.PieceLemmas.{pieces_line, pieces_last}
 use Rattle.trace_replay.specs.Naming.{HasFewWorkers, meant}
 use Rattle.machine.specs.MachineValue.{MachineValue, setting_in}
-use Rattle.machine.specs.Events.{IsSameCollection, IsFull, IsShortOfBlocks}
+use Rattle.machine.specs.Events.{IsSameCollection, IsFullForEvent, IsShortOfBlocks}
 use Rattle.trace_replay.specs.Runs.{Brings, LinesRun, stay, go, BringsOn, HasCarried, IsSchedule}
 use Rattle.trace_replay.specs.Stops.{IsUnreadable, IsFaulty, unlawful, IsRefusedBlocks, by_event, by_finish, IsShort, IsStuckAfter, IsSoundLine, OfLine, StopsAt, StopsWith, cut_short, faulty}
 
@@ -160,7 +160,7 @@ module _ (number : ℕ) (line : List ℕ) (m : MachineValue) where
       → MatchEachFault e
       (λ _ _. ⊥)
       (λ at kind. (at ≡ number) × (kind ≡ NotLawful) × ¬ IsLawful (setting_in m) m.system (meant event))
-      (λ at. (at ≡ Some number) × IsFull (meant event) m)
+      (λ at. (at ≡ Some number) × IsFullForEvent (meant event) m)
       (λ at. (at ≡ Some number) × IsLawful (setting_in m) m.system (meant event))
       ⊥ ⊥
       → MatchEachFault e

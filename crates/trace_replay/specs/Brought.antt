@@ -6,7 +6,7 @@ use Rattle.steps.specs.HeapValue.{HeapValue}
 use Rattle.steps.specs.CollectionValue.{CollectionValue}
 use Rattle.steps.specs.ReportValue.{WorkerLists, all_won}
 use Rattle.steps.specs.SettledValue.{IsSettled}
-use Rattle.steps.specs.declared.heap_data.report.Delivery.{Delivery}
+use Rattle.steps.specs.declared.heap_values.report.Delivery.{Delivery}
 use Rattle.workers.specs.System.{System}
 use Rattle.machine.specs.Collects.{ScansOnce, setting_at, opening_at}
 use Rattle.machine.specs.Together.{Reports}

@@ -7,7 +7,7 @@ use Rattle.model.specs.Commands.{Command, Collect}
 use Rattle.model.specs.declared.kind.Kind.{Kind}
 use Rattle.steps.specs.HeapValue.{HeapValue}
 use Rattle.steps.specs.ReportValue.{WorkerLists}
-use Rattle.steps.specs.declared.heap_data.report.Delivery.{Delivery}
+use Rattle.steps.specs.declared.heap_values.report.Delivery.{Delivery}
 use Rattle.workers.specs.System.{System}
 use Rattle.trace_replay.specs.Collects.{Collects, setting_at, opening_at}
 use Rattle.trace_replay.specs.Together.{Reports}

@@ -12,8 +12,7 @@ use crate::schedules::{settled_by_itself, settled_by_schedule};
 use heap_text::{Cause, Sink, WriteFailed, workers_text, write_report};
 use model::Kind;
 use std::alloc::Allocator;
-use trace_session::Fault;
-use trace_session::trace_step::Session;
+use trace_session::{Fault, Session};
 
 /// Collects the generations 0 to `generation` by so many workers, 1 to 16, as the schedule says that follows line
 /// `number`, and writes what was kept and freed and what each worker did. It gives the number of the line after the

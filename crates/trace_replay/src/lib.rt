@@ -7,4 +7,3 @@ mod schedule_events;
 mod schedules;
 
 pub use replaying::replay;
-pub use trace_session::trace_step::{Session, carry_out};

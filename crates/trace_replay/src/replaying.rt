@@ -15,8 +15,7 @@ use heap::Config;
 use heap_text::{Sink, Source};
 use model::Kind;
 use std::alloc::Allocator;
-use trace_session::trace_step::{Session, attempt};
-use trace_session::{Attempt, Fault, read_all, split_line};
+use trace_session::{Attempt, Fault, Session, attempt_line, read_all, split_line};
 use trace_text::{Command, Line, parse};
 
 /// The most bytes that a line has before its line feed.
@@ -57,7 +56,7 @@ fn carry_out_line<A: Allocator + Clone, W: Sink>(
         ⊥
         (W.failed_writes writer.new ≡ W.failed_writes writer.old + 1)) }
 {
-    match attempt(session, number, line, writer) {
+    match attempt_line(session, number, line, writer) {
         Ok(Attempt::Done) => return Ok(()),
         Ok(Attempt::NurseryFull) => {}
         Err(fault) => return Err(fault),
@@ -66,7 +65,7 @@ fn carry_out_line<A: Allocator + Clone, W: Sink>(
         Ok(()) => {}
         Err(fault) => return Err(fault),
     }
-    match attempt(session, number, line, writer) {
+    match attempt_line(session, number, line, writer) {
         Ok(Attempt::Done) => Ok(()),
         // A collection leaves each nursery with room.
         Ok(Attempt::NurseryFull) => Err(Fault::HeapFull(Some(number))),

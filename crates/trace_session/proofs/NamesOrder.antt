@@ -13,7 +13,7 @@ use Rattle.std.proofs.lemmas.List.{map-append, length-map, get_or-map}
 use Rattle.std.proofs.lemmas.List.Sorted.{IsPermutation-map, IsPermutation-sym}
 use Rattle.std.proofs.lemmas.Map.Keys.{sorted_from_all_adjacent, apart_from_distinct}
 use Rattle.std.proofs.lemmas.Bool.{and_from}
-use Rattle.steps.specs.declared.heap_data.root_id.RootId.{RootId}
+use Rattle.steps.specs.declared.heap_values.root_id.RootId.{RootId}
 use Rattle.heap_text.specs.declared.listing.Name.{Name}
 use Rattle.heap_text.specs.HeapLines.{name_value}
 use Rattle.trace_session.specs.NamesView.{name_entry, in_order}

@@ -11,7 +11,7 @@ use Rattle.model.specs.Graph as graph
 use Rattle.model.specs.Graph.{Graph, Object, root_at}
 use Rattle.model.specs.Reached.{has}
 use Rattle.model.specs.Live.{IsOlder}
-use Rattle.model.specs.Collected.{Collected, IsKept, renamed}
+use Rattle.model.specs.Collected.{Collected, IsLiveOrOlder, renamed}
 use Rattle.model.specs.Destination.{dest}
 use Rattle.model.specs.Config.{Config}
 use Rattle.model.specs.Store.{Store, object_at, targets, live_list, collected, moved, kept_or_gone}
@@ -86,7 +86,7 @@ module _ (config : Config) (g : ℕ) (store : Store) (place : ℕ → ℕ) (heap
   older_place : (name : ℕ) (o : Object) → object_at store name ≡ Some o → g < o.generation → IsOlder heap g (place name)
   older_place name o there older = record { object = renamed_object place o; there = placed.objects name o there; older = older }
 
-  is_kept : (name : ℕ) (o : Object) → Was name o → IsKept heap g (place name)
+  is_kept : (name : ℕ) (o : Object) → Was name o → IsLiveOrOlder heap g (place name)
   is_kept name o (is_live was there young listed is) = inl (listed_live store place heap names placed before g name listed)
   is_kept name o (is_old there older) = inr (older_place name o there older)
 
@@ -116,7 +116,7 @@ module _ (config : Config) (g : ℕ) (store : Store) (place : ℕ → ℕ) (heap
       ∙ c.older (place name) (renamed_object place o) (older_place name o there older) (placed.objects name o there)
       ∙ ap (λ ps. Some (record { pointers = ps; plain = o.plain; generation = o.generation; step = o.step })) (pointers_twice place (renamed places) o.pointers)
 
-  from_kept : (at : ℕ) → IsKept heap g at → (name : ℕ) × ((x : Object) × ((object_at after name ≡ Some x) × (place name ≡ at)))
+  from_kept : (at : ℕ) → IsLiveOrOlder heap g at → (name : ℕ) × ((x : Object) × ((object_at after name ≡ Some x) × (place name ≡ at)))
   from_kept at (inl live) =
       let l = live_listed store place heap names placed before g at live in
       let o = young_object store g l.name (listed_young store place heap names placed before g l.name l.listed) in

@@ -9,10 +9,10 @@ use Rattle.model.specs.declared.kind.Kind.TheVariants.{NameInUse, NoMutator, Too
 use Rattle.model.specs.Config.{Config}
 use Rattle.model.specs.Room.{Room, room_after, full_room}
 use Rattle.model.specs.Store.{Store, collected}
-use Rattle.model.specs.Commands.{Command, New, Set, Put, Get, Drop, Collect, Census, Heap, Outcome, unless, named, room_in, is_large_size, is_too_big, with_new, with_room}
+use Rattle.model.specs.Commands.{Command, New, Set, Put, Get, Drop, Collect, Census, Heap, Outcome, fault_if, named, room_in, is_large_size, is_too_big, with_new, with_room}
 use Rattle.trace_text.specs.Grammar.{entry_of, ◌>>=◌}
 use Rattle.trace_session.specs.Outcome.{command_step, entry_step, line_step}
-use Rattle.trace_session.specs.Sound.{IsSound, IsSoundCommand}
+use Rattle.trace_session.specs.Sound.{IsSoundLine, IsSoundCommand}
 use Rattle.trace_session.specs.CollectsFirst.{has_no_room, CollectsFirst, ReadCollectsFirst, LineCollectsFirst, auto_line}
 
 module _ (config : Config) (store : Store) where
@@ -27,7 +27,7 @@ module _ (config : Config) (store : Store) where
       let fits : nat_le (0 + size) config.block_words ≡ true = le-leb (0 + size) config.block_words (omega (arith, ltb-false (config.block_words / 4) size small)) in
       (record { left = full.left; used = 0 + size }, ap (option_and_then (λ room. room_after config.block_words room size)) there ∙ rw fits refl)
 
-  no_fault : (b : Bool) (kind : Kind) (o : Outcome) → is_ok (unless b kind o) ≡ true → b ≡ false
+  no_fault : (b : Bool) (kind : Kind) (o : Outcome) → is_ok (fault_if b kind o) ≡ true → b ≡ false
   no_fault true kind o ok = absurd (true≢false (sym ok))
   no_fault false kind o ok = refl
 
@@ -54,9 +54,9 @@ module _ (config : Config) (store : Store) where
       let small : is_large_size config size ≡ false = not_true (is_large_size config size) parts.0 in
       let none : room_in config m size store ≡ None = is_none (room_in config m size store) (not_true (is_some (room_in config m size store)) parts.1) in
       let free : is_some (named store text) ≡ false = no_fault (is_some (named store text)) NameInUse _ ok in
-      let first : is_ok (unless (not (nat_lt m config.mutators)) NoMutator (unless (is_too_big p q) TooBig _)) ≡ true = rw free at ok in
+      let first : is_ok (fault_if (not (nat_lt m config.mutators)) NoMutator (fault_if (is_too_big p q) TooBig _)) ≡ true = rw free at ok in
       let known : nat_lt m config.mutators ≡ true = not_false (nat_lt m config.mutators) (no_fault (not (nat_lt m config.mutators)) NoMutator _ first) in
-      let second : is_ok (unless (is_too_big p q) TooBig _) ≡ true = rw known at first in
+      let second : is_ok (fault_if (is_too_big p q) TooBig _) ≡ true = rw known at first in
       let fits : is_too_big p q ≡ false = no_fault (is_too_big p q) TooBig _ second in
       let room = room_is m size (ltb-true m config.mutators known) small in
       with_room_then text m p q room.0 free known fits small none room.1
@@ -85,6 +85,6 @@ module _ (config : Config) (store : Store) where
   read_again (Ok (Some Census)) first ok = absurd first
   read_again (Ok (Some Heap)) first ok = absurd first
 
-  pub line_again : (line : List ℕ) → LineCollectsFirst config store line → IsSound config store line → Again (line_step config store line) (line_step config after_it line) (LineCollectsFirst config after_it line)
+  pub line_again : (line : List ℕ) → LineCollectsFirst config store line → IsSoundLine config store line → Again (line_step config store line) (line_step config after_it line) (LineCollectsFirst config after_it line)
   unfolding line_step
   line_again line first ok = read_again (entry_of line) first ok

@@ -13,7 +13,7 @@ use Rattle.model.specs.Store.{Store, empty_store}
 use Rattle.model.specs.Commands.{New, Drop, room_in, is_large_size, is_too_big, with_new, with_room, without_name}
 use Rattle.heap.specs.HeapValue.{HeapValue, empty_heap}
 use Rattle.heap.specs.Commands.{Allocates, AllocatesSmall, AllocatesLarge}
-use Rattle.steps.specs.declared.heap_data.root_id.RootId.{RootId}
+use Rattle.steps.specs.declared.heap_values.root_id.RootId.{RootId}
 use Rattle.trace_session.specs.CollectsFirst.{CollectsFirst}
 use Rattle.trace_session.specs.Outcome.{command_step}
 use Rattle.trace_session.specs.Sound.{IsSoundCommand}

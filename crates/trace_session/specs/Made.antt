@@ -5,7 +5,7 @@ use Rattle.model.specs.Config.{Config}
 use Rattle.heap.specs.HeapValue.{HeapValue, empty_heap}
 use Rattle.heap.specs.Commands.{Allocates, AddsRoot, Changes, IsValue, Stores, pointer_of}
 use Rattle.heap.specs.ReportValue.{WorkerLists}
-use Rattle.steps.specs.declared.heap_data.report.Delivery.{Delivery}
+use Rattle.steps.specs.declared.heap_values.report.Delivery.{Delivery}
 use Rattle.collector.specs.Collects.{CollectsAlone}
 use Rattle.collector.specs.Together.{CollectsTogether}
 

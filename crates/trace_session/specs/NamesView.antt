@@ -4,7 +4,7 @@ use Rattle.std.specs.HashMap.{HashMap}
 use Rattle.std.specs.Ordering.{nat_cmp}
 use Rattle.std.specs.Cmp.Lexicographic.{slice_cmp}
 use Rattle.std.specs.FinMap.{find, put}
-use Rattle.steps.specs.declared.heap_data.root_id.RootId.{RootId}
+use Rattle.steps.specs.declared.heap_values.root_id.RootId.{RootId}
 
 abbrev pub name_entry : {A : Type 0} → Vec ℕ A × RootId → List ℕ × ℕ
 name_entry e = (e.0.items, e.1.number)

@@ -7,7 +7,8 @@ mod store_places;
 mod trace_lines;
 mod trace_names;
 mod trace_prints;
-pub mod trace_step;
+mod trace_step;
 
 pub use session::Session;
 pub use trace_lines::{Attempt, Fault, read_all, split_line, write_fault};
+pub use trace_step::{attempt_line, carry_out};

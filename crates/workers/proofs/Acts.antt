@@ -5,7 +5,7 @@ use Rattle.std.specs.Prelude.{if◌then◌else◌, IsSome}
 use Rattle.std.specs.Option.{option_and_then, option_map, option_map_or}
 use Rattle.model.specs.Graph.{Object, size_of, is_large}
 use Rattle.workers.specs.Block.{Block, Copy, used_words, empty_block, has_unscanned, front_copy, updated, with_copy, with_front_moved}
-use Rattle.workers.specs.Setting.{Setting, old_field, is_collected, is_large_name, destination_of, copy_into, fits_in, IsFull}
+use Rattle.workers.specs.Setting.{Setting, old_field, is_collected, is_large_name, destination_of, copy_into, fits_in, IsFullBlock}
 use Rattle.workers.specs.Worker.{Worker, Proposal, Copied, Claimed, Hand, Nothing, Open, Holding, HoldingLarge, allocation_at, current_in, current_object}
 use Rattle.workers.specs.WorkerSteps.{slot_of_starts, current_slot, collected_target, cell_wanted, write_hand, finish_first, finish_slot, is_open_at, retired, with_new_block, propose_into, propose_copy, look_at, look_slot, after_look, race_of, after_race, scan_open, scan_hand, log_scan, after_scan, without_oldest, after_take, after_own, claim_first, CanScan, IsFree, has_open_work}
 use Rattle.workers.specs.WorkerRun.{WorkerRun, stay, go, Act, Looked, Raced, Scanned, Exported, Took, Owned, OwnedLarge, after, CanAct, History, no_history, noted, noted_look, known_by_race, first_alone}
@@ -101,7 +101,7 @@ module _ (setting : Setting) where
   current-set w d v (Holding b) ne = refl
   current-set w d v (HoldingLarge n) ne = refl
 
-  new_block : (w : Worker) (h : History) (d number : ℕ) → Fit w → OnSome (IsFull setting) (allocation_at w d) → d < length w.allocation → NewBlock w h d number (with_new_block w d number)
+  new_block : (w : Worker) (h : History) (d number : ℕ) → Fit w → OnSome (IsFullBlock setting) (allocation_at w d) → d < length w.allocation → NewBlock w h d number (with_new_block w d number)
   new_block w h d number f full rg = go (allocation_at w d) refl
     where
       fresh : OnSome (λ b. b ≡ empty_block number d) (at (set w.allocation d (Some (empty_block number d))) d)
@@ -113,8 +113,8 @@ module _ (setting : Setting) where
           record { move = draws d number a rg; current = current-set w d _ w.hand ne; starts = refl; fields = refl; proposal = refl; empty = fresh }
       go (Some b) a = on (is_open_at d w.hand) refl
         where
-          fu : IsFull setting b
-          fu = subst (OnSome (IsFull setting)) a full
+          fu : IsFullBlock setting b
+          fu = subst (OnSome (IsFullBlock setting)) a full
 
           on2 : w.hand ≢ Open d → (x : Bool) → has_unscanned b ≡ x → NewBlock w h d number (record (cond x (record w { aside = w.aside ++ b ∷ [] }) (record w { done = w.done ++ b ∷ [] })) { allocation = set w.allocation d (Some (empty_block number d)) })
           on2 ne true u = record { move = retires_aside d number b a ne u fu; current = current-set w d _ w.hand ne; starts = refl; fields = refl; proposal = refl; empty = fresh }
@@ -138,11 +138,11 @@ module _ (setting : Setting) where
       on (Some o) e = let k : size_of o ≤ setting.block_words / 4 = ltb-false _ _ e in omega arith
 
   -- where a small object doesn't fit, the block is full
-  pub not-fits-full : (name : ℕ) (o : Option Block) → is_large_name setting name ≡ false → fits_in setting name o ≡ false → OnSome (IsFull setting) o
+  pub not-fits-full : (name : ℕ) (o : Option Block) → is_large_name setting name ≡ false → fits_in setting name o ≡ false → OnSome (IsFullBlock setting) o
   not-fits-full name None l z = tt
   not-fits-full name (Some b) l z = on (setting.object name) l (leb-false _ _ z)
     where
-      on : (o : Option Object) → option_map_or (is_large setting.block_words) o false ≡ false → setting.block_words < used_words b + option_map_or size_of o 0 → IsFull setting b
+      on : (o : Option Object) → option_map_or (is_large setting.block_words) o false ≡ false → setting.block_words < used_words b + option_map_or size_of o 0 → IsFullBlock setting b
       on None e f = omega arith
       on (Some o) e f = let k : size_of o ≤ setting.block_words / 4 = ltb-false _ _ e in omega arith
 

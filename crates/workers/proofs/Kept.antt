@@ -9,7 +9,7 @@ use Rattle.model.specs.Graph.{Graph, Object, object_at, is_large}
 use Rattle.model.specs.Reached.{first, later}
 use Rattle.model.specs.Live.{Live, IsStart, IsYoung, IsOlder}
 use Rattle.model.specs.Destination.{Shape}
-use Rattle.model.specs.Collected.{Renaming, IsKept, renamed}
+use Rattle.model.specs.Collected.{Renaming, IsLiveOrOlder, renamed}
 use Rattle.workers.specs.Block.{Block, Copy, has_unscanned}
 use Rattle.workers.specs.Setting.{Setting, setting_of, old_field, is_collected, is_large_name}
 use Rattle.workers.specs.Worker.{Worker}
@@ -116,7 +116,7 @@ module _ (graph : Graph) (g : ℕ) (shape : Shape) (block_words workers : ℕ) w
       abbrev Now : ℕ → Type 0
       Now name = (Live graph g name × ((place : ℕ) × (f name ≡ Some place))) ⊎ IsOlder graph g name
 
-      live-now : (name : ℕ) → IsKept graph g name → Now name
+      live-now : (name : ℕ) → IsLiveOrOlder graph g name → Now name
       live-now name (inl l) = inl (l, live_placed graph g shape block_words workers f parts j starts name l)
       live-now name (inr o) = inr o
 

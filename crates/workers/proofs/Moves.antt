@@ -3,7 +3,7 @@ use Rattle.std.proofs.Common.{◌≡◌, ◌≢◌, ℕ, ◌+◌, ◌<◌, Bool,
 use Rattle.std.proofs.lemmas.Bool.{cases_eq}
 use Rattle.std.specs.Option.{option_and_then, option_map}
 use Rattle.workers.specs.Block.{Block, Copy, empty_block, has_unscanned, front_copy, updated, with_field, with_copy, with_front_moved}
-use Rattle.workers.specs.Setting.{Setting, old_field, is_collected, is_large_name, destination_of, copy_into, fits_in, IsFull}
+use Rattle.workers.specs.Setting.{Setting, old_field, is_collected, is_large_name, destination_of, copy_into, fits_in, IsFullBlock}
 use Rattle.workers.specs.Worker.{Worker, Proposal, Hand, Nothing, Open, Holding, HoldingLarge, allocation_at}
 use Rattle.workers.specs.WorkerRun.{History}
 use Rattle.workers.proofs.Lists.{length-set_any, at, mapped, at-updated_same, at-updated_other, at-set_same, at-set_other, length-updated, get-append, get-some, none-some}
@@ -25,9 +25,9 @@ pub data Move (setting : Setting) (w : Worker) (h : History) : Worker → Histor
   writes_held : (b : Block) (c : Copy) (o v : Option ℕ) → w.hand ≡ Holding b → front_copy b ≡ Some c → old_field setting c.name w.fields ≡ Some o → Wrote setting h.known o v → Move setting w h (record w { fields = w.fields + 1; hand = Holding (with_field w.fields v b) }) h
   writes_large : (n : ℕ) (o v : Option ℕ) → w.hand ≡ HoldingLarge n → old_field setting n w.fields ≡ Some o → Wrote setting h.known o v → Move setting w h (record w { fields = w.fields + 1 }) h
   draws : (d number : ℕ) → allocation_at w d ≡ None → d < length w.allocation → Move setting w h (record w { allocation = set w.allocation d (Some (empty_block number d)) }) (record h { drawn = h.drawn ++ number ∷ [] })
-  retires_open : (d number : ℕ) (b : Block) → allocation_at w d ≡ Some b → w.hand ≡ Open d → IsFull setting b → Move setting w h (record w { hand = Holding b; allocation = set w.allocation d (Some (empty_block number d)) }) (record h { drawn = h.drawn ++ number ∷ [] })
-  retires_aside : (d number : ℕ) (b : Block) → allocation_at w d ≡ Some b → w.hand ≢ Open d → has_unscanned b ≡ true → IsFull setting b → Move setting w h (record w { aside = w.aside ++ b ∷ []; allocation = set w.allocation d (Some (empty_block number d)) }) (record h { drawn = h.drawn ++ number ∷ [] })
-  retires_done : (d number : ℕ) (b : Block) → allocation_at w d ≡ Some b → w.hand ≢ Open d → has_unscanned b ≡ false → IsFull setting b → Move setting w h (record w { done = w.done ++ b ∷ []; allocation = set w.allocation d (Some (empty_block number d)) }) (record h { drawn = h.drawn ++ number ∷ [] })
+  retires_open : (d number : ℕ) (b : Block) → allocation_at w d ≡ Some b → w.hand ≡ Open d → IsFullBlock setting b → Move setting w h (record w { hand = Holding b; allocation = set w.allocation d (Some (empty_block number d)) }) (record h { drawn = h.drawn ++ number ∷ [] })
+  retires_aside : (d number : ℕ) (b : Block) → allocation_at w d ≡ Some b → w.hand ≢ Open d → has_unscanned b ≡ true → IsFullBlock setting b → Move setting w h (record w { aside = w.aside ++ b ∷ []; allocation = set w.allocation d (Some (empty_block number d)) }) (record h { drawn = h.drawn ++ number ∷ [] })
+  retires_done : (d number : ℕ) (b : Block) → allocation_at w d ≡ Some b → w.hand ≢ Open d → has_unscanned b ≡ false → IsFullBlock setting b → Move setting w h (record w { done = w.done ++ b ∷ []; allocation = set w.allocation d (Some (empty_block number d)) }) (record h { drawn = h.drawn ++ number ∷ [] })
   copies : (d : ℕ) (b : Block) (copy : Copy) (rest : List (ℕ × ℕ)) → allocation_at w d ≡ Some b → copy ≡ copy_into setting b copy.name → h.known ≡ (copy.name, copy.place) ∷ rest → is_large_name setting copy.name ≡ false → fits_in setting copy.name (Some b) ≡ true → is_collected setting copy.name ≡ true → d ≡ destination_of setting copy.name → Move setting w h (record w { allocation = updated (mapped (with_copy copy)) w.allocation d; won = w.won ++ (copy.name, copy.place) ∷ [] }) h
   claims : (n : ℕ) (rest : List (ℕ × ℕ)) → h.known ≡ (n, n) ∷ rest → is_large_name setting n ≡ true → Move setting w h (record w { large = w.large ++ n ∷ []; won = w.won ++ (n, n) ∷ [] }) h
   scans_open_more : (d : ℕ) (b : Block) (c : Copy) → w.hand ≡ Open d → allocation_at w d ≡ Some b → front_copy b ≡ Some c → old_field setting c.name w.fields ≡ None → has_unscanned (with_front_moved b) ≡ true → Move setting w h (record w { fields = 0; scanned = w.scanned ++ c.place ∷ []; allocation = set w.allocation d (Some (with_front_moved b)); hand = Open d }) h

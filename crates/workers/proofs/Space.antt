@@ -2,7 +2,7 @@
 use Rattle.std.proofs.Common.{◌≡◌, ℕ, zero, suc, ◌+◌, ◌-◌, ◌/◌, ◌<◌, ◌≤◌, Bool, true, false, not, ◌&&◌, List, [], ◌∷◌, ◌++◌, Option, Some, None, refl, sym, ap, subst, ◌∙◌, set, cond, length, arith, true≢false}
 use Rattle.std.specs.Prelude.{slice_set}
 use Rattle.workers.specs.Block.{Block, Copy, copy_words, used_words, empty_block, updated, with_field, with_copy, with_front_moved}
-use Rattle.workers.specs.Setting.{Setting, is_large_name, is_collected, words_of, destination_of, fits_in, IsFull}
+use Rattle.workers.specs.Setting.{Setting, is_large_name, is_collected, words_of, destination_of, fits_in, IsFullBlock}
 use Rattle.workers.specs.Worker.{Worker, allocation_at}
 use Rattle.workers.specs.WorkerSteps.{current_slot, collected_target, draw_at, draw_wanted}
 use Rattle.workers.specs.WorkerRun.{History, no_history}
@@ -42,7 +42,7 @@ module _ (setting : Setting) where
   abbrev pub Holds : Worker → History → Type 0
   Holds w h = total (λ _. least_full) h.drawn + total (of_some used_words) w.allocation ≤ total won_pair w.won + total (of_some (λ _. least_full)) w.allocation
 
-  retires : (w : Worker) (h : History) (d n : ℕ) (b : Block) → allocation_at w d ≡ Some b → IsFull setting b → Holds w h
+  retires : (w : Worker) (h : History) (d n : ℕ) (b : Block) → allocation_at w d ≡ Some b → IsFullBlock setting b → Holds w h
       → total (λ _. least_full) (h.drawn ++ n ∷ []) + total (of_some used_words) (set w.allocation d (Some (empty_block n d))) ≤ total won_pair w.won + total (of_some (λ _. least_full)) (set w.allocation d (Some (empty_block n d)))
   retires w h d n b a fu k =
       let x : total (of_some used_words) (set w.allocation d (Some (empty_block n d))) + used_words b ≡ total (of_some used_words) w.allocation + 0 = total-set_some used_words w.allocation d b (empty_block n d) a in
@@ -105,10 +105,10 @@ module _ (setting : Setting) where
   some-full (Some b ∷ al) = let h : open_full al ≤ all_full al = some-full al in omega arith
 
   -- where the block of a destination is full or there is none
-  one-full : (al : List (Option Block)) (d : ℕ) → d < length al → OnSome (IsFull setting) (at al d) → open_full al + least_full ≤ open_used al + all_full al
+  one-full : (al : List (Option Block)) (d : ℕ) → d < length al → OnSome (IsFullBlock setting) (at al d) → open_full al + least_full ≤ open_used al + all_full al
   one-full [] d l f = absurd (omega arith)
   one-full (None ∷ al) zero l f = let h : open_full al ≤ all_full al = some-full al in omega arith
-  one-full (Some b ∷ al) zero l f = let h : open_full al ≤ all_full al = some-full al in let g : IsFull setting b = f in omega arith
+  one-full (Some b ∷ al) zero l f = let h : open_full al ≤ all_full al = some-full al in let g : IsFullBlock setting b = f in omega arith
   one-full (None ∷ al) (suc d) l f = let h : open_full al + least_full ≤ open_used al + all_full al = one-full al d (omega arith) f in omega arith
   one-full (Some b ∷ al) (suc d) l f = let h : open_full al + least_full ≤ open_used al + all_full al = one-full al d (omega arith) f in omega arith
 
@@ -142,7 +142,7 @@ module _ (setting : Setting) where
         go (Some name) None q e =
             let y : is_collected setting name ≡ true = (wanted-slot setting (current_slot setting part.final) name q).1 in
             let z = parts_of (is_large_name setting name) (fits_in setting name (allocation_at part.final (destination_of setting name))) e in
-            let f : OnSome (IsFull setting) (at part.final.allocation (destination_of setting name)) = not-fits-full setting name (allocation_at part.final (destination_of setting name)) z.0 z.1 in
+            let f : OnSome (IsFullBlock setting) (at part.final.allocation (destination_of setting name)) = not-fits-full setting name (allocation_at part.final (destination_of setting name)) z.0 z.1 in
             let l : destination_of setting name < length part.final.allocation = subst (λ n. destination_of setting name < n) (sym (destinations setting moves)) (r.room name y) in
             let h = holds in
             let s : open_full part.final.allocation + least_full ≤ open_used part.final.allocation + all_full part.final.allocation = one-full part.final.allocation (destination_of setting name) l f in

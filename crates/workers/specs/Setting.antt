@@ -56,5 +56,5 @@ fits_in setting name None = false
 fits_in setting name (Some block) = nat_le (used_words block + words_of setting name) setting.block_words
 
 -- no small object is sure to fit any more
-abbrev pub IsFull : Setting → Block → Type 0
-IsFull setting block = setting.block_words < used_words block + setting.block_words / 4
+abbrev pub IsFullBlock : Setting → Block → Type 0
+IsFullBlock setting block = setting.block_words < used_words block + setting.block_words / 4

@@ -24,10 +24,10 @@ pub struct Share {
 pub struct Rule;
 
 impl<A: Allocator> TableRule<(), Share, Plan<A>> for Rule {
-    ghost use Rattle.block_pool.specs.Drawn.{share, IsKept};
+    ghost use Rattle.block_pool.specs.Drawn.{share, IsKeptDraws};
     ghost use Rattle.std.specs.Prelude.{[]};
 
-    ghost holds = { λ plan s. IsKept plan.free plan.seats s };
+    ghost holds = { λ plan s. IsKeptDraws plan.free plan.seats s };
 
     ghost first = { λ plan. share plan.free plan.seats plan.seats [] 0 };
 }

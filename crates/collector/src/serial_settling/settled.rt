@@ -13,16 +13,16 @@ ghost use Rattle.workers.specs.Joined.{somes};
 ghost use Rattle.workers.specs.Finish.{IsReached};
 ghost use Rattle.workers.specs.WorkerSteps.{IsOutOfWork};
 ghost use Rattle.scavenge.specs.Shown.{pair_of};
-ghost use Rattle.serial.specs.SerialValue.{lane_of, waiting_in, system_of, setting_in, targets_in, destinations_in};
+ghost use Rattle.one_worker.specs.SerialValue.{lane_of, waiting_in, system_of, setting_in, targets_in, destinations_in};
 ghost use Rattle.collector.specs.Settling.{IsReportOf, ScansWhatItWon, deliveries_of, own_deliveries, exports_of, shown_after};
 
 use block_pool::Block;
 use forwarding::{PlainCells, PlainPass};
 use heap::{Collection, Delivery, Heap, Settled, Won, WorkerReport};
 use layout::Place;
+use one_worker::{SerialCollection, SerialParts};
 use pending_queues::{Delivery as Outcome, PlainPending, PlainSeat};
 use scavenge::{Copies, Parts};
-use serial::{SerialCollection, SerialParts};
 use std::alloc::{AllocError, Allocator};
 
 /// What was won, by number.

@@ -1,7 +1,7 @@
 //! What two passes of boxed cells know together.
 ghost use Rattle.std.specs.Prelude.{◌≡◌, IfOk, length, map};
 ghost use Rattle.forwarding.specs.Boxed.{note_cell, note_known, Joined, Joins};
-ghost use Rattle.forwarding.specs.Noted.{IsStep, IsSound, place_of};
+ghost use Rattle.forwarding.specs.Noted.{IsStep, IsSoundNotes, place_of};
 ghost use Rattle.forwarding.specs.Settled.{ones};
 ghost use Rattle.std.specs.List.{sum_by};
 
@@ -66,7 +66,7 @@ impl BoxPass {
         ensures other { other.new ≡ other.old }
         ensures joined { Joins self.old.known other.old.known self.new.known }
         ensures many { length self.new.known ≡ length self.new.cells }
-        ensures sound { IsSound other.old.number other.old.known other.old.won }
+        ensures sound { IsSoundNotes other.old.number other.old.known other.old.won }
     {
         join_all(
             &mut self.notes,

@@ -22,10 +22,10 @@ pub struct Mind {
 pub struct Rule;
 
 impl TableRule<(), Mind, Plan> for Rule {
-    ghost use Rattle.forwarding.specs.Kept.{mind, IsKept};
+    ghost use Rattle.forwarding.specs.Kept.{mind, IsKeptWords};
     ghost use Rattle.std.specs.Prelude.{[]};
 
-    ghost holds = { IsKept };
+    ghost holds = { IsKeptWords };
 
     ghost first = { λ plan. mind plan.passes [] [] };
 }

@@ -4,7 +4,7 @@ ghost use Rattle.block_pool.specs.BlockValue.{used_of};
 
 use block_pool::Block;
 use std::alloc::Allocator;
-use steps::heap_data::{Delivery, Report, WorkerReport};
+use steps::{Delivery, Report, WorkerReport};
 
 /// How many objects the workers won together.
 fn count_won<A: Allocator>(workers: &[WorkerReport<A>]) -> u64

@@ -16,7 +16,7 @@ use crate::heap_commit::moves::renamed_roots;
 use crate::roots::Roots;
 use heap_objects::HeapObjects;
 use std::alloc::{AllocError, Allocator};
-use steps::heap_data::{Report, Settled};
+use steps::{Report, Settled};
 
 /// Ends a collection: objects and roots make the heap that the workers brought back. Where memory runs out they are as
 /// before.

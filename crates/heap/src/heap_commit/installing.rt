@@ -16,7 +16,7 @@ use block_pool::Block;
 use heap_objects::HeapObjects;
 use layout::Place;
 use std::alloc::{AllocError, Allocator};
-use steps::heap_data::Numbering;
+use steps::Numbering;
 
 /// Puts blocks in the place of the small objects of generation at most `g`, keeps of the large ones those that have a new
 /// place, and has roots and pointers of the objects that stay lead where the copies stand. Where memory runs out nothing changes.

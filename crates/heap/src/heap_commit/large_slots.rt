@@ -13,7 +13,7 @@ ghost use Rattle.heap.specs.LargeSlots.{AreLargeSlots, kept_slots};
 use heap_objects::HeapObjects;
 use layout::{LargeNumber, Place};
 use std::alloc::{AllocError, Allocator};
-use steps::heap_data::{Numbering, Slot};
+use steps::{Numbering, Slot};
 
 /// Puts the pointers of a large object that lead to objects of generation at most `g` at the end of the slots, where its own
 /// generation is at most `g` and it has a new place.

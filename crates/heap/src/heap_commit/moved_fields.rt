@@ -16,7 +16,7 @@ use crate::heap_commit::moves::{RenamedField, push_renamed};
 use heap_objects::HeapObjects;
 use layout::Place;
 use std::alloc::{AllocError, Allocator};
-use steps::heap_data::{Numbering, Slot};
+use steps::{Numbering, Slot};
 
 /// The fields among the slots, and then the pointers of the large objects that have a new place, each with the new place of
 /// what it leads to.

@@ -14,7 +14,7 @@ ghost use Rattle.heap.specs.RootView.{root_pair};
 use heap_objects::HeapObjects;
 use layout::Place;
 use std::alloc::{AllocError, Allocator};
-use steps::heap_data::{Numbering, Slot};
+use steps::{Numbering, Slot};
 
 /// A root with its new place.
 #[derive(Clone, Copy, Debug)]

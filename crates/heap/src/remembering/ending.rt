@@ -22,7 +22,7 @@ use crate::roots::Roots;
 use heap_objects::HeapObjects;
 use remembered_set::Remembered;
 use std::alloc::{AllocError, Allocator};
-use steps::heap_data::{Report, Settled};
+use steps::{Report, Settled};
 
 /// Notes what the collection brings back, where it may have a pointer to a younger object: the copies, and the large objects
 /// that it keeps. At an error some may be noted.

@@ -12,7 +12,7 @@ use heap_objects::HeapObjects;
 use layout::{LargeNumber, Place};
 use remembered_set::Remembered;
 use std::alloc::{AllocError, Allocator};
-use steps::heap_data::Collection;
+use steps::Collection;
 
 /// Notes a large object that the collection keeps and that has a pointer in the set of the generation that it goes to,
 /// where that is not the youngest.

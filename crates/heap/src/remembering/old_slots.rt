@@ -13,7 +13,7 @@ use heap_objects::HeapObjects;
 use layout::Place;
 use remembered_set::Remembered;
 use std::alloc::{AllocError, Allocator};
-use steps::heap_data::Slot;
+use steps::Slot;
 
 /// Puts the pointers of the objects of generation `h` at these places that lead to objects of generation at most `g` at
 /// the end of the slots.

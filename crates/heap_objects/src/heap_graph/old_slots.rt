@@ -14,7 +14,7 @@ use block_pool::Block;
 use large_objects::LargeTable;
 use layout::Place;
 use std::alloc::{AllocError, Allocator};
-use steps::heap_data::Slot;
+use steps::Slot;
 
 /// Puts a field at the end of the slots where its pointer leads to an object of generation at most `g`.
 fn push_field<A: Allocator, B: Allocator>(

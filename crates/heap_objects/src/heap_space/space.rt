@@ -33,8 +33,7 @@ use nursery::{
 };
 use std::alloc::{AllocError, Allocator, Global};
 use std::marker::Model;
-use steps::heap_data::StepCount;
-use steps::{Config, StepId};
+use steps::{Config, StepCount, StepId};
 
 /// The blocks of a heap, and which numbers are free.
 #[derive(Drop)]

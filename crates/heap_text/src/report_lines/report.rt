@@ -10,7 +10,7 @@ use crate::byte_streams::{Sink, WriteFailed, write_all};
 use crate::{Cause, write_collection};
 use std::alloc::{AllocError, Allocator};
 use std::fmt::Write;
-use steps::heap_data::{Delivery, WorkerReport};
+use steps::{Delivery, WorkerReport};
 
 fn push_worker<A: Allocator, B: Allocator>(
     text: &mut String<A>,

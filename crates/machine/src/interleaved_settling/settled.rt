@@ -7,8 +7,8 @@ ghost use Rattle.steps.specs.ReportValue.{all_won};
 ghost use Rattle.steps.specs.SettledValue.{IsSettled};
 ghost use Rattle.workers.specs.Joined.{Each};
 ghost use Rattle.workers.specs.Lawful.{AllEnded};
-ghost use Rattle.interleaved.specs.InterleavedValue.{system_of};
-ghost use Rattle.interleaved.specs.IsInterleaved.{HasReached};
+ghost use Rattle.workers_in_turn.specs.InterleavedValue.{system_of};
+ghost use Rattle.workers_in_turn.specs.IsInterleaved.{HasReached};
 ghost use Rattle.collector.specs.Collects.{ScansOnce};
 ghost use Rattle.collector.specs.Together.{Reports};
 ghost use Rattle.collector.specs.Settling.{shown_after};
@@ -19,10 +19,10 @@ use crate::interleaved_settling::told::all_delivered;
 use block_pool::Block;
 use collector::{in_one_list, numbered, places_in, show_large};
 use heap::{Collection, Heap, Settled, WorkerReport};
-use interleaved::{InterleavedCollection, InterleavedParts, Member};
 use layout::Place;
 use scavenge::{Parts, Workspace};
 use std::alloc::{AllocError, Allocator};
+use workers_in_turn::{InterleavedCollection, InterleavedParts, Member};
 
 /// One worker's report, and the blocks that it leaves.
 fn part_of<A: Allocator + Clone>(

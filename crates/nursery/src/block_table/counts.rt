@@ -15,8 +15,7 @@ ghost use Rattle.nursery.specs.Table.{AreHeapBlocks, objects_map, slot_at, slot_
 use crate::block_table::area_flags::AreaFlags;
 use block_pool::Block;
 use std::alloc::{AllocError, Allocator};
-use steps::StepId;
-use steps::heap_data::StepCount;
+use steps::{StepCount, StepId};
 
 /// How many objects of a generation and step the block holds, and how many words they take.
 fn count_slot<A: Allocator>(slot: &Option<Block<A>>, at: StepId) -> (u64, u64)

@@ -12,9 +12,9 @@ pub struct Rule<C> {
 }
 
 impl<C: Cargo, A: Allocator> Protocol<Block<A>, View<C::Key, A>> for Rule<C> {
-    ghost use Rattle.pending_queues.specs.LaneRule.{IsKept, opening};
+    ghost use Rattle.pending_queues.specs.LaneRule.{IsKeptLane, opening};
 
-    ghost holds = { IsKept C.fits };
+    ghost holds = { IsKeptLane C.fits };
 
     ghost first = { opening };
 }

@@ -12,9 +12,9 @@ pub struct Count {
 pub struct Rule;
 
 impl TableRule<(), Count, usize> for Rule {
-    ghost use Rattle.pending_queues.specs.Tallied.{known, IsKept};
+    ghost use Rattle.pending_queues.specs.Tallied.{known, IsKeptTally};
 
-    ghost holds = { IsKept };
+    ghost holds = { IsKeptTally };
 
     ghost first = { λ seats. known seats 0 0 };
 }

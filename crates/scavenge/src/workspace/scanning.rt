@@ -38,7 +38,7 @@ impl<A: Allocator> Workspace<A> {
     /// The current object is scanned, where it is one of a block in hand that has another unscanned behind it: tells whether
     /// it is. An error says that memory ran out, and changes nothing.
     #[inline(always)]
-    pub fn scan_on(&mut self) -> Result<bool, AllocError>
+    pub fn scan_to_next(&mut self) -> Result<bool, AllocError>
         requires proposal { self.old.worker.proposal ≡ None }
         requires hand { CanPass self.old.worker self.old.worker.hand }
         ensures some { result ≡ Ok true → self.new ≡ record self.old { worker = after_scan self.old.worker } }
@@ -66,7 +66,7 @@ impl<A: Allocator> Workspace<A> {
         ensures ok { OnOk result (self.new ≡ record self.old { worker = after_scan self.old.worker }) }
         ensures err { OnErr result (self.new ≡ self.old) }
     {
-        if self.scan_on()? {
+        if self.scan_to_next()? {
             return Ok(());
         }
         self.scan_last()

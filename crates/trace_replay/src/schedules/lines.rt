@@ -6,7 +6,7 @@ ghost use Rattle.trace_text.specs.declared.schedule.LineFault.TheVariants as fau
 ghost use Rattle.trace_session.specs.Faults.{MatchEachFault};
 ghost use Rattle.trace_replay.specs.Naming.{meant};
 ghost use Rattle.machine.specs.MachineValue.{setting_in};
-ghost use Rattle.machine.specs.Events.{Comes, IsFull};
+ghost use Rattle.machine.specs.Events.{Comes, IsFullForEvent};
 ghost use Rattle.trace_replay.specs.Runs.{Answers, BringsOn, Finished};
 ghost use Rattle.trace_replay.specs.Stops.{IsFaulty, IsShort, IsSoundLine, IsStuckAfter};
 
@@ -34,7 +34,7 @@ fn come<A: Allocator + Clone>(
     ensures err { IfErr result (λ e. MatchEachFault e
         (λ _ _. ⊥)
         (λ at kind. (at ≡ number) × (kind ≡ ScheduleKind.NotLawful) × ¬ IsLawful (setting_in machine.old) machine.old.system (meant named))
-        (λ at. (at ≡ Some number) × IsFull (meant named) machine.old)
+        (λ at. (at ≡ Some number) × IsFullForEvent (meant named) machine.old)
         (λ at. (at ≡ Some number) × IsLawful (setting_in machine.old) machine.old.system (meant named))
         ⊥ ⊥) }
 {

@@ -1,5 +1,4 @@
 //! The commands of a trace that print.
 mod printing;
 
-pub use crate::Session;
 pub use printing::{census, collect, make_room, show_heap};

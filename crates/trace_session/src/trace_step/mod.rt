@@ -2,6 +2,5 @@
 mod attempting;
 mod step;
 
-pub use crate::trace_prints::Session;
-pub use attempting::attempt;
+pub use attempting::attempt_line;
 pub use step::carry_out;

@@ -7,9 +7,10 @@ ghost use Rattle.trace_session.specs.Stepped.{AtEach, StepsTo, Writes};
 ghost use Rattle.trace_session.specs.Refusals.{IsFullForLine, MayBeFull};
 ghost use Rattle.trace_session.specs.Session.{Stands};
 
+use crate::session::Session;
 use crate::trace_lines::{Attempt, Fault};
-use crate::trace_prints::{Session, make_room};
-use crate::trace_step::attempting::attempt;
+use crate::trace_prints::make_room;
+use crate::trace_step::attempting::attempt_line;
 use heap_text::Sink;
 use std::alloc::Allocator;
 
@@ -34,7 +35,7 @@ pub fn carry_out<A: Allocator + Clone, W: Sink>(
         (W.failed_writes writer.new ≡ W.failed_writes writer.old + 1)) }
     ensures full { (at : Option ℕ) → result ≡ Err (Fault.HeapFull at) → AtEach (Stands session.old) (λ config store. IsFullForLine session.old.heap config store line.now) }
 {
-    match attempt(session, number, line, writer) {
+    match attempt_line(session, number, line, writer) {
         Ok(Attempt::Done) => return Ok(()),
         Ok(Attempt::NurseryFull) => {}
         Err(fault) => return Err(fault),
@@ -43,7 +44,7 @@ pub fn carry_out<A: Allocator + Clone, W: Sink>(
         Ok(()) => {}
         Err(fault) => return Err(fault),
     }
-    match attempt(session, number, line, writer) {
+    match attempt_line(session, number, line, writer) {
         Ok(Attempt::Done) => Ok(()),
         // A collection leaves each nursery with room.
         Ok(Attempt::NurseryFull) => Err(Fault::HeapFull(Some(number))),

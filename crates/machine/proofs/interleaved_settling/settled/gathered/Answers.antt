@@ -8,13 +8,13 @@ use Rattle.forwarding.specs.Plain.{place_of}
 use Rattle.forwarding.specs.Plain.{PlainValue as PlainCellsValue}
 use Rattle.pending_queues.specs.PlainValue.{outcomes_of}
 use Rattle.pending_queues.specs.PlainValue.{PlainValue as PlainQueuesValue}
-use Rattle.interleaved.specs.InterleavedValue.{system_of}
+use Rattle.workers_in_turn.specs.InterleavedValue.{system_of}
 use Rattle.collector.specs.Together.{AreDelivered}
 use Rattle.machine.specs.Telling.{all_deliveries}
 use Rattle.machine.proofs.Ended.{at_rest_in, brought_in, held_count, settles, scans_once, nothing_left}
 use Rattle.collector.specs.Settling.{shown_after}
 use Rattle.collector.proofs.ShownLarge.{shown_in, written_back}
-use Rattle.interleaved.specs.Handed.{CopiesKeyValue}
+use Rattle.workers_in_turn.specs.Handed.{CopiesKeyValue}
 use Rattle.machine.proofs.Delivered.{told_is, each_taken, delivered}
 use Rattle.machine.proofs.interleaved_settling.settled.gathered.Goals as goal
 

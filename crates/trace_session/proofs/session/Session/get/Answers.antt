@@ -1,6 +1,6 @@
 use Rattle.std.proofs.Common.{Err, refl, sym, ap, ◌∙◌}
 use Rattle.std.specs.Option.{option_map}
-use Rattle.steps.specs.declared.heap_data.root_id.RootId.{RootId}
+use Rattle.steps.specs.declared.heap_values.root_id.RootId.{RootId}
 use Rattle.trace_session.proofs.FieldSteps.{never_unrooted}
 use Rattle.trace_session.proofs.GetSteps.{get_in_use, get_no_field, get_nil, get_sound, loaded_sound, steps_get}
 use Rattle.trace_session.proofs.SessionSteps.{root_known, root_unknown}

@@ -2,7 +2,7 @@ use Rattle.std.proofs.Common.{Err, refl, sym, ap, ◌∙◌, ⊎_elim}
 use Rattle.std.specs.Option.{option_map}
 use Rattle.std.proofs.lemmas.Bool.{true≢false}
 use Rattle.model.specs.Commands.{target_of}
-use Rattle.steps.specs.declared.heap_data.root_id.RootId.{RootId}
+use Rattle.steps.specs.declared.heap_values.root_id.RootId.{RootId}
 use Rattle.trace_session.proofs.FieldSteps.{never_unrooted, pointer_there, value_of, set_no_field, set_sound, steps_set, unknown_target}
 use Rattle.trace_session.proofs.session.Session.set.Goals as goal
 

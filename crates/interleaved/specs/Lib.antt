@@ -1,7 +1,0 @@
--- A collection by several workers on one thread, event by event.
-pub use Rattle.scavenge.specs.Handed
-pub use Rattle.serial.specs.SerialCode
-pub use Rattle.serial.specs.IsSerial
-pub mod InterleavedValue
-pub mod IsInterleaved
-pub mod Events

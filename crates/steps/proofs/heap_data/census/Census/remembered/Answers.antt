@@ -1,5 +1,0 @@
-use Rattle.std.proofs.Common.{rules}
-use Rattle.steps.proofs.heap_data.census.Census.remembered.Goals as goal
-
-pub returns : goal.returns
-returns c = search rules

@@ -1,5 +1,0 @@
-use Rattle.std.proofs.Common.{rules}
-use Rattle.steps.proofs.heap_data.collection.Collection.free.Goals as goal
-
-pub returns : goal.returns
-returns g c = search rules

@@ -1,0 +1,12 @@
+//! What a heap tells of itself, what a collection takes from it, and what its workers bring back: plain data.
+mod census;
+mod collection;
+mod numbering;
+mod report;
+mod root_id;
+
+pub use census::{Census, LargeCount, StepCount};
+pub use collection::{Collection, Settled, Slot};
+pub use numbering::Numbering;
+pub use report::{Delivery, Report, Won, WorkerReport};
+pub use root_id::RootId;

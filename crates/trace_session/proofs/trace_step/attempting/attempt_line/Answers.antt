@@ -1,0 +1,32 @@
+use Rattle.std.proofs.Common.{◌≡◌, Ok, Some, subst}
+use Rattle.model.specs.Commands.{command_of}
+use Rattle.trace_text.specs.Answer.{view}
+use Rattle.trace_text.specs.Grammar.{entry_of}
+use Rattle.trace_session.specs.Session.{Stands}
+use Rattle.trace_session.proofs.CommandLine.{line_fault, new_line, new_fault}
+use Rattle.trace_session.proofs.trace_step.attempting.attempt_line.Goals as goal
+
+pub returns-in-Ok-Command-New-clause-ok : goal.returns-in-Ok-Command-New-clause-ok
+returns-in-Ok-Command-New-clause-ok g c =
+    let line_says = subst (λ l. entry_of c.args.line.now ≡ Ok (view l)) c.in-Ok-Command-New.field-0-is c.in-Ok-Command-New.ensures in
+    let says = subst (λ k. entry_of c.args.line.now ≡ Ok (Some (command_of k))) c.in-Ok-Command-New.field-0-0-is line_says in
+    new_line (Stands c.args.session.now) _ c.args.line.now _ says _ c.add.result c.add.ensures.ok
+
+pub returns-in-Err-carry_out_command : goal.returns-in-Err-carry_out_command
+returns-in-Err-carry_out_command g c =
+    let says = subst (λ l. entry_of c.args.line.now ≡ Ok (view l)) c.in-Ok-Command.field-0-is c.in-Ok-Command.ensures in
+    record {
+      ok = tt;
+      full = λ is. absurd (cc);
+      counts = tt;
+      rises = c.in-Err-carry_out_command.ensures.rises;
+      err =
+          line_fault c.args.session.now (Stands c.args.session.now) c.args.number c.args.line.now (command_of c.in-Ok-Command.command) says _ _ _
+          c.in-Err-carry_out_command.fault c.in-Err-carry_out_command.ensures.err;
+    }
+
+pub returns-in-Ok-Command-New-clause-err : goal.returns-in-Ok-Command-New-clause-err
+returns-in-Ok-Command-New-clause-err g c =
+    let line_says = subst (λ l. entry_of c.args.line.now ≡ Ok (view l)) c.in-Ok-Command-New.field-0-is c.in-Ok-Command-New.ensures in
+    let says = subst (λ k. entry_of c.args.line.now ≡ Ok (Some (command_of k))) c.in-Ok-Command-New.field-0-0-is line_says in
+    new_fault c.args.session.now (Stands c.args.session.now) c.args.number c.args.line.now _ _ _ _ says c.args.writer.now _ c.add.result c.add.ensures.err
