@@ -16,7 +16,6 @@ ghost use Rattle.scavenge.specs.Slots.{objects_of, Renews, Proposes, GoesTo};
 ghost use Rattle.scavenge.specs.Evacuates.{WantsMore, ProposesThere};
 
 use crate::looking::LookError;
-use crate::slots::{destination, number_of};
 use crate::workspace::Workspace;
 use block_pool::{Block, ClaimSeat, Claims};
 use heap::{Found, Heap, StepId};
@@ -38,8 +37,8 @@ fn goes_to<A: Allocator + Clone>(
     if found.object.size() as usize > config.block_words() / 4 {
         return None;
     }
-    let to = destination(config, found.at);
-    Some((to, number_of(config, to)))
+    let to = config.dest(found.at);
+    Some((to, config.dest_number(to)))
 }
 
 /// Puts a copy of a small object at the end of the block for its destination, where it fits there, and proposes it. Tells

@@ -1,17 +1,15 @@
-//! What a slot of the heap holds, and where an object goes.
+//! What a slot of the heap holds.
 ghost use Rattle.std.specs.Prelude.{◌≡◌, ◌↔◌, None, IsTrue, IsSome};
 ghost use Rattle.std.specs.Option.{option_map};
 ghost use Rattle.model.specs.Graph.{IsClosed, field_at};
-ghost use Rattle.model.specs.Destination.{dest};
 ghost use Rattle.layout.specs.Place.{place_word};
 ghost use Rattle.heap.specs.NamesArePlaces.{NamesArePlaces};
-ghost use Rattle.workers.specs.Setting.{destination_number};
 ghost use Rattle.workers.specs.WorkerSteps.{current_slot};
 ghost use Rattle.scavenge.specs.Slots.{objects_of, IsUntouched};
 
 use crate::to_space::pointer_of;
 use crate::workspace::{Current, Workspace};
-use heap::{Config, Heap, StepId};
+use heap::Heap;
 use layout::Place;
 use std::alloc::Allocator;
 
@@ -59,38 +57,4 @@ pub fn has_slot<A: Allocator + Clone>(workspace: &Workspace<A>, heap: &Heap<A>) 
     ensures { IsTrue result ↔ IsSome (current_slot (objects_of heap.now) workspace.now.worker) }
 {
     slot(workspace, heap).is_some()
-}
-
-/// Where an object goes when it survives.
-pub(crate) fn destination(config: Config, at: StepId) -> StepId
-    ensures { (result.generation, result.step) ≡ dest config.shape (at.generation, at.step) }
-{
-    let oldest = config.generations() - 1;
-    if (at.generation as usize) < oldest {
-        if (at.step as usize) < config.steps() - 1 {
-            return StepId {
-                generation: at.generation,
-                step: at.step + 1,
-            };
-        }
-        return StepId {
-            generation: at.generation + 1,
-            step: 0,
-        };
-    }
-    StepId {
-        generation: oldest as u8,
-        step: 0,
-    }
-}
-
-/// The number of a destination.
-pub(crate) fn number_of(config: Config, to: StepId) -> usize
-    ensures { result ≡ destination_number config.shape (to.generation, to.step) }
-{
-    let at = to.generation as usize * config.steps() + to.step as usize;
-    if at == 0 {
-        return 0;
-    }
-    at - 1
 }

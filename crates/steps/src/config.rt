@@ -195,7 +195,8 @@ impl Config {
         (oldest * self.steps).max(1)
     }
 
-    /// The number of a destination: they are numbered from 0, by generation, then by step.
+    /// The number of a destination: they are numbered from 0, by generation, then by step. Step 0 of generation 0 is none, but
+    /// for a heap of one generation, whose only destination it is.
     pub fn dest_number(&self, to: StepId) -> usize
         ensures { result ≡ to.generation * self.now.shape.steps + to.step - 1 }
     {
