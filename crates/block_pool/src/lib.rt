@@ -7,7 +7,7 @@ mod number_sets;
 mod pool;
 mod words;
 
-pub use crate::claims::{ClaimSeat, Claims, RankedSet};
 pub use block::Block;
+pub use claims::{ClaimSeat, Claims, RankedSet};
 pub use number_sets::{Flags, NumberSet};
 pub use pool::{GrantError, Pool};

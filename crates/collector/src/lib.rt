@@ -1,4 +1,4 @@
-//! Collections.
+//! A whole collection: a heap is opened, its live objects are evacuated, and what the workers bring is committed.
 #![tactic(auto)]
 
 ghost use Rattle.std.specs.Prelude.{◌≡◌, ◌≢◌, ◌↔◌, ◌≤◌, IfOk, OnErr, Err};

@@ -8,9 +8,9 @@ mod plain_cells;
 mod settled_pairs;
 mod word_cells;
 
-pub use crate::box_cells::{BoxCells, BoxPass};
-pub use crate::cells::{Cells, Forwards, Outcome, SettleError};
-pub use crate::plain_cells::{PlainCells, PlainPass};
-pub use crate::word_cells::{WordCells, WordPass};
+pub use box_cells::{BoxCells, BoxPass};
+pub use cells::{Cells, Forwards, Outcome, SettleError};
 pub use looking::look_then_race;
+pub use plain_cells::{PlainCells, PlainPass};
 pub use settled_pairs::settled;
+pub use word_cells::{WordCells, WordPass};

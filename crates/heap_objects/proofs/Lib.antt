@@ -11,6 +11,7 @@ pub mod Places
 pub mod Facts
 pub mod Lending
 pub mod PutIn
+pub mod GrownTable
 pub mod Replacing
 pub mod Changed
 pub mod FieldWrites

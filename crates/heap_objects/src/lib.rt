@@ -1,4 +1,4 @@
-//! The objects of a heap: small ones in blocks, and large ones beside them.
+//! The objects of a heap: small ones in blocks, and large ones beside them. They make a graph.
 #![tactic(auto)]
 
 mod heap_graph;

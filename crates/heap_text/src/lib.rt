@@ -1,4 +1,4 @@
-//! Texts of a heap, written to a sink.
+//! Where bytes come from and go to, and the texts of a heap: census, report and listing, written to a sink.
 #![tactic(auto)]
 
 mod byte_streams;
@@ -10,8 +10,7 @@ mod listing;
 mod numbering;
 mod report_lines;
 
-pub use crate::byte_streams::{Counted, Sink, WriteFailed, write_all};
-pub use byte_streams::{CountedReader, ReadFailed, Source};
+pub use byte_streams::{Counted, CountedReader, ReadFailed, Sink, Source, WriteFailed, write_all};
 pub use cause::Cause;
 pub use census::write_census;
 pub use collection::write_collection;

@@ -1,4 +1,4 @@
-//! Several workers of a collection that take turns on one thread, event by event, in whatever order.
+//! A machine: several workers of a collection on one thread, by any list of lawful events, and what they bring in the end.
 #![tactic(auto)]
 
 mod carrying;
@@ -10,7 +10,7 @@ mod running;
 mod step_error;
 mod stepping;
 
-pub use crate::interleaved_settling::SettleError;
+pub use interleaved_settling::SettleError;
 pub use machine::Machine;
 pub use machine_error::MachineError;
 pub use scavenge::LookError;

@@ -1,4 +1,4 @@
-//! The blocks that one mutator fills with new objects.
+//! The table of a heap's blocks by number, and the nursery in it: the blocks that one mutator fills with new objects.
 #![tactic(auto)]
 
 mod block_table;

@@ -1,4 +1,4 @@
-//! A collection by one worker, event by event.
+//! A collection by one worker: event by event, and all events in their order to the end.
 #![tactic(auto)]
 
 mod drawing;

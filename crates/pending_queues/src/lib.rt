@@ -13,9 +13,9 @@ mod shares;
 mod tally;
 mod telling;
 
-pub use crate::exports::{Cargo, Deliveries, Delivery};
-pub use crate::plain_queues::{PlainPending, PlainSeat};
+pub use exports::{Cargo, Deliveries, Delivery};
 pub use lanes::{Lane, LanePass};
+pub use plain_queues::{PlainPending, PlainSeat};
 pub use ruled_pending::RuledPending;
 pub use seat::PendingSeat;
 pub use tally::{Tally, TallySeat};

@@ -10,6 +10,6 @@ mod reference_data;
 mod refusal;
 mod store;
 
-pub use crate::reference_data::Config;
+pub use reference_data::Config;
 pub use refusal::Refusal;
 pub use store::Store;

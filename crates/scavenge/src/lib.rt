@@ -1,4 +1,4 @@
-//! What one worker of a collection does.
+//! What one worker of a collection does: it evacuates what its slots lead to, and scavenges the copies.
 #![tactic(auto)]
 
 mod bound;
@@ -11,7 +11,6 @@ mod slots;
 mod to_space;
 mod workspace;
 
-pub use crate::workspace::{Parts, Workspace};
 pub use bound::space_bound;
 pub use copies::{Copies, CopiesKey};
 pub use evacuating::{Evacuated, evacuate};
@@ -19,3 +18,4 @@ pub use looking::{LookError, look};
 pub use racing::race;
 pub use slots::has_slot;
 pub use to_space::AllocationBlocks;
+pub use workspace::{Parts, Workspace};

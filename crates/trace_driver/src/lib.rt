@@ -1,4 +1,4 @@
-//! Reads a trace, carries it out, with schedules or without, and writes what it prints.
+//! From bytes to bytes: a run, a replay, and the whole program over memory.
 #![tactic(auto)]
 
 mod command_line;

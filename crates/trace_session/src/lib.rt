@@ -1,4 +1,4 @@
-//! What a run of a trace keeps between its lines, and the commands that print nothing.
+//! What a run of a trace keeps between its lines, and what one line does.
 #![tactic(auto)]
 
 mod fields;

@@ -12,7 +12,8 @@ use Rattle.heap_objects.specs.Nursery.{from_first}
 use Rattle.heap_objects.specs.Space.{SpaceValue, rooms_of}
 use Rattle.heap_objects.proofs.Sound.{sound_fits}
 use Rattle.heap_objects.proofs.PutIn.{each_room, each_generation, free_before, grown_short, free_below}
-use Rattle.heap_objects.proofs.Replacing.{Goes, goes_flagged, grown_areas, same_objects, same_rooms, grown_sound, gone_there, replaced_sound, is_replaced}
+use Rattle.heap_objects.proofs.GrownTable.{Goes, goes_flagged, grown_areas, same_objects, same_rooms, grown_sound, gone_there}
+use Rattle.heap_objects.proofs.Replacing.{replaced_sound, is_replaced}
 use Rattle.heap_objects.proofs.heap_space.space.Space.replace.Goals as goal
 
 on_err : {T E : Type 0} (r : Result T E) (P : Type 0) → P → OnErr r P
