@@ -1,4 +1,4 @@
--- Collector.
+-- Lemmas of what one worker brings to the commit.
 
 pub mod SettleBrings
 pub mod SettleLists

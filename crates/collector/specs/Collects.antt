@@ -1,4 +1,4 @@
--- What a collection by one worker leaves and reports.
+-- What a collection leaves and reports, and what one worker by itself does.
 use Rattle.std.specs.Prelude.{◌≡◌, ℕ, ◌+◌, ◌<◌, ◌≤◌, Bool, List, [], ◌∷◌, length, map, flat_map, filter, not, nat_lt, sum_by}
 use Rattle.model.specs.LiveCount.{LiveCount, LiveWords}
 use Rattle.model.specs.SpaceBound.{space_bound}

@@ -1,4 +1,4 @@
--- Collections.
+-- What a collection leaves and reports.
 
 -- How a collection by one worker ends.
 pub mod Settling

@@ -1,4 +1,4 @@
-//! The heap.
+//! The heap: its errors, and its calls on whole objects, roots and collections.
 ghost use Rattle.std.specs.Prelude.{◌≡◌, ◌≢◌, ◌+◌, ◌/◌, ◌<◌, ◌≤◌, ◌↔◌, Some, None, false, IsTrue, IsSome, IsOk, IfOk, OnOk, OnErr};
 ghost use Rattle.std.specs.Option.{option_map};
 ghost use Rattle.model.specs.Graph.{root_at, without_root};

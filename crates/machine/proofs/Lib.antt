@@ -1,4 +1,4 @@
--- Machine.
+-- Lemmas of a machine of several workers.
 
 pub use Rattle.collector.proofs.SettleBrings
 pub mod ToldLists

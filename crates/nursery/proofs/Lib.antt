@@ -1,4 +1,4 @@
--- Where a nursery puts a new object.
+-- Lemmas of the table of blocks, and where a nursery puts a new object.
 
 -- The blocks of a table against the objects that they hold.
 pub mod TableLemmas

@@ -1,4 +1,4 @@
--- What contracts see of a nursery.
+-- What contracts see of a heap's table of blocks, and of a nursery in it.
 
 -- The objects of the blocks of a table.
 pub mod Table

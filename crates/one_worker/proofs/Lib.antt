@@ -1,4 +1,4 @@
--- Serial.
+-- Lemmas of a collection by one worker.
 
 mod Entries
 pub mod Bridge

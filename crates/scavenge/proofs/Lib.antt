@@ -1,4 +1,4 @@
--- Scavenge.
+-- Lemmas of the steps of one worker.
 
 -- Lemmas on the blocks and slots of a worker.
 pub mod Fields

@@ -1,4 +1,4 @@
--- One worker of a collection, and what all bring back.
+-- One worker of a collection: its blocks, its part, its steps, and what queues hand over.
 
 -- A block of copies as workers see it, and blocks by destination.
 pub mod Named

@@ -1,4 +1,4 @@
-//! What a slot of the heap holds.
+//! What the current slot holds.
 ghost use Rattle.std.specs.Prelude.{◌≡◌, ◌↔◌, None, IsTrue, IsSome};
 ghost use Rattle.std.specs.Option.{option_map};
 ghost use Rattle.model.specs.Graph.{IsClosed, field_at};

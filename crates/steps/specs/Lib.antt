@@ -1,4 +1,4 @@
--- What contracts see of the sizes of a heap and of its steps.
+-- What contracts see of the sizes of a heap and of its steps, of a heap, and of a collection of it.
 
 pub mod ConfigRange
 pub mod ConfigView

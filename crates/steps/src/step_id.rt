@@ -1,3 +1,4 @@
+//! A generation and one of its steps.
 /// A generation and one of its steps, in the order in which objects age.
 #[derive(Clone, Copy, Debug, Default, PartialEq, Eq, PartialOrd, Ord, Hash)]
 pub struct StepId {

@@ -1,3 +1,4 @@
+-- Lemmas of a collection by several workers.
 pub use Rattle.one_worker.proofs.Starts
 pub mod Places
 pub mod Members

@@ -125,7 +125,7 @@ pub record IsAt (v : InterleavedValue) (t : ℕ) (worker : Worker) : Type 0 wher
 pub is_at : (v : InterleavedValue) (t : ℕ) (worker : Worker) → slice_get (system_of v).workers t ≡ Some worker → IsAt v t worker
 is_at v t worker e = let f = found worker_of v.members t worker e in record { member = f.0; there = f.1.0; is = f.1.1 }
 
--- the event came, and what holds of a machine lasts
+-- the event came, and what holds of a collection by several workers lasts
 abbrev pub Does : Event → InterleavedValue → InterleavedValue → Type 0
 Does event v next = IsInterleaved next × Goes event v next
 
@@ -173,7 +173,7 @@ does_alone event v k t m at act can handed new is step =
           step = subst (Step (setting_in v) (system_of v) event) (sym (system-acting v t m (after (setting_in v) m.workspace.worker act) at)) step;
         }
 
--- what holds of a machine and what came, of the same machine as its calls see it
+-- what holds of a collection by several workers and what came, of the same machine as its calls see it
 pub lawful_as : {v now : InterleavedValue} (event : Event) → v ≡ now → IsLawful (setting_in now) (system_of now) event → IsLawful (setting_in v) (system_of v) event
 lawful_as event e lawful = subst (λ (x : InterleavedValue). IsLawful (setting_in x) (system_of x) event) (sym e) lawful
 

@@ -1,4 +1,4 @@
-//! Where the objects that roots and older objects lead to stand after a collection.
+//! Where the objects that roots, older objects and large ones that stay lead to stand after a collection.
 ghost use Rattle.std.specs.Prelude.{◌≡◌, ℕ, ◌<◌, ◌++◌, IfOk, OnOk, IsSome, IsSomeAnd, All, Some, None, map, length, slice_index_or};
 ghost use Rattle.std.specs.Option.{option_map};
 ghost use Rattle.std.specs.FinMap.{get};
@@ -23,7 +23,7 @@ pub(crate) struct RenamedRoot {
     pub(crate) place: Place,
 }
 
-/// A pointer of an older object, and the new place of what it leads to.
+/// A pointer of an older object, or of a large one that stays, and the new place of what it leads to.
 #[derive(Clone, Copy, Debug)]
 pub(crate) struct RenamedField {
     pub(crate) holder: Place,

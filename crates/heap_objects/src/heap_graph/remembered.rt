@@ -1,4 +1,4 @@
-//! How many objects have a pointer to an object of a younger generation.
+//! Which objects have a pointer to an object of a younger generation, and how many do.
 ghost use Rattle.std.specs.Prelude.{◌≡◌, ℕ, ◌*◌, ◌<◌, ◌≤◌, Some, length, map, nat_lt, count_by, cond, All};
 ghost use Rattle.std.specs.List.{list_any};
 ghost use Rattle.std.specs.FinMap.{values};

@@ -1,4 +1,4 @@
-//! The blocks of a heap: those of the nurseries, and those that collections filled.
+//! The blocks of a heap as one value, with the nurseries, the free numbers and the flags.
 ghost use Rattle.std.specs.Prelude.{◌≡◌, ℕ, ◌+◌, ◌*◌, ◌/◌, ◌<◌, ◌≤◌, ◌↔◌, ◌&&◌, ◌||◌, nat_eq, Some, None, Err, true, length, take, drop, IsTrue, IsSome, IfOk, IfSome, IfNone, OnOk, OnErr, MatchOption, IsSomeAnd, slice_set};
 ghost use Rattle.std.specs.FinMap.{values, get, insert};
 ghost use Rattle.std.specs.Option.{option_map};

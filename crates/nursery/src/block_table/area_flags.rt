@@ -1,4 +1,4 @@
-//! The numbers of a heap's blocks in use, by generation.
+//! Flags, for each generation, of the blocks that hold objects of it or of the younger ones.
 ghost use Rattle.std.specs.Prelude.{◌≡◌, ℕ, ◌<◌, ◌≤◌, [], true, false, length, replicate, nat_eq, nat_le, ◌&&◌, if◌then◌else◌, IfOk, OnOk, IfNone, IfSome};
 ghost use Rattle.nursery.specs.Areas.{is_flagged, HasRoom};
 

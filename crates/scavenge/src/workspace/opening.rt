@@ -1,4 +1,4 @@
-//! What a worker begins with.
+//! Which start slots are a worker's, and how many destinations there are.
 ghost use Rattle.std.specs.Prelude.{◌≡◌, ◌<◌, IfOk, map};
 ghost use Rattle.layout.specs.Place.{place_word};
 ghost use Rattle.heap.specs.SlotView.{slot_value};

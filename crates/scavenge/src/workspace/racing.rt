@@ -1,4 +1,4 @@
-//! Races for what is proposed, and how they end.
+//! What is raced with, and what a race leaves of the worker.
 ghost use Rattle.std.specs.Prelude.{◌≡◌, ◌<◌, ◌-◌, Some, None, IsSome, MatchOption};
 ghost use Rattle.layout.specs.Place.{place_word};
 ghost use Rattle.workers.specs.WorkerSteps.{after_race};

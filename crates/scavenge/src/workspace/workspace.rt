@@ -1,4 +1,4 @@
-//! What one worker of a collection has in hand and at hand.
+//! `Workspace`: one worker's part, what comes in hand, and what it brings back.
 ghost use Rattle.std.specs.Prelude.{◌≡◌, ◌≢◌, ◌∷◌, [], true, false, None, is_some, IfSome, MatchOption, ℕ, map};
 ghost use Rattle.std.specs.Option.{option_map};
 ghost use Rattle.layout.specs.Place.{place_word};
