@@ -1,4 +1,4 @@
-//! Blocks of words that hold objects, the pool of block numbers, and claims by which threads draw numbers.
+//! Blocks of words that hold objects, the pool of block numbers, sets of numbers, and claims by which threads draw them.
 #![tactic(auto)]
 
 mod block;

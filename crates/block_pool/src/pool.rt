@@ -1,3 +1,4 @@
+//! The numbers of a heap's blocks, of which some are free.
 ghost use Rattle.std.specs.Prelude.{◌≡◌, ◌≢◌, ℕ, ◌+◌, ◌<◌, ◌≤◌, ◌↔◌, ◌⊎◌, length, take, drop, Err, IsTrue, IfOk, OnOk, OnErr};
 ghost use Rattle.std.specs.List.{Contains, All};
 ghost use Rattle.std.specs.List.Sorted.{IsStrictlyIncreasing};

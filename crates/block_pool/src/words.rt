@@ -1,3 +1,4 @@
+//! An object written into words, and read back.
 ghost use Rattle.std.specs.Prelude.{◌≡◌, ◌+◌, ◌<◌, ◌≤◌, length, take, drop, replicate, get_or};
 ghost use Rattle.layout.specs.Header.{size_of};
 ghost use Rattle.layout.specs.Object.{raw_size};

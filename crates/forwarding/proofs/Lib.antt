@@ -1,4 +1,4 @@
--- Forwarding.
+-- Lemmas on pairs, and that cells of each kind keep their rule and settle.
 
 -- Pairs of names and places, counted and looked up.
 pub mod PairLemmas

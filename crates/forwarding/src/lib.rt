@@ -1,4 +1,4 @@
-//! Forwarding cells, each set once: where the collector's workers agree on the place of an object's one copy.
+//! Forwarding cells, each set once: where the workers of a collection agree on the place of an object's one copy.
 #![tactic(auto)]
 
 mod box_cells;

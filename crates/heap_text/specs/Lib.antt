@@ -1,4 +1,4 @@
--- The text of a heap.
+-- The texts of a heap, of a collection and of its workers, and what a source and a sink are.
 
 pub mod HeapLines
 pub mod Numbering

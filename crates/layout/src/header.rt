@@ -1,3 +1,4 @@
+//! The header word of an object, and sizes.
 ghost use Rattle.std.specs.Prelude.{◌≡◌, ◌≢◌, ◌+◌, ◌*◌, ◌^◌, ◌<◌, ◌≤◌, ◌↔◌, ◌/◌, ℕ, IfOk, IfSome, IfNone, IsOk, IsTrue, IsSomeAnd};
 ghost use Rattle.layout.specs.Header.{header_word, size_of};
 

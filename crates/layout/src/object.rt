@@ -1,3 +1,4 @@
+//! An object where it lies.
 ghost use Rattle.std.specs.Prelude.{◌≡◌, ◌≤◌, length};
 
 use crate::header::{Header, MOST_FIELDS};

@@ -1,3 +1,4 @@
+//! Where an object is, and the word of a place.
 ghost use Rattle.std.specs.Prelude.{◌≡◌, ◌≢◌, ◌<◌, Some, IfSome, IfNone, Option};
 
 /// Where a small object is: a block's number, and the index of the object's first word in it.

@@ -1,3 +1,4 @@
+//! The word of a pointer.
 ghost use Rattle.std.specs.Prelude.{◌≡◌};
 ghost use Rattle.layout.specs.Place.{pointer_word};
 

@@ -1,3 +1,4 @@
+//! A command of a trace.
 /// A command of a trace. Its names are slices of the line.
 #[derive(Clone, Copy, Debug, PartialEq, Eq, Hash)]
 pub enum Command<'a> {

@@ -1,3 +1,4 @@
+//! What is wrong with a line of a trace.
 /// What is wrong with a line of a trace.
 #[derive(Clone, Copy, Debug, PartialEq, Eq)]
 pub enum Kind {

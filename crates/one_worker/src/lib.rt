@@ -15,3 +15,4 @@ mod taking;
 pub use parts::SerialParts;
 pub use serial::SerialCollection;
 pub use serial_steps::run_to_end;
+pub use settling::parts_settle;

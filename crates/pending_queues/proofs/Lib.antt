@@ -1,4 +1,4 @@
--- Lemmas on what a seat keeps, on dealing, and on gathering what seats have.
+-- Lemmas on queues, tallies, seats, and what closing tells.
 
 -- Lemmas on tallies.
 pub mod TallyLemmas

@@ -5,7 +5,6 @@ mod closing;
 mod exports;
 mod lanes;
 mod opening;
-mod pending_laws;
 mod plain_queues;
 mod ruled_pending;
 mod seat;
@@ -13,7 +12,7 @@ mod shares;
 mod tally;
 mod telling;
 
-pub use exports::{Cargo, Deliveries, Delivery};
+pub use exports::{Cargo, Deliveries, Delivery, Label};
 pub use lanes::{Lane, LanePass};
 pub use plain_queues::{PlainPending, PlainSeat};
 pub use ruled_pending::RuledPending;

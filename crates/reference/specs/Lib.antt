@@ -4,5 +4,6 @@
 pub mod Table
 pub mod NamePlace
 pub mod RoomCode
+-- The forms of the computation, and a store as data.
 pub mod Plain
 pub mod StoreCode

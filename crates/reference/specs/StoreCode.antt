@@ -1,4 +1,4 @@
--- Stores and runs as data, by which a proof tells two of them apart.
+-- Stores as data.
 use Rattle.std.specs.Prelude.{ℕ, List, Option, refl}
 use Rattle.std.specs.Coded.{Coded, code_by, coded×, coded_ℕ, coded_list, coded_option}
 use Rattle.model.specs.Graph.{Object}

@@ -1,1 +1,2 @@
+-- What an allocator that refuses one request shows.
 pub mod Refused

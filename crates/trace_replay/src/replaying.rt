@@ -1,4 +1,4 @@
-//! A whole trace.
+//! A whole trace whose collections have schedules, from bytes to bytes.
 ghost use Rattle.std.specs.Prelude.{◌≡◌, ◌+◌, ◌-◌, ◌^◌, ◌*◌, ◌<◌, ◌≤◌, ◌⊎◌, ◌∷◌, Some, Ok, Err, length, MatchOption, IfSome, IfNone, IfOk, OnOk, IfErr};
 ghost use Rattle.model.specs.Commands.{Collect};
 ghost use Rattle.trace_text.specs.Grammar.{entry_of};

@@ -1,4 +1,4 @@
--- What the commands on objects and fields do to a session.
+-- Lemmas on names, lines, a store and the heap that stands for it, and commands.
 
 -- Lemmas on the names in use.
 pub mod NamedLemmas

@@ -1,4 +1,4 @@
--- What a session stands for, and where it may be refused.
+-- Lines, names, what a session stands for, and where a line may be refused.
 
 -- What the names in use are.
 pub mod NamesView
@@ -21,7 +21,7 @@ pub mod Stands
 pub mod Session
 pub mod Targets
 pub mod Refusals
--- What a session stands for, and where it may be refused.
+-- The type `Session`.
 pub use Rattle.trace_session.specs.declared.session.Session as SessionType
 -- What a line does to a session, and where it may be refused.
 pub mod Commands

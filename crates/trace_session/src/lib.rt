@@ -3,7 +3,6 @@
 
 mod fields;
 mod session;
-mod store_places;
 mod trace_lines;
 mod trace_names;
 mod trace_prints;

@@ -1,4 +1,4 @@
-//! The form of a line.
+//! The form of a line of a trace: names, numbers and commands.
 ghost use Rattle.std.specs.Prelude.{◌≡◌, ◌<◌, length};
 ghost use Rattle.std.specs.List.{list_all};
 ghost use Rattle.std.specs.Char.{is_ascii_digit};

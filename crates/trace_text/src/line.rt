@@ -1,3 +1,4 @@
+//! What a line of a trace says.
 use model::Command;
 
 /// A line of a trace. Its names are slices of the line.

@@ -1,4 +1,4 @@
--- Sums over lists.
+-- Lemmas on sums over lists.
 use Rattle.std.proofs.Common.{◌≡◌, ℕ, zero, suc, ◌+◌, ◌<◌, ◌≤◌, Bool, true, false, List, [], ◌∷◌, ◌++◌, Option, Some, None, refl, ap, ◌∙◌, set, length, arith, add-one}
 use Rattle.std.specs.Prelude.{slice_get}
 use Rattle.workers.specs.Block.{updated}

@@ -1,4 +1,4 @@
--- A collection by several workers, event by event, over names.
+-- A collection by several workers, event by event, over names, and what must come of it.
 
 pub mod Block
 pub mod Setting

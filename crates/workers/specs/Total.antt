@@ -1,4 +1,4 @@
--- Sums over lists.
+-- How often names and places stand in lists, and sums over parts of lists.
 use Rattle.std.specs.Prelude.{ℕ, zero, suc, ◌+◌, List, [], ◌∷◌, Option, Some, None, nat_eq}
 pub use Rattle.model.specs.Total.{total, one_if}
 

@@ -23,6 +23,7 @@ ghost use Rattle.workers.specs.Ordered.{TurnRun, Ordered, AreHandedOn, GoOn, Sca
 
 pub use alone::{alone_in_order, ended_run_brings, refused_run_below_bound};
 pub use ready::{exports_are_handed, run_is_ready};
+pub use run_orders::{exports_are_taken_in_order, run_scans_in_order};
 
 /// Whatever workers brought together, it is what a collection keeps.
 pub fn parts_suffice()

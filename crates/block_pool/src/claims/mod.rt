@@ -1,4 +1,4 @@
-//! Claims by which threads draw the numbers of free blocks, each once. It hands on the sets that they draw from.
+//! Claims by which threads draw the numbers of free blocks, each once.
 mod claim_plays;
 mod claims;
 

@@ -1,4 +1,4 @@
-//! The words of a command line. It knows no heap and no trace.
+//! The words of a command line. It knows no heap and no trace, but for the default sizes.
 mod words;
 
 pub use words::{Options, Refused, Task, read_words};

@@ -101,7 +101,7 @@ fn number_option<'a>(alloc: Global, name: &'a str, default: &'a str, help: &'a s
         .default_value(default)
 }
 
-/// The kind of forwarding cells; there is one kind so far.
+/// The kind of forwarding cells. The option knows one so far, and changes nothing.
 fn cells_option<'a>(alloc: Global) -> Arg<'a> {
     Arg::new(alloc, "cells")
         .long("cells")

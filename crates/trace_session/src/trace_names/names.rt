@@ -48,7 +48,7 @@ impl<A: Allocator + Clone> Names<A> {
         self.roots.get(name).copied()
     }
 
-    /// A name that is in use leads to the new root from now on.
+    /// The name leads to this root from now on, whether it was in use or not.
     pub fn insert(&mut self, alloc: A, name: &[u8], root: RootId) -> Result<(), AllocError>
         ensures ok { OnOk result (self.new ≡ put (slice_cmp nat_cmp) name.now root.number self.old) }
         ensures err { OnErr result (self.new ≡ self.old) }

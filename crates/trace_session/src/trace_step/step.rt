@@ -1,4 +1,4 @@
-//! What one line does.
+//! One line, with the collection that may have to come first.
 ghost use Rattle.std.specs.Prelude.{◌≡◌, ℕ, ◌+◌, ◌-◌, ◌^◌, ◌<◌, ◌≤◌, Option, Some, Err, OnOk, IfErr};
 ghost use Rattle.trace_session.specs.CollectsFirst.{IsSoundSoFar};
 ghost use Rattle.trace_session.specs.Faults.{MatchFault};
