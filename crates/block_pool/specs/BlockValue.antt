@@ -4,6 +4,7 @@ use Rattle.std.specs.List.{sum_by}
 use Rattle.std.specs.Coded.{Coded, code_by, coded×, coded_list, coded_option, coded_ℕ}
 use Rattle.layout.specs.Object.{Raw, raw_code, raw_size}
 
+-- a block as contracts see it
 pub record BlockValue : Type 0 where
   -- the block's number, the generation and the step that it belongs to
   pub number : ℕ

@@ -10,9 +10,11 @@ pub record Source : Type 0 where
   pub free : List ℕ
   pub seats : ℕ
 
+-- the counter as contracts see it
 pub record ClaimsValue : Type 0 where
   pub source : Source
 
+-- a seat as contracts see it
 pub record SeatValue : Type 0 where
   -- what its claims draw from
   pub source : Source

@@ -3,12 +3,14 @@ use Rattle.std.specs.Prelude.{◌≡◌, ℕ, Bool, false, refl}
 use Rattle.std.specs.Coded.{Coded, code_by, coded×, coded_ℕ, coded_bool}
 use Rattle.atomic_table.specs.Seated.{TableId, table_id_coded}
 
+-- the count as contracts see it
 pub record IdleValue : Type 0 where
   -- what no other count has
   pub name : TableId
   -- how many seats there are
   pub seats : ℕ
 
+-- a seat as contracts see it
 pub record IdleSeatValue : Type 0 where
   -- the count that it belongs to, and how many seats that has
   pub name : TableId

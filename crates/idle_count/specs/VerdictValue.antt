@@ -2,10 +2,12 @@
 use Rattle.std.specs.Prelude.{ℕ, Bool, false, Option, None}
 use Rattle.idle_count.specs.declared.cause.Cause.{Cause}
 
+-- the verdict as contracts see it
 pub record VerdictValue : Type 0 where
   -- what no other verdict has
   pub name : ℕ
 
+-- a seat as contracts see it
 pub record VerdictSeatValue : Type 0 where
   -- the verdict that it belongs to
   pub name : ℕ

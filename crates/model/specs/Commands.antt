@@ -43,20 +43,24 @@ command_of written.Heap = Heap
 abbrev pub Outcome : Type 0
 Outcome = Result (Store × List ℕ) Kind
 
+-- what a trace name leads to
 abbrev pub named : Store → List ℕ → Option ℕ
 named store name = find (slice_cmp nat_cmp) name store.names
 
--- a fault where the test fails
+-- a fault where the test succeeds
 abbrev pub fault_if : Bool → Kind → Outcome → Outcome
 fault_if true kind outcome = Err kind
 fault_if false kind outcome = outcome
 
+-- the store, with nothing written
 abbrev pub silent : Store → Outcome
 silent store = Ok (store, [])
 
+-- the store in which the trace name leads to the object of that name
 abbrev pub with_name : List ℕ → ℕ → Store → Store
 with_name text name store = record store { names = put (slice_cmp nat_cmp) text name store.names }
 
+-- the store with a new object, and the trace name leading to it
 abbrev pub with_new : List ℕ → ℕ → ℕ → Store → Store
 with_new text p q store = with_name text (length store.objects) (record store { objects = store.objects ++ Some (fresh_object p q) ∷ [] })
 
@@ -72,22 +76,27 @@ abbrev pub placed_after : Config → List ℕ → ℕ → ℕ → ℕ → Store 
 placed_after config text mutator p q store None = store
 placed_after config text mutator p q store (Some room) = with_new text p q (with_room mutator room store)
 
+-- the room that a mutator's nursery has left after so many words, or none
 abbrev pub room_in : Config → ℕ → ℕ → Store → Option Room
 room_in config mutator size store = option_and_then (λ room. room_after config.block_words room size) (slice_get store.rooms mutator)
 
+-- a new small object: in its nursery where there is room, else after a collection of generation 0
 abbrev pub placed : Config → List ℕ → ℕ → ℕ → ℕ → Store → Option Room → Outcome
 placed config text mutator p q store (Some room) = silent (with_new text p q (with_room mutator room store))
 placed config text mutator p q store None =
     let next = collected config 0 store in
     Ok (placed_after config text mutator p q next (room_in config mutator (1 + p + q) next), line_of (codes "auto") 0 store)
 
+-- more words than a quarter of a block
 abbrev pub is_large_size : Config → ℕ → Bool
 is_large_size config size = nat_lt (config.block_words / 4) size
 
+-- a new object: a large one needs no nursery
 abbrev pub placed_at_size : Config → List ℕ → ℕ → ℕ → ℕ → Store → Bool → Outcome
 placed_at_size config text mutator p q store true = silent (with_new text p q store)
 placed_at_size config text mutator p q store false = placed config text mutator p q store (room_in config mutator (1 + p + q) store)
 
+-- the store with the object of that name changed
 abbrev pub with_object : ℕ → Object → Store → Store
 with_object name o store = record store { objects = slice_set store.objects name (Some o) }
 
@@ -100,6 +109,7 @@ abbrev pub on_name : Store → (ℕ → Object → Outcome) → Option ℕ → O
 on_name store next None = Err UnknownName
 on_name store next (Some name) = on_place next name (object_at store name)
 
+-- what comes of the object that a trace name leads to, or an unknown name
 abbrev pub on_object : Store → List ℕ → (ℕ → Object → Outcome) → Outcome
 on_object store text next = on_name store next (named store text)
 
@@ -107,15 +117,18 @@ abbrev pub on_known : (Option ℕ → Outcome) → Option ℕ → Outcome
 on_known next None = Err UnknownName
 on_known next (Some name) = next (Some name)
 
+-- what comes of what a pointer is to lead to, nil or the object of a trace name
 abbrev pub on_target : Store → Option (List ℕ) → (Option ℕ → Outcome) → Outcome
 on_target store None next = next None
 on_target store (Some text) next = on_known next (named store text)
 
+-- what comes of where a pointer leads: a fault where there is no such field, or where it is nil
 abbrev pub on_pointer : Option (Option ℕ) → (ℕ → Outcome) → Outcome
 on_pointer None next = Err NoField
 on_pointer (Some None) next = Err NilPointer
 on_pointer (Some (Some name)) next = next name
 
+-- the store in which the trace name leads to nothing
 abbrev pub without_name : List ℕ → Store → Store
 without_name text store = record store { names = filter (λ e. not (eq_by_cmp (slice_cmp nat_cmp) text e.0)) store.names }
 
@@ -123,6 +136,7 @@ without_name text store = record store { names = filter (λ e. not (eq_by_cmp (s
 abbrev pub is_too_big : ℕ → ℕ → Bool
 is_too_big p q = nat_lt 100000 p || nat_lt 100000 q
 
+-- what a command does to a store and what it writes, or its fault
 abbrev pub carried : Config → Store → Command → Outcome
 carried config store (New text mutator p q) =
     fault_if (is_some (named store text)) NameInUse

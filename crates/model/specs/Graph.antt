@@ -3,12 +3,14 @@ use Rattle.std.specs.Prelude.{◌≡◌, ℕ, ◌+◌, ◌/◌, Bool, List, leng
 use Rattle.std.specs.Ordering.{nat_cmp}
 use Rattle.std.specs.FinMap.{FinMap, get, insert, remove, empty}
 
+-- an object: its pointers, each nil or a name, its plain words, and where it stands
 pub record Object : Type 0 where
   pub pointers : List (Option ℕ)
   pub plain : List ℕ
   pub generation : ℕ
   pub step : ℕ
 
+-- objects by name, and roots by their number
 pub record Graph : Type 0 where
   pub objects : FinMap nat_cmp Object
   pub roots : FinMap nat_cmp ℕ
@@ -17,9 +19,11 @@ pub record Graph : Type 0 where
 abbrev pub empty_graph : Graph
 empty_graph = record { objects = empty; roots = empty }
 
+-- the object of a name
 abbrev pub object_at : Graph → ℕ → Option Object
 object_at graph name = get graph.objects name
 
+-- what a root leads to
 abbrev pub root_at : Graph → ℕ → Option ℕ
 root_at graph root = get graph.roots root
 
@@ -47,9 +51,11 @@ with_pointer object i target = record object { pointers = slice_set object.point
 abbrev pub with_object : Graph → ℕ → Object → Graph
 with_object graph name object = record graph { objects = insert graph.objects name object }
 
+-- the graph with that root leading to the name
 abbrev pub with_root : Graph → ℕ → ℕ → Graph
 with_root graph root name = record graph { roots = insert graph.roots root name }
 
+-- the graph without that root
 abbrev pub without_root : Graph → ℕ → Graph
 without_root graph root = record graph { roots = remove graph.roots root }
 

@@ -9,6 +9,7 @@ pub record IsYoung (graph : Graph) (g name : ℕ) : Type 0 where
   pub there : object_at graph name ≡ Some object
   pub young : object.generation ≤ g
 
+-- an object of generation above g
 pub record IsOlder (graph : Graph) (g name : ℕ) : Type 0 where
   pub object : Object
   pub there : object_at graph name ≡ Some object
@@ -24,6 +25,7 @@ pub record IsOldSlot (graph : Graph) (g name i target : ℕ) : Type 0 where
   pub holder : IsOlder graph g name
   pub leads : field_at graph name i ≡ Some (Some target)
 
+-- an object of generation at most g to which a root or an old slot leads
 abbrev pub IsStart : Graph → ℕ → ℕ → Type 0
 IsStart graph g target = IsYoung graph g target × (IsRooted graph target ⊎ ((name : ℕ) × ((i : ℕ) × IsOldSlot graph g name i target)))
 

@@ -43,6 +43,7 @@ module _ {A K : Type 0} where
     -- what the exporter knew to be taken is taken
     pub cleared : exporter.cleared ≤ count
 
+  -- the lists of deliveries, one for each exporter, tell what became of each block that the seats exported
   pub record AreDelivered (seats : List (SeatValue A K)) (lists : List (List Delivery)) : Type 0 where
     -- a list for each exporter, by its number, which one seat has
     pub many : length lists ≡ length seats

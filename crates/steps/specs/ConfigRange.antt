@@ -3,6 +3,7 @@ use Rattle.std.specs.Prelude.{◌≡◌, ◌%◌, ◌≤◌}
 use Rattle.model.specs.Config.{Config}
 use Rattle.steps.specs.declared.config.Sizes.{Sizes}
 
+-- each size is within its range
 pub record IsInRange (config : Config) : Type 0 where
   pub least_words : 16 ≤ config.block_words
   pub most_words : config.block_words ≤ 512

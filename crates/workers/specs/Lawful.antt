@@ -14,21 +14,25 @@ pub record MayAct (P : Worker → Type 0) (system : System) (t : ℕ) : Type 0 w
   pub at : IsAwake system t worker
   pub can : P worker
 
+-- there is a block at the front of that queue
 pub record HasQueued (system : System) (u : ℕ) : Type 0 where
   pub block : Block
   pub rest : List Block
   pub front : slice_get system.queues u ≡ Some (block ∷ rest)
 
+-- the worker is idle, hasn't ended, and some worker is not idle
 pub record MayWake (system : System) (t : ℕ) : Type 0 where
   pub is_idle : slice_get system.idle t ≡ Some true
   pub not_ended : slice_get system.ended t ≡ Some false
   pub some_work : idle_count system < length system.workers
 
+-- the worker is idle, hasn't ended, and all are idle
 pub record MayEnd (system : System) (t : ℕ) : Type 0 where
   pub is_idle : slice_get system.idle t ≡ Some true
   pub not_ended : slice_get system.ended t ≡ Some false
   pub all_idle : idle_count system ≡ length system.workers
 
+-- the event may come now
 abbrev pub IsLawful : Setting → System → Event → Type 0
 IsLawful setting system (Look t) = MayAct (CanLook setting) system t
 IsLawful setting system (Race t) = MayAct (λ w. IsSome w.proposal) system t
@@ -120,6 +124,7 @@ next_lawful setting system = next_from system (next_of_worker setting) (lowest_u
 abbrev pub next_alone : Setting → System → Option Event
 next_alone setting system = next_from system (next_of_one setting) (lowest_unset 0 system.idle)
 
+-- every worker ended
 abbrev pub AllEnded : System → Type 0
 AllEnded system = (t : ℕ) → t < length system.workers → slice_get system.ended t ≡ Some true
 

@@ -13,9 +13,11 @@ pub record IsAwake (system : System) (t : ℕ) (worker : Worker) : Type 0 where
   pub is : slice_get system.workers t ≡ Some worker
   pub awake : slice_get system.idle t ≡ Some false
 
+-- the system with one worker changed
 abbrev pub with_worker : System → ℕ → Worker → System
 with_worker system t worker = record system { workers = slice_set system.workers t worker }
 
+-- worker t loads the cell that its current slot asks for, and draws a block where it wants one
 pub record Looks (setting : Setting) (old : System) (t : ℕ) (new : System) : Type 0 where
   pub worker : Worker
   pub at : IsAwake old t worker
@@ -28,6 +30,7 @@ pub record Looks (setting : Setting) (old : System) (t : ℕ) (new : System) : T
         free = if draw_wanted setting worker (cell_of old (cell_wanted setting worker)) then without_number number old.free else old.free;
       }
 
+-- worker t races for what it proposes: it wins where the cell is empty
 pub record Races (old : System) (t : ℕ) (new : System) : Type 0 where
   pub worker : Worker
   pub at : IsAwake old t worker
@@ -39,12 +42,14 @@ pub record Races (old : System) (t : ℕ) (new : System) : Type 0 where
         forwarded = if is_some (cell_of old (Some (proposed_name proposal))) then old.forwarded else old.forwarded ++ (proposed_name proposal, proposed_place proposal) ∷ [];
       }
 
+-- worker t is done with its current object
 pub record Scans (setting : Setting) (old : System) (t : ℕ) (new : System) : Type 0 where
   pub worker : Worker
   pub at : IsAwake old t worker
   pub can : CanScan setting worker
   pub change : new ≡ with_worker old t (after_scan worker)
 
+-- worker t puts the oldest block that it has aside at the back of its queue, labelled
 pub record Exports (old : System) (t : ℕ) (new : System) : Type 0 where
   pub worker : Worker
   pub at : IsAwake old t worker
@@ -61,6 +66,7 @@ pub record Exports (old : System) (t : ℕ) (new : System) : Type 0 where
         exported = updated (λ q. q ++ labelled ∷ []) old.exported t;
       }
 
+-- worker t takes the block at the front of queue u in hand
 pub record Takes (old : System) (t u : ℕ) (new : System) : Type 0 where
   pub worker : Worker
   pub at : IsAwake old t worker
@@ -77,6 +83,7 @@ pub record Takes (old : System) (t u : ℕ) (new : System) : Type 0 where
         taken = updated (λ l. l ++ (u, position) ∷ []) old.taken t;
       }
 
+-- worker t takes its allocation block for destination d in hand
 pub record Owns (old : System) (t d : ℕ) (new : System) : Type 0 where
   pub worker : Worker
   pub at : IsAwake old t worker
@@ -84,6 +91,7 @@ pub record Owns (old : System) (t d : ℕ) (new : System) : Type 0 where
   pub work : has_open_work worker d ≡ true
   pub change : new ≡ with_worker old t (after_own worker d)
 
+-- worker t takes a claimed large object in hand
 pub record OwnsLarge (old : System) (t : ℕ) (new : System) : Type 0 where
   pub worker : Worker
   pub at : IsAwake old t worker
@@ -91,6 +99,7 @@ pub record OwnsLarge (old : System) (t : ℕ) (new : System) : Type 0 where
   pub work : worker.large ≢ []
   pub change : new ≡ with_worker old t (after_own_large worker)
 
+-- worker t, out of work and with an empty queue, is idle
 pub record GoesIdle (old : System) (t : ℕ) (new : System) : Type 0 where
   pub worker : Worker
   pub at : IsAwake old t worker
@@ -98,18 +107,21 @@ pub record GoesIdle (old : System) (t : ℕ) (new : System) : Type 0 where
   pub queue : slice_get old.queues t ≡ Some []
   pub change : new ≡ record old { idle = slice_set old.idle t true }
 
+-- worker t, while some other is not idle, is idle no more
 pub record Wakes (old : System) (t : ℕ) (new : System) : Type 0 where
   pub is_idle : slice_get old.idle t ≡ Some true
   pub not_ended : slice_get old.ended t ≡ Some false
   pub some_work : idle_count old < length old.workers
   pub change : new ≡ record old { idle = slice_set old.idle t false }
 
+-- worker t has seen that all are idle
 pub record Ends (old : System) (t : ℕ) (new : System) : Type 0 where
   pub is_idle : slice_get old.idle t ≡ Some true
   pub not_ended : slice_get old.ended t ≡ Some false
   pub all_idle : idle_count old ≡ length old.workers
   pub change : new ≡ record old { ended = slice_set old.ended t true }
 
+-- what each event does to the system
 abbrev pub Step : Setting → System → Event → System → Type 0
 Step setting old (Look t) new = Looks setting old t new
 Step setting old (Race t) new = Races old t new

@@ -15,6 +15,7 @@ pub data Hand : Type 0 where
   Holding : (block : Block) → Hand
   HoldingLarge : (name : ℕ) → Hand
 
+-- what one worker of a collection has
 pub record Worker : Type 0 where
   pub starts : List ℕ  -- what each unfinished start slot leads to
   pub fields : ℕ  -- how many pointers of the current object are finished

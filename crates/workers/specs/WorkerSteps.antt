@@ -9,6 +9,7 @@ abbrev pub slot_of_starts : Setting → Option (ℕ × ℕ) → ℕ → List ℕ
 slot_of_starts setting current fields (target ∷ targets) = Some (Some target)
 slot_of_starts setting current fields [] = option_and_then (λ c. old_field setting c.0 fields) current
 
+-- what the current slot holds, where there is one
 abbrev pub current_slot : Setting → Worker → Option (Option ℕ)
 current_slot setting worker = slot_of_starts setting (current_object worker) worker.fields worker.starts
 
@@ -32,6 +33,7 @@ collected_target setting None = None
 collected_target setting (Some None) = None
 collected_target setting (Some (Some name)) = if is_collected setting name then Some name else None
 
+-- the name whose cell a look at the current slot loads
 abbrev pub cell_wanted : Setting → Worker → Option ℕ
 cell_wanted setting worker = collected_target setting (current_slot setting worker)
 
@@ -44,6 +46,7 @@ draw_at setting worker None cell = false
 draw_at setting worker (Some name) (Some place) = false
 draw_at setting worker (Some name) None = draws_for setting worker name
 
+-- a look draws a block, where the cell shows this
 abbrev pub draw_wanted : Setting → Worker → Option ℕ → Bool
 draw_wanted setting worker cell = draw_at setting worker (cell_wanted setting worker) cell
 
@@ -84,6 +87,7 @@ look_slot setting worker cell number None = worker
 look_slot setting worker cell number (Some None) = finish_slot None worker
 look_slot setting worker cell number (Some (Some name)) = if is_collected setting name then look_at setting worker cell number name else finish_slot (Some name) worker
 
+-- the worker after a look at its current slot
 abbrev pub after_look : Setting → Worker → Option ℕ → ℕ → Worker
 after_look setting worker cell number = look_slot setting worker cell number (current_slot setting worker)
 
@@ -97,6 +101,7 @@ race_of worker (Some (Copied copy d)) None =
 race_of worker (Some (Claimed name)) None =
     finish_slot (Some name) (record worker { proposal = None; large = worker.large ++ name ∷ []; won = worker.won ++ (name, name) ∷ [] })
 
+-- the worker after a race: the slot is finished, and a copy that lost is taken back
 abbrev pub after_race : Worker → Option ℕ → Worker
 after_race worker lost = race_of worker worker.proposal lost
 
@@ -118,6 +123,7 @@ abbrev pub log_scan : Worker → Option (ℕ × ℕ) → Worker
 log_scan worker None = worker
 log_scan worker (Some current) = record worker { fields = 0; scanned = worker.scanned ++ current.1 ∷ [] }
 
+-- the worker after its current object is scanned
 abbrev pub after_scan : Worker → Worker
 after_scan worker = scan_hand (log_scan worker (current_object worker)) worker.hand
 
@@ -126,12 +132,15 @@ abbrev pub without_oldest : Worker → List Block → Worker
 without_oldest worker [] = worker
 without_oldest worker (block ∷ blocks) = record worker { aside = blocks }
 
+-- the worker without the oldest block aside
 abbrev pub after_aside : Worker → Worker
 after_aside worker = without_oldest worker worker.aside
 
+-- the worker with the block in hand
 abbrev pub after_take : Worker → Block → Worker
 after_take worker block = record worker { hand = Holding block }
 
+-- the worker with its allocation block in hand
 abbrev pub after_own : Worker → ℕ → Worker
 after_own worker d = record worker { hand = Open d }
 
@@ -139,6 +148,7 @@ abbrev pub claim_first : Worker → List ℕ → Worker
 claim_first worker [] = worker
 claim_first worker (name ∷ names) = record worker { hand = HoldingLarge name; large = names }
 
+-- the worker with its oldest claimed large object in hand
 abbrev pub after_own_large : Worker → Worker
 after_own_large worker = claim_first worker worker.large
 
@@ -146,10 +156,12 @@ after_own_large worker = claim_first worker worker.large
 abbrev pub NoProposal : Worker → Type 0
 NoProposal worker = worker.proposal ≡ None
 
+-- there is a slot to look at and no proposal
 pub record CanLook (setting : Setting) (worker : Worker) : Type 0 where
   pub no_proposal : worker.proposal ≡ None
   pub slot : IsSome (current_slot setting worker)
 
+-- there is a current object, each of its slots is finished, and there is no proposal
 pub record CanScan (setting : Setting) (worker : Worker) : Type 0 where
   pub no_proposal : worker.proposal ≡ None
   pub hand : worker.hand ≢ Nothing
@@ -161,6 +173,7 @@ pub record IsFree (worker : Worker) : Type 0 where
   pub no_starts : worker.starts ≡ []
   pub no_hand : worker.hand ≡ Nothing
 
+-- the allocation block for the destination has an unscanned object
 abbrev pub has_open_work : Worker → ℕ → Bool
 has_open_work worker d = is_some (option_and_then (λ b. if has_unscanned b then Some b else None) (allocation_at worker d))
 

@@ -3,6 +3,7 @@ use Rattle.workers.specs.System as system
 use Rattle.workers_in_turn.specs.declared.event.Event.{Event}
 use Rattle.workers_in_turn.specs.declared.event.Event.TheVariants.{Look, Race, Scan, Export, Take, Own, OwnLarge, Idle, Wake, End}
 
+-- an event of a collection as one of the system
 abbrev pub event_of : Event → system.Event
 event_of (Look t) = system.Look t
 event_of (Race t) = system.Race t
