@@ -13,10 +13,7 @@ use crate::config::RunConfig;
 use heap_text::{Sink, Source};
 use std::alloc::Allocator;
 use trace_session::{Fault, Session, carry_out, read_all, split_line};
-use trace_text::Kind;
-
-/// The most bytes that a line has before its line feed.
-const MAX_LINE_LEN: usize = 4096;
+use trace_text::{Kind, MAX_LINE_LEN};
 
 /// Carries out the finished lines of a text from line `number` on, and gives the number of the next line and what
 /// comes after them.

@@ -11,7 +11,7 @@ use Rattle.trace_text.specs.Grammar.{entry_of}
 use Rattle.trace_text.specs.declared.schedule.ScheduleKind.{ScheduleKind}
 use Rattle.trace_session.specs.Pieces.{Piece, finished, pieces}
 use Rattle.trace_session.specs.Outcome.{piece_step}
-use Rattle.trace_session.specs.Sound.{IsSoundLine, IsSoundCommand}
+use Rattle.trace_session.specs.Sound.{IsSoundTraceLine, IsSoundCommand}
 use Rattle.trace_session.specs.CollectsFirst.{LineCollectsFirst}
 use Rattle.trace_session.specs.Refusals.{IsFullFor}
 use Rattle.trace_replay.specs.Stops.{IsUnreadable, IsRefusedBlocks, IsSoundLine, OfLine, StopsAt, StopsWith}
@@ -43,8 +43,8 @@ pub record HasScheduleFault (config : Config) (n : ℕ) (kind : ScheduleKind) (s
 -- a new object without a fault: a small one for which there is no room, and this heap has too few free blocks for n workers
 -- to collect generation 0, or a large one for which this heap is full
 pub data WantsRoom (config : Config) (n : ℕ) (s : State) (line : List ℕ) : Type 0 where
-  for_collection : IsSoundLine config s.store line → LineCollectsFirst config s.store line → IsShortOfBlocks s.heap 0 n → WantsRoom config n s line
-  for_large : IsSoundLine config s.store line → IsNoCollection (entry_of line) → IsFullFor s.heap (entry_of line) → WantsRoom config n s line
+  for_collection : IsSoundTraceLine config s.store line → LineCollectsFirst config s.store line → IsShortOfBlocks s.heap 0 n → WantsRoom config n s line
+  for_large : IsSoundTraceLine config s.store line → IsNoCollection (entry_of line) → IsFullFor s.heap (entry_of line) → WantsRoom config n s line
 
 -- the line has no fault, and blocks are wanting in it
 pub data WantsBlocks (config : Config) (n : ℕ) (s : State) (number : ℕ) (left : List Piece) (at : ℕ) : Type 0 where
@@ -53,7 +53,7 @@ pub data WantsBlocks (config : Config) (n : ℕ) (s : State) (number : ℕ) (lef
 
 -- a line without a fault, so far as it was carried out: it has written nothing yet, or of the collection that came first
 abbrev pub IsLineSoFar : Config → ℕ → State → List ℕ → (written : List ℕ) → Type 0
-IsLineSoFar config n s line written = IsSoundLine config s.store line × ((written ≡ []) ⊎ (LineCollectsFirst config s.store line × HasMadeRoom n s written))
+IsLineSoFar config n s line written = IsSoundTraceLine config s.store line × ((written ≡ []) ⊎ (LineCollectsFirst config s.store line × HasMadeRoom n s written))
 
 -- it has no fault, and has written so much
 pub data IsSoundAt (config : Config) (n : ℕ) (s : State) (number : ℕ) (left : List Piece) (at : ℕ) (written : List ℕ) : Type 0 where

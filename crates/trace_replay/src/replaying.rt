@@ -16,10 +16,7 @@ use heap_text::{Sink, Source};
 use model::Kind;
 use std::alloc::Allocator;
 use trace_session::{Attempt, Fault, Session, attempt_line, read_all, split_line};
-use trace_text::{Command, Line, parse};
-
-/// The most bytes that a line has before its line feed.
-const MAX_LINE_LEN: usize = 4096;
+use trace_text::{Command, Line, MAX_LINE_LEN, parse};
 
 /// The oldest generation that a line asks to collect.
 fn collected(line: &[u8]) -> Option<u64>

@@ -15,7 +15,7 @@ use Rattle.trace_session.specs.Attempts.{MatchAttempt}
 use Rattle.trace_session.specs.CollectsFirst.{CollectsFirst, ReadCollectsFirst, LineCollectsFirst}
 use Rattle.trace_session.specs.Faults.{MatchFault}
 use Rattle.trace_session.specs.Outcome.{line_step, entry_step, command_step}
-use Rattle.trace_session.specs.Sound.{IsSoundLine, IsSoundCommand}
+use Rattle.trace_session.specs.Sound.{IsSoundTraceLine, IsSoundCommand}
 use Rattle.trace_session.specs.Stepped.{AtEach, StepsTo, StepsQuietly}
 use Rattle.trace_session.specs.Refusals.{MayBeFull, CommandMayBeFull, ReadWantsBlocks, LacksBlocks, IsFullFor}
 use Rattle.trace_session.specs.SessionType.{Session}
@@ -25,7 +25,7 @@ line_is : (config : Config) (store : Store) (line : List ℕ) (command : Command
 unfolding line_step
 line_is config store line command says = ap (λ (read : Result (Option Command) Kind). read >>= entry_step config store) says
 
-line_sound : (config : Config) (store : Store) (line : List ℕ) (command : Command) → entry_of line ≡ Ok (Some command) → IsSoundCommand config store command → IsSoundLine config store line
+line_sound : (config : Config) (store : Store) (line : List ℕ) (command : Command) → entry_of line ≡ Ok (Some command) → IsSoundCommand config store command → IsSoundTraceLine config store line
 line_sound config store line command says sound = ap is_ok (line_is config store line command says) ∙ sound
 
 line_full : (config : Config) (store : Store) (line : List ℕ) (command : Command) → entry_of line ≡ Ok (Some command) → CommandMayBeFull config store command → MayBeFull config store line
@@ -48,7 +48,7 @@ makes_none config store Heap none = λ first. first
 -- a line that is a new object
 pub new_line : (stands stands' : Config → Store → Type 0) (line : List ℕ) (command : Command) → entry_of line ≡ Ok (Some command) → (held : Option (List ℕ)) (r : Result Attempt Fault)
     → IfOk r (λ a. AtEach stands (λ config store. MatchAttempt a (StepsQuietly stands' config (command_step config store command) × ¬ CollectsFirst config store command) (IsSoundCommand config store command × CollectsFirst config store command)))
-    → IfOk r (λ a. AtEach stands (λ config store. MatchAttempt a (StepsTo stands' config (line_step config store line) held held × ¬ LineCollectsFirst config store line) (IsSoundLine config store line × LineCollectsFirst config store line)))
+    → IfOk r (λ a. AtEach stands (λ config store. MatchAttempt a (StepsTo stands' config (line_step config store line) held held × ¬ LineCollectsFirst config store line) (IsSoundTraceLine config store line × LineCollectsFirst config store line)))
 new_line stands stands' line command says held (Ok Done) steps = λ config store there.
     let done = steps config store there in
     (record { next = done.0.next; out = []; steps = line_is config store line command says ∙ done.0.steps; stands' = done.0.stands'; held = Appends-nil held }, λ first. done.1 (subst (ReadCollectsFirst config store) says first))
@@ -67,7 +67,7 @@ pub new_fault : {A : Type 0} (session : Session A) (stands : Config → Store �
     → IfErr r (λ e. MatchFault e
     (λ at kind. (at ≡ number) × AtEach stands (λ config store. line_step config store line ≡ Err kind) × (held ≡ held))
     (λ at. (at ≡ Some number) × IsFullFor session.heap (entry_of line) × AtEach stands (λ config store. MayBeFull config store line × ¬ LineCollectsFirst config store line) × (held ≡ held))
-    (λ at. (at ≡ Some number) × AtEach stands (λ config store. IsSoundLine config store line) × (held ≡ held))
+    (λ at. (at ≡ Some number) × AtEach stands (λ config store. IsSoundTraceLine config store line) × (held ≡ held))
     ⊥ written)
 new_fault session stands number line text m p q says held written (Ok a) facts = tt
 new_fault session stands number line text m p q says held written (Err (BadTrace at kind)) facts = (facts.0, λ config store there. line_is config store line (New text m p q) says ∙ facts.1 config store there, refl)
@@ -92,7 +92,7 @@ module _ {A : Type 0} (session : Session A) (stands : Config → Store → Type 
       → MatchFault e
       (λ at kind. (at ≡ number) × AtEach stands (λ config store. line_step config store line ≡ Err kind) × (new ≡ old))
       (λ at. (at ≡ Some number) × IsFullFor session.heap (entry_of line) × AtEach stands (λ config store. MayBeFull config store line × ¬ LineCollectsFirst config store line) × (new ≡ old))
-      (λ at. (at ≡ Some number) × AtEach stands (λ config store. IsSoundLine config store line) × (new ≡ old))
+      (λ at. (at ≡ Some number) × AtEach stands (λ config store. IsSoundTraceLine config store line) × (new ≡ old))
       ⊥ written
   line_fault (BadTrace at kind) facts = (facts.0, λ config store there. line_is config store line command says ∙ facts.1 config store there, facts.2)
   line_fault (BadSchedule at kind) facts = absurd facts

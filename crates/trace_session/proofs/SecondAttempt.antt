@@ -12,7 +12,7 @@ use Rattle.model.specs.Store.{Store, collected}
 use Rattle.model.specs.Commands.{Command, New, Set, Put, Get, Drop, Collect, Census, Heap, Outcome, fault_if, named, room_in, is_large_size, is_too_big, with_new, with_room}
 use Rattle.trace_text.specs.Grammar.{entry_of, ◌>>=◌}
 use Rattle.trace_session.specs.Outcome.{command_step, entry_step, line_step}
-use Rattle.trace_session.specs.Sound.{IsSoundLine, IsSoundCommand}
+use Rattle.trace_session.specs.Sound.{IsSoundTraceLine, IsSoundCommand}
 use Rattle.trace_session.specs.CollectsFirst.{has_no_room, CollectsFirst, ReadCollectsFirst, LineCollectsFirst, auto_line}
 
 module _ (config : Config) (store : Store) where
@@ -85,6 +85,6 @@ module _ (config : Config) (store : Store) where
   read_again (Ok (Some Census)) first ok = absurd first
   read_again (Ok (Some Heap)) first ok = absurd first
 
-  pub line_again : (line : List ℕ) → LineCollectsFirst config store line → IsSoundLine config store line → Again (line_step config store line) (line_step config after_it line) (LineCollectsFirst config after_it line)
+  pub line_again : (line : List ℕ) → LineCollectsFirst config store line → IsSoundTraceLine config store line → Again (line_step config store line) (line_step config after_it line) (LineCollectsFirst config after_it line)
   unfolding line_step
   line_again line first ok = read_again (entry_of line) first ok

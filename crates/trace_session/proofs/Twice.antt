@@ -16,7 +16,7 @@ use Rattle.trace_session.specs.Attempts.{MatchAttempt}
 use Rattle.trace_session.specs.CollectsFirst.{ReadCollectsFirst, LineCollectsFirst, auto_line}
 use Rattle.trace_session.specs.Faults.{MatchFault}
 use Rattle.trace_session.specs.Outcome.{line_step}
-use Rattle.trace_session.specs.Sound.{IsSoundLine}
+use Rattle.trace_session.specs.Sound.{IsSoundTraceLine}
 use Rattle.trace_session.specs.Stepped.{AtEach, StepsTo, Writes}
 use Rattle.trace_session.proofs.SecondAttempt.{line_again}
 use Rattle.trace_session.specs.Refusals.{MayBeFull, IsShortFor, ReadWantsBlocks}
@@ -65,7 +65,7 @@ wants_blocks config store (Ok (Some Heap)) first short = absurd first
 -- of a line: what its attempts tell, where Full says when blocks may be wanting, and Made what is written where room is made
 module _ (stands : Config → Store → Type 0) (number : ℕ) (line : List ℕ) (Full : Config → Store → Type 0) (Made : Config → Store → List ℕ → Type 0) {W : Type 0} (contents : W → Option (List ℕ)) (old : W) where
   abbrev SoFar : Config → Store → List ℕ → Type 0
-  SoFar config store written = IsSoundLine config store line × ((written ≡ []) ⊎ (LineCollectsFirst config store line × Made config store written))
+  SoFar config store written = IsSoundTraceLine config store line × ((written ≡ []) ⊎ (LineCollectsFirst config store line × Made config store written))
 
   -- what a fault of the line tells
   abbrev Tells : (new : W) (failed : Type 0) → Fault → Type 0
@@ -80,7 +80,7 @@ module _ (stands : Config → Store → Type 0) (number : ℕ) (line : List ℕ)
   pub tells_full : (new : W) (failed : Type 0) (e : Fault) (at : Option ℕ) → e ≡ HeapFull at → Tells new failed e → AtEach stands Full
   tells_full new failed e at is told = λ config store there. ((subst (Tells new failed) is told).1 config store there).0
 
-  silent : (config : Config) (store : Store) (new : W) → new ≡ old → IsSoundLine config store line → Writes (SoFar config store) (contents old) (contents new)
+  silent : (config : Config) (store : Store) (new : W) → new ≡ old → IsSoundTraceLine config store line → Writes (SoFar config store) (contents old) (contents new)
   silent config store new same sound = record {
     written = [];
     held = subst (λ w. Appends (contents old) (contents w) []) (sym same) (Appends-nil (contents old));
@@ -92,7 +92,7 @@ module _ (stands : Config → Store → Type 0) (number : ℕ) (line : List ℕ)
       → MatchFault e
       (λ at kind. (at ≡ number) × AtEach stands (λ config store. line_step config store line ≡ Err kind) × (new ≡ old))
       (λ at. (at ≡ Some number) × Lacks × AtEach stands (λ config store. MayBeFull config store line × ¬ LineCollectsFirst config store line) × (new ≡ old))
-      (λ at. (at ≡ Some number) × AtEach stands (λ config store. IsSoundLine config store line) × (new ≡ old))
+      (λ at. (at ≡ Some number) × AtEach stands (λ config store. IsSoundTraceLine config store line) × (new ≡ old))
       ⊥ failed
       → Tells new failed e
   first_fault full new failed (BadTrace at kind) f = (f.0, λ config store there. (f.1 config store there, f.2))
@@ -103,9 +103,9 @@ module _ (stands : Config → Store → Type 0) (number : ℕ) (line : List ℕ)
   first_fault full new failed WriteFailed f = f
 
   -- a line that wants room first
-  module _ (wants : AtEach stands (λ config store. IsSoundLine config store line × LineCollectsFirst config store line)) where
+  module _ (wants : AtEach stands (λ config store. IsSoundTraceLine config store line × LineCollectsFirst config store line)) where
     -- where no room was made, though nothing had changed
-    pub room_fault : (before : W) → before ≡ old → (Short : Type 0) → ((config : Config) (store : Store) → stands config store → IsSoundLine config store line → LineCollectsFirst config store line → Short → Full config store)
+    pub room_fault : (before : W) → before ≡ old → (Short : Type 0) → ((config : Config) (store : Store) → stands config store → IsSoundTraceLine config store line → LineCollectsFirst config store line → Short → Full config store)
         → {S : Type 0} (session session' : S) (new : W) (failed failed' : Type 0) → (failed → failed') → (e : Fault)
         → MatchFault e (λ _ _. ⊥)
         (λ at. (at ≡ Some number) × Short × (session' ≡ session) × (new ≡ before))
@@ -142,7 +142,7 @@ module _ (stands : Config → Store → Type 0) (number : ℕ) (line : List ℕ)
           (done.next, (rw same again.here_is, done.stands', record { written = own.written; held = subst (λ out. Appends (contents old) new out) (ap (λ out. own.written ++ out) nothing ∙ append-nil own.written) all; holds = own.holds }))
 
       -- there is room now
-      pub no_full_twice : AtEach mid (λ config store. IsSoundLine config store line × LineCollectsFirst config store line) → (P : Config → Store → Type 0) → AtEach stands P
+      pub no_full_twice : AtEach mid (λ config store. IsSoundTraceLine config store line × LineCollectsFirst config store line) → (P : Config → Store → Type 0) → AtEach stands P
       no_full_twice full P = λ config store there.
           let w = wants config store there in
           let again = line_again config store line w.1 w.0 in
@@ -152,7 +152,7 @@ module _ (stands : Config → Store → Type 0) (number : ℕ) (line : List ℕ)
           → MatchFault e
           (λ at kind. (at ≡ number) × AtEach mid (λ config store. line_step config store line ≡ Err kind) × (new ≡ before))
           (λ at. (at ≡ Some number) × Lacks × AtEach mid (λ config store. MayBeFull config store line × ¬ LineCollectsFirst config store line) × (new ≡ before))
-          (λ at. (at ≡ Some number) × AtEach mid (λ config store. IsSoundLine config store line) × (new ≡ before))
+          (λ at. (at ≡ Some number) × AtEach mid (λ config store. IsSoundTraceLine config store line) × (new ≡ before))
           ⊥ failed
           → Tells new failed' e
       second_fault Lacks before new failed failed' same told (BadTrace at kind) f = (

@@ -5,7 +5,7 @@ use Rattle.model.specs.Config.{Config}
 use Rattle.model.specs.Store.{Store}
 use Rattle.model.specs.Commands.{Command, New, room_in, is_large_size, line_of}
 use Rattle.trace_text.specs.Grammar.{entry_of}
-use Rattle.trace_session.specs.Sound.{IsSoundLine}
+use Rattle.trace_session.specs.Sound.{IsSoundTraceLine}
 
 -- a small object, for which the mutator's nursery has no room
 abbrev pub has_no_room : Config → Store → (mutator size : ℕ) → Bool
@@ -30,4 +30,4 @@ auto_line store = line_of (codes "auto") 0 store
 
 -- a line without a fault, so far as it was carried out: it has written nothing yet, or the line of the collection that came first
 abbrev pub IsSoundSoFar : Config → Store → List ℕ → (written : List ℕ) → Type 0
-IsSoundSoFar config store line written = IsSoundLine config store line × ((written ≡ []) ⊎ (LineCollectsFirst config store line × (written ≡ auto_line store)))
+IsSoundSoFar config store line written = IsSoundTraceLine config store line × ((written ≡ []) ⊎ (LineCollectsFirst config store line × (written ≡ auto_line store)))

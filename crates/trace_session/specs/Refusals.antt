@@ -8,7 +8,7 @@ use Rattle.heap.specs.HeapValue.{HeapValue}
 use Rattle.heap.specs.Commands.{wanted_blocks}
 use Rattle.trace_session.specs.Collects.{IsShortOfBlocks}
 use Rattle.trace_text.specs.Grammar.{entry_of}
-use Rattle.trace_session.specs.Sound.{IsSoundLine, IsSoundCommand}
+use Rattle.trace_session.specs.Sound.{IsSoundTraceLine, IsSoundCommand}
 use Rattle.trace_session.specs.CollectsFirst.{CollectsFirst, LineCollectsFirst}
 use Rattle.trace_session.specs.Stands.{StandsFor}
 
@@ -59,5 +59,5 @@ pub record CommandMayBeFull (config : Config) (store : Store) (command : Command
 
 -- the same of a line
 pub record MayBeFull (config : Config) (store : Store) (line : List ℕ) : Type 0 where
-  pub sound : IsSoundLine config store line
+  pub sound : IsSoundTraceLine config store line
   pub wants : ReadWantsBlocks config store (entry_of line)

@@ -6,8 +6,8 @@ use Rattle.model.specs.Commands.{Command}
 use Rattle.trace_session.specs.Outcome.{line_step, command_step}
 
 -- the line has no fault at this store
-abbrev pub IsSoundLine : Config → Store → List ℕ → Type 0
-IsSoundLine config store line = IsOk (line_step config store line)
+abbrev pub IsSoundTraceLine : Config → Store → List ℕ → Type 0
+IsSoundTraceLine config store line = IsOk (line_step config store line)
 
 -- the same of a command
 abbrev pub IsSoundCommand : Config → Store → Command → Type 0

@@ -8,7 +8,7 @@ mod schedule;
 mod words;
 
 pub use event_form::parse_event;
-pub use form::parse;
+pub use form::{MAX_LINE_LEN, parse};
 pub use line::Line;
 pub use model::{Command, Kind};
 pub use schedule::{LineFault, ScheduleEvent, ScheduleKind, ScheduleLine};

@@ -7,7 +7,7 @@ ghost use Rattle.workers.specs.System.{opening_worker};
 
 use crate::to_space::AllocationBlocks;
 use crate::workspace::hand::Hand;
-use crate::workspace::opening::{destination_count, every_target};
+use crate::workspace::opening::every_target;
 use crate::workspace::workspace::Workspace;
 use heap::{Collection, Heap};
 use layout::Place;
@@ -35,7 +35,7 @@ impl<A: Allocator + Clone> Workspace<A> {
     {
         let config = heap.config();
         let starts = every_target(alloc.clone()?, collection.slots(), t, n)?;
-        let count = destination_count(config, collection.generation());
+        let count = config.dest_count(collection.generation());
         let allocation = AllocationBlocks::new(alloc.clone()?, count)?;
         Ok(Workspace {
             config,

@@ -1,15 +1,13 @@
-//! Which start slots are a worker's, and how many destinations there are.
+//! Which start slots are a worker's.
 ghost use Rattle.std.specs.Prelude.{◌≡◌, ◌<◌, IfOk, map};
 ghost use Rattle.layout.specs.Place.{place_word};
 ghost use Rattle.heap.specs.SlotView.{slot_value};
 ghost use Rattle.heap.specs.CollectionValue.{target_of_slot};
 ghost use Rattle.workers.specs.System.{every};
-ghost use Rattle.model.specs.Destination.{dest_count};
 
 use heap::Slot;
 use layout::Place;
 use std::alloc::{AllocError, Allocator};
-use steps::Config;
 
 /// What every n-th slot leads to, from slot `t` on.
 pub(crate) fn every_target<A: Allocator>(
@@ -29,17 +27,4 @@ pub(crate) fn every_target<A: Allocator>(
         targets.push(slots[i].target())?;
     }
     Ok(targets)
-}
-
-/// How many destinations a collection of the generations 0 to `g` has.
-pub(crate) fn destination_count(config: Config, g: u8) -> usize
-    ensures { result ≡ dest_count config.shape g }
-{
-    let oldest = config.generations() - 1;
-    let steps = config.steps();
-    let g = g as usize;
-    if g < oldest {
-        return (g + 1) * steps;
-    }
-    (oldest * steps).max(1)
 }

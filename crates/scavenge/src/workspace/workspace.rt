@@ -23,7 +23,7 @@ use steps::Config;
 #[derive(Drop)]
 pub struct Workspace<A: Allocator = Global> {
     pub(crate) config: Config,
-    /// The place that it claims large objects with: no other worker has it, and no object stands there.
+    /// The place that it claims large objects with: no other worker has it. Of a large object's cell only whether it is set tells.
     pub(crate) claim: Place,
     /// What its start slots lead to, of which so many are finished.
     pub(crate) starts: Vec<Place, A>,

@@ -11,10 +11,7 @@ use machine::Machine;
 use model::Kind;
 use std::alloc::Allocator;
 use trace_session::{Fault, split_line};
-use trace_text::ScheduleKind;
-
-/// The most bytes that a line has before its line feed.
-const MAX_LINE_LEN: usize = 4096;
+use trace_text::{MAX_LINE_LEN, ScheduleKind};
 
 /// Carries out the schedule that follows the `collect` of line `start`, and gives the number of its last line, which is
 /// `commit`, and what comes after that.

@@ -6,7 +6,7 @@ ghost use Rattle.trace_session.specs.Attempts.{MatchAttempt};
 ghost use Rattle.trace_session.specs.CollectsFirst.{LineCollectsFirst};
 ghost use Rattle.trace_session.specs.Faults.{MatchFault};
 ghost use Rattle.trace_session.specs.Outcome.{line_step, command_step};
-ghost use Rattle.trace_session.specs.Sound.{IsSoundLine, IsSoundCommand};
+ghost use Rattle.trace_session.specs.Sound.{IsSoundTraceLine, IsSoundCommand};
 ghost use Rattle.trace_session.specs.Stepped.{AtEach, StepsTo};
 ghost use Rattle.trace_session.specs.Refusals.{MayBeFull, CommandMayBeFull, IsFullFor};
 ghost use Rattle.trace_session.specs.Session.{Stands};
@@ -70,14 +70,14 @@ pub fn attempt_line<A: Allocator + Clone, W: Sink>(
     requires { W.failed_writes writer.old < 2 ^ 64 - 1 }
     ensures ok { IfOk result (λ attempt. AtEach (Stands session.old) (λ config store. MatchAttempt attempt
         (StepsTo (Stands session.new) config (line_step config store line.now) (W.contents writer.old) (W.contents writer.new) × ¬ LineCollectsFirst config store line.now)
-        (IsSoundLine config store line.now × LineCollectsFirst config store line.now))) }
+        (IsSoundTraceLine config store line.now × LineCollectsFirst config store line.now))) }
     ensures full { result ≡ Ok Attempt.NurseryFull → (session.new ≡ session.old) × (writer.new ≡ writer.old) }
     ensures counts { OnOk result (W.failed_writes writer.new ≡ W.failed_writes writer.old) }
     ensures rises { W.failed_writes writer.new ≤ W.failed_writes writer.old + 1 }
     ensures err { IfErr result (λ e. MatchFault e
         (λ at kind. (at ≡ number) × AtEach (Stands session.old) (λ config store. line_step config store line.now ≡ Err kind) × (writer.new ≡ writer.old))
         (λ at. (at ≡ Some number) × IsFullFor session.old.heap (entry_of line.now) × AtEach (Stands session.old) (λ config store. MayBeFull config store line.now × ¬ LineCollectsFirst config store line.now) × (writer.new ≡ writer.old))
-        (λ at. (at ≡ Some number) × AtEach (Stands session.old) (λ config store. IsSoundLine config store line.now) × (writer.new ≡ writer.old))
+        (λ at. (at ≡ Some number) × AtEach (Stands session.old) (λ config store. IsSoundTraceLine config store line.now) × (writer.new ≡ writer.old))
         ⊥
         (W.failed_writes writer.new ≡ W.failed_writes writer.old + 1)) }
 {

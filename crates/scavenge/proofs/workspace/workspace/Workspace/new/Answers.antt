@@ -10,8 +10,8 @@ use Rattle.scavenge.proofs.workspace.workspace.Workspace.new.Goals as goal
 
 pub invariant_of-result : goal.invariant_of-result
 invariant_of-result g c = (
-  begun_noted c.destination_count-count.result c.in_ok-allocation.ensures c.new-2.ensures.items c.new-3.ensures.items,
-  begun_made c.config-config.result c.destination_count-count.result c.in_ok-allocation.ensures c.new-2.ensures.items c.new-3.ensures.items,
+  begun_noted c.dest_count-count.result c.in_ok-allocation.ensures c.new-2.ensures.items c.new-3.ensures.items,
+  begun_made c.config-config.result c.dest_count-count.result c.in_ok-allocation.ensures c.new-2.ensures.items c.new-3.ensures.items,
   record { in_won = grind arith; in_done = grind arith; in_aside = grind arith; for_spare = λ s. absurd (cc); in_claimed = tt },
 )
 
@@ -19,8 +19,8 @@ pub returns-clause-worker : goal.returns-clause-worker
 returns-clause-worker g c =
     ap (λ (v : WorkspaceValue). v.worker) (begun_is c.large.result c.config-config.ensures
     (c.in_ok-starts.ensures ∙ ap (λ xs. every c.args.n c.args.t 0 (map target_of_slot xs)) c.slots.ensures)
-    (ap (slots_of c.config-config.result.shape) c.in_ok-allocation.ensures ∙ map_nones c.config-config.result.shape c.destination_count-count.result
-    ∙ ap (λ n. replicate n None) (c.destination_count-count.ensures ∙ ap (dest_count c.config-config.result.shape) c.generation.ensures ∙ ap (λ (k : Config). dest_count k.shape c.args.collection.now.generation) c.config-config.ensures))
+    (ap (slots_of c.config-config.result.shape) c.in_ok-allocation.ensures ∙ map_nones c.config-config.result.shape c.dest_count-count.result
+    ∙ ap (λ n. replicate n None) (c.dest_count-count.ensures.value ∙ ap (dest_count c.config-config.result.shape) c.generation.ensures ∙ ap (λ (k : Config). dest_count k.shape c.args.collection.now.generation) c.config-config.ensures))
     (ap (blocks_of c.config-config.result.shape) c.new-2.ensures.items)
     (ap (blocks_of c.config-config.result.shape) c.new-3.ensures.items)
     (ap words_of c.new-4.ensures.items)
