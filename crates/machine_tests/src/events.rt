@@ -26,6 +26,44 @@ pub(crate) fn event_at(number: u32, t: u32, first: u32) -> Event {
     }
 }
 
+/// The number that a word writes.
+fn number_of(word: &str) -> Result<u32, Fail> {
+    Ok(word.parse::<u32>()?)
+}
+
+/// The event of a word and of the worker's number.
+fn event_of_worker(word: &str, t: u32) -> Result<Event, Fail> {
+    match word {
+        "look" => Ok(Event::Look(t)),
+        "race" => Ok(Event::Race(t)),
+        "scan" => Ok(Event::Scan(t)),
+        "export" => Ok(Event::Export(t)),
+        "idle" => Ok(Event::Idle(t)),
+        "wake" => Ok(Event::Wake(t)),
+        "end" => Ok(Event::End(t)),
+        _ => Err(Fail::from("no such event")),
+    }
+}
+
+/// The event of a word, of the worker's number, and of a word behind that.
+fn event_with(word: &str, t: u32, last: &str) -> Result<Event, Fail> {
+    match (word, last) {
+        ("take", _) => Ok(Event::Take(t, number_of(last)?)),
+        ("own", "large") => Ok(Event::OwnLarge(t)),
+        ("own", _) => Ok(Event::Own(t, number_of(last)? as usize)),
+        _ => Err(Fail::from("no such event")),
+    }
+}
+
+/// The event of a line, in the words of a schedule.
+pub(crate) fn event_of(line: &str) -> Result<Event, Fail> {
+    let (word, rest) = line.split_once(" ").ok_or("no worker")?;
+    match rest.split_once(" ") {
+        Some((worker, last)) => event_with(word, number_of(worker)?, last),
+        None => event_of_worker(word, number_of(rest)?),
+    }
+}
+
 /// A heap of one object with a root.
 fn heap_of_one(alloc: Global) -> Result<Heap, Fail> {
     let sizes = Sizes {

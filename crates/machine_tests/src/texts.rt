@@ -1,20 +1,39 @@
 //! The texts of errors.
 use machine::{MachineError, StepError};
 use std::alloc::Global;
-use std::fmt::Display;
+use std::fmt::{Display, Write};
+use std::process::Abort;
 use std::test::Fail;
 
-/// Whether each error shows its text.
-fn show_all<E: Display>(alloc: Global, errors: &[E], texts: &[&str]) -> Result<bool, Fail> {
-    for i in 0..errors.len() {
-        let error = &errors[i];
-        let shown = format!(in alloc; "{error}")?;
-        if i >= texts.len() || shown.as_str() != texts[i] {
-            return Ok(false);
-        }
+/// The texts of errors, a line for each.
+fn lines_of<E: Display>(alloc: Global, errors: &[E]) -> Result<String, Fail> {
+    let mut lines = String::new(alloc);
+    for error in errors {
+        writeln!(lines, "{error}")?;
     }
-    Ok(errors.len() == texts.len())
+    Ok(lines)
 }
+
+/// Asserts that errors show these lines.
+fn assert_lines<E: Display>(
+    rt: &impl Abort,
+    alloc: Global,
+    errors: &[E],
+    lines: &str,
+) -> Result<(), Fail> {
+    assert_eq!(rt; lines_of(alloc, errors)?.as_str(), lines);
+    Ok(())
+}
+
+const MAKING: &str = "there are 1 to 16 workers
+no such generation
+no memory
+";
+
+const STEPPING: &str = "not lawful
+heap full
+no memory
+";
 
 #[test]
 fn errors_show_what_they_mean(rt: HostRuntime) -> Result<(), Fail> {
@@ -23,18 +42,11 @@ fn errors_show_what_they_mean(rt: HostRuntime) -> Result<(), Fail> {
         MachineError::NoGeneration,
         MachineError::NoMemory,
     ];
-    let texts = [
-        "there are 1 to 16 workers",
-        "no such generation",
-        "no memory",
-    ];
-    assert!(rt; show_all(rt.alloc(), &making, &texts)?);
+    assert_lines(&rt, rt.alloc(), &making, MAKING)?;
     let stepping = [
         StepError::NotLawful,
         StepError::HeapFull,
         StepError::NoMemory,
     ];
-    let texts = ["not lawful", "heap full", "no memory"];
-    assert!(rt; show_all(rt.alloc(), &stepping, &texts)?);
-    Ok(())
+    assert_lines(&rt, rt.alloc(), &stepping, STEPPING)
 }

@@ -8,6 +8,7 @@ use heap::{Heap, RootId};
 use heap_text::{Counted, Name, write_census, write_heap};
 use machine::{Event, Machine, StepError};
 use std::alloc::Global;
+use std::process::Abort;
 use std::test::Fail;
 
 /// How many schedules are drawn.
@@ -41,6 +42,9 @@ fn take_turns(machine: &mut Machine<'_>, n: u32) -> Result<(), StepError>
     ensures { machine.new.heap ≡ machine.old.heap }
 {
     for turn in 0..100_000_u32 {
+        if machine.next_lawful().is_none() {
+            break;
+        }
         let t = turn.checked_rem(n).unwrap_or(0);
         if let Some(event) = turn_of(machine, t) {
             machine.step(event)?;
@@ -206,26 +210,21 @@ fn agrees_in_turn(alloc: Global, seed: u64, n: u32) -> Result<bool, Fail> {
     Ok(one == many)
 }
 
-#[test]
-fn one_worker_in_turn(rt: HostRuntime) -> Result<(), Fail> {
+/// Asserts that so many workers in turn leave what one leaves, of twenty drawn graphs.
+fn assert_in_turn(rt: &impl Abort, alloc: Global, n: u32) -> Result<(), Fail> {
     for seed in 0..20 {
-        assert!(rt; agrees_in_turn(rt.alloc(), seed, 1)?);
+        assert!(rt;
+            agrees_in_turn(alloc, seed, n)?,
+            "by {n} workers with seed {seed}"
+        );
     }
     Ok(())
 }
 
 #[test]
-fn two_workers_in_turn(rt: HostRuntime) -> Result<(), Fail> {
-    for seed in 0..20 {
-        assert!(rt; agrees_in_turn(rt.alloc(), seed, 2)?);
-    }
-    Ok(())
-}
-
-#[test]
-fn three_workers_in_turn(rt: HostRuntime) -> Result<(), Fail> {
-    for seed in 0..20 {
-        assert!(rt; agrees_in_turn(rt.alloc(), seed, 3)?);
+fn workers_in_turn(rt: HostRuntime) -> Result<(), Fail> {
+    for n in 1..=3 {
+        assert_in_turn(&rt, rt.alloc(), n)?;
     }
     Ok(())
 }
