@@ -1,5 +1,5 @@
 //! Collections of a heap through its own calls, where memory and blocks run out too.
-use crate::heaps::{add_objects, census_of, collected, config_of, heap_of};
+use crate::heaps::{Ends, add_objects, census_of, collected, config_of, heap_of, is_carried_out};
 use collector::{CollectError, collect_one};
 use heap::{AllocateError, Heap, MakeError, NoRoot, OpenError, Report, RootId, StepId};
 use layout::Place;
@@ -53,6 +53,12 @@ fn assert_census<A: Allocator + Clone>(
     Ok(())
 }
 
+/// Six objects are collected, or memory is refused for that.
+const SIX: Ends = Ends {
+    counts: (5, 1),
+    refusal: CollectError::NoMemory,
+};
+
 /// Collects six objects, and where that is refused once more. Says whether it was refused.
 fn collect_twice<'a>(
     rt: &impl Abort,
@@ -61,20 +67,12 @@ fn collect_twice<'a>(
     heap: &mut Heap<&'a Refusing<Global>>,
     last: RootId,
 ) -> Result<bool, Fail> {
-    let place = heap.target(last);
-    match collected(refusing, heap) {
-        Ok(counts) => {
-            assert_eq!(rt; counts, (5, 1));
-            Ok(false)
-        }
-        Err(error) => {
-            assert_eq!(rt; error, CollectError::NoMemory);
-            assert_census(rt, alloc, heap, BEFORE)?;
-            assert!(rt; heap.target(last) == place);
-            assert_eq!(rt; collected(refusing, heap), Ok((5, 1)));
-            Ok(true)
-        }
+    if is_carried_out(rt, refusing, heap, last, SIX) {
+        return Ok(false);
     }
+    assert_census(rt, alloc, heap, BEFORE)?;
+    assert!(rt; is_carried_out(rt, refusing, heap, last, SIX));
+    Ok(true)
 }
 
 /// Collects six objects as `collect_twice` does, and asserts the census before and after.

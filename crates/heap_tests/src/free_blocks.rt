@@ -1,5 +1,5 @@
 //! Collections with each number of free blocks, from none to as many as suffice in any order.
-use crate::heaps::{census_of, collected, free_count, heap_of};
+use crate::heaps::{Ends, census_of, collected, free_count, heap_of, is_carried_out};
 use collector::CollectError;
 use heap::{Heap, RootId};
 use heap_text::{Counted, Name, write_heap};
@@ -132,30 +132,15 @@ fn seen(alloc: Global, heap: &Heap<Global>, root: RootId) -> Result<(Vec<u8>, Ve
     Ok((census, text))
 }
 
-/// How a collection of the group ends, where so many blocks are free.
-fn answer_of(group: Group, free: u64) -> Result<(u64, u64), CollectError> {
-    if free < group.blocks {
-        return Err(CollectError::HeapFull);
+/// A group is kept, or blocks run out.
+fn ends_of(group: Group) -> Ends {
+    Ends {
+        counts: (group.kept, 0),
+        refusal: CollectError::HeapFull,
     }
-    Ok((group.kept, 0))
 }
 
-/// Asserts that a collection keeps the group where it has blocks enough, and else refuses and leaves it where it stands.
-fn assert_answer(
-    rt: &impl Abort,
-    alloc: Global,
-    heap: &mut Heap<Global>,
-    top: RootId,
-    group: Group,
-    free: u64,
-) {
-    let place = heap.target(top);
-    let answer = collected(alloc, heap);
-    assert_eq!(rt; answer, answer_of(group, free));
-    assert!(rt; answer.is_ok() || heap.target(top) == place);
-}
-
-/// Collects a group with so many free blocks, and asserts that what is seen of it stays.
+/// Collects a group, and asserts that it is kept where it has blocks enough, and that what is seen of it stays.
 fn assert_collection(
     rt: &impl Abort,
     alloc: Global,
@@ -166,48 +151,77 @@ fn assert_collection(
 ) -> Result<(), Fail> {
     assert_eq!(rt; free_count(alloc, heap), Ok(free as usize));
     let before = seen(alloc, heap, top)?;
-    assert_answer(rt, alloc, heap, top, group, free);
+    let is_kept = is_carried_out(rt, alloc, heap, top, ends_of(group));
+    assert_eq!(rt; is_kept, free >= group.blocks);
     assert!(rt; seen(alloc, heap, top)? == before);
     Ok(())
 }
 
-/// Gives the group up, and asserts that it goes, however few blocks are free.
-fn assert_goes(
+/// Asserts what a collection does with so many free blocks. Then the group is given up, and goes, however few blocks are free.
+fn assert_kept_and_gone(
     rt: &impl Abort,
     alloc: Global,
     heap: &mut Heap<Global>,
     top: RootId,
     group: Group,
+    free: u64,
 ) -> Result<(), Fail> {
+    assert_collection(rt, alloc, heap, top, group, free)?;
     heap.release(top)?;
     assert_eq!(rt; collected(alloc, heap), Ok((0, group.kept)));
     Ok(())
 }
 
-fn assert_from_nursery(
+/// From where a group is collected.
+#[derive(Clone, Copy)]
+enum Stands {
+    InNursery,
+    /// Where a collection has moved it.
+    Moved,
+}
+
+/// A group in a heap with so many free blocks.
+fn group_that(
+    alloc: Global,
+    stands: Stands,
+    group: Group,
+    free: u64,
+) -> Result<(Heap<Global>, RootId), Fail> {
+    match stands {
+        Stands::InNursery => group_in_nursery(alloc, group, free),
+        Stands::Moved => group_moved(alloc, group, free),
+    }
+}
+
+fn assert_with_free(
     rt: &impl Abort,
     alloc: Global,
+    stands: Stands,
     group: Group,
     free: u64,
 ) -> Result<(), Fail> {
-    let (mut heap, top) = group_in_nursery(alloc, group, free)?;
-    assert_collection(rt, alloc, &mut heap, top, group, free)?;
-    assert_goes(rt, alloc, &mut heap, top, group)
+    let (mut heap, top) = group_that(alloc, stands, group, free)?;
+    assert_kept_and_gone(rt, alloc, &mut heap, top, group, free)
 }
 
-fn assert_moved_again(rt: &impl Abort, alloc: Global, group: Group, free: u64) -> Result<(), Fail> {
-    let (mut heap, top) = group_moved(alloc, group, free)?;
-    assert_collection(rt, alloc, &mut heap, top, group, free)?;
-    assert_goes(rt, alloc, &mut heap, top, group)
+/// Tries each number of free blocks, up to as many as suffice.
+fn assert_with_each(
+    rt: &impl Abort,
+    alloc: Global,
+    stands: Stands,
+    group: Group,
+) -> Result<(), Fail> {
+    for free in 0..=group.bound {
+        assert_with_free(rt, alloc, stands, group, free)?;
+    }
+    Ok(())
 }
 
 #[test]
 fn each_number_of_free_blocks(rt: HostRuntime) -> Result<(), Fail> {
     for group in [SINGLE, EIGHT, LOOSE] {
-        for free in 0..=group.bound {
-            assert_from_nursery(&rt, rt.alloc(), group, free)?;
-            assert_moved_again(&rt, rt.alloc(), group, free)?;
-        }
+        assert_with_each(&rt, rt.alloc(), Stands::InNursery, group)?;
+        assert_with_each(&rt, rt.alloc(), Stands::Moved, group)?;
     }
     Ok(())
 }

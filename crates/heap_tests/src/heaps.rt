@@ -1,8 +1,9 @@
 //! Heaps of any size, what is seen of them, and collections of them.
 use collector::{CollectError, collect_one};
-use heap::{AllocateError, Config, Heap, OpenError, Sizes};
+use heap::{AllocateError, Config, Heap, OpenError, RootId, Sizes};
 use heap_text::{Counted, write_census};
 use std::alloc::{Allocator, Global};
+use std::process::Abort;
 use std::test::Fail;
 
 /// Sizes with one generation.
@@ -56,6 +57,36 @@ pub(crate) fn collected<A: Allocator + Clone>(
 ) -> Result<(u64, u64), CollectError> {
     let report = collect_one(alloc, heap, 0)?;
     Ok((report.kept, report.freed))
+}
+
+/// The two ends of a collection for which memory or blocks may run out: so many objects are kept and freed, or this error.
+#[derive(Clone, Copy)]
+pub(crate) struct Ends {
+    pub(crate) counts: (u64, u64),
+    pub(crate) refusal: CollectError,
+}
+
+/// Collects, and asserts that it ends in one of two ways, and that a refused one leaves the root where it leads. Says whether
+/// it was carried out.
+pub(crate) fn is_carried_out<A: Allocator + Clone>(
+    rt: &impl Abort,
+    of_heap: A,
+    heap: &mut Heap<A>,
+    root: RootId,
+    ends: Ends,
+) -> bool {
+    let place = heap.target(root);
+    match collected(of_heap, heap) {
+        Ok(counts) => {
+            assert_eq!(rt; counts, ends.counts);
+            true
+        }
+        Err(error) => {
+            assert_eq!(rt; error, ends.refusal);
+            assert!(rt; heap.target(root) == place);
+            false
+        }
+    }
 }
 
 /// The lines of a heap's census.

@@ -5,7 +5,8 @@ use heap::{
     StoreError,
 };
 use std::alloc::Global;
-use std::fmt::Display;
+use std::fmt::{Display, Write};
+use std::process::Abort;
 use std::test::Fail;
 
 #[test]
@@ -20,27 +21,41 @@ fn default_sizes_make_a_config(rt: HostRuntime) -> Result<(), Fail> {
     Ok(())
 }
 
-/// Whether the error shows that text.
-fn shows<E: Display>(alloc: Global, error: &E, text: &str) -> Result<bool, Fail> {
-    let shown = format!(in alloc; "{error}")?;
-    Ok(shown.as_str() == text)
+/// The texts of errors, a line for each.
+fn lines_of<E: Display>(alloc: Global, errors: &[E]) -> Result<String, Fail> {
+    let mut lines = String::new(alloc);
+    for error in errors {
+        writeln!(lines, "{error}")?;
+    }
+    Ok(lines)
 }
 
-/// Whether each error shows its text.
-fn show_all<E: Display>(alloc: Global, errors: &[E], texts: &[&str]) -> Result<bool, Fail> {
-    for i in 0..errors.len() {
-        if i >= texts.len() || !shows(alloc, &errors[i], texts[i])? {
-            return Ok(false);
-        }
-    }
-    Ok(errors.len() == texts.len())
+/// Asserts that errors show these lines.
+fn assert_lines<E: Display>(
+    rt: &impl Abort,
+    alloc: Global,
+    errors: &[E],
+    lines: &str,
+) -> Result<(), Fail> {
+    assert_eq!(rt; lines_of(alloc, errors)?.as_str(), lines);
+    Ok(())
 }
+
+const MAKING: &str = "the nurseries want more blocks than there are
+no memory
+";
+
+const ALLOCATING: &str = "no such mutator
+too big
+the nursery is full
+heap full
+no memory
+";
 
 #[test]
 fn errors_of_making_and_allocating(rt: HostRuntime) -> Result<(), Fail> {
     let making = [MakeError::HeapFull, MakeError::NoMemory];
-    let texts = ["the nurseries want more blocks than there are", "no memory"];
-    assert!(rt; show_all(rt.alloc(), &making, &texts)?);
+    assert_lines(&rt, rt.alloc(), &making, MAKING)?;
     let allocating = [
         AllocateError::NoMutator,
         AllocateError::TooBig,
@@ -48,33 +63,43 @@ fn errors_of_making_and_allocating(rt: HostRuntime) -> Result<(), Fail> {
         AllocateError::HeapFull,
         AllocateError::NoMemory,
     ];
-    let texts = [
-        "no such mutator",
-        "too big",
-        "the nursery is full",
-        "heap full",
-        "no memory",
-    ];
-    assert!(rt; show_all(rt.alloc(), &allocating, &texts)?);
-    assert!(rt; shows(rt.alloc(), &BadConfig, "a size is out of its range")?);
-    Ok(())
+    assert_lines(&rt, rt.alloc(), &allocating, ALLOCATING)?;
+    let config = [BadConfig];
+    assert_lines(&rt, rt.alloc(), &config, "a size is out of its range\n")
 }
+
+const READING: &str = "no such root
+no such field
+";
+
+const STORING_AND_LOADING: &str = "no such root
+no such field
+no memory
+";
 
 #[test]
 fn errors_of_fields_and_roots(rt: HostRuntime) -> Result<(), Fail> {
-    let texts = ["no such root", "no such field", "no memory"];
     let reading = [FieldError::NoRoot, FieldError::BadField];
-    assert!(rt; show_all(rt.alloc(), &reading, &texts[..2])?);
+    assert_lines(&rt, rt.alloc(), &reading, READING)?;
     let storing = [
         StoreError::NoRoot,
         StoreError::BadField,
         StoreError::NoMemory,
     ];
-    assert!(rt; show_all(rt.alloc(), &storing, &texts)?);
+    assert_lines(&rt, rt.alloc(), &storing, STORING_AND_LOADING)?;
     let loading = [LoadError::NoRoot, LoadError::BadField, LoadError::NoMemory];
-    assert!(rt; show_all(rt.alloc(), &loading, &texts)?);
-    Ok(())
+    assert_lines(&rt, rt.alloc(), &loading, STORING_AND_LOADING)?;
+    assert_lines(&rt, rt.alloc(), &[NoRoot], "no such root\n")
 }
+
+const COLLECTING: &str = "no such generation
+heap full
+no memory
+";
+
+const OPENING: &str = "no such generation
+no memory
+";
 
 #[test]
 fn errors_of_collecting(rt: HostRuntime) -> Result<(), Fail> {
@@ -83,10 +108,7 @@ fn errors_of_collecting(rt: HostRuntime) -> Result<(), Fail> {
         CollectError::HeapFull,
         CollectError::NoMemory,
     ];
-    let texts = ["no such generation", "heap full", "no memory"];
-    assert!(rt; show_all(rt.alloc(), &collecting, &texts)?);
+    assert_lines(&rt, rt.alloc(), &collecting, COLLECTING)?;
     let opening = [OpenError::NoGeneration, OpenError::NoMemory];
-    assert!(rt; show_all(rt.alloc(), &opening, &["no such generation", "no memory"])?);
-    assert!(rt; shows(rt.alloc(), &NoRoot, "no such root")?);
-    Ok(())
+    assert_lines(&rt, rt.alloc(), &opening, OPENING)
 }
