@@ -1,6 +1,8 @@
+//! Objects in a block, and grants of blocks.
 use block_pool::{Block, GrantError, Pool};
 use layout::ObjectRef;
 use std::alloc::{AllocError, Global};
+use std::process::Abort;
 use std::test::Fail;
 
 /// The number, the generation and the step.
@@ -56,28 +58,32 @@ fn begins_at(block: &Block, offset: usize, pointers: &[u64], words: &[u64]) -> b
     }
 }
 
-#[test]
-fn objects_lie_one_after_the_other(rt: HostRuntime) -> Result<(), Fail> {
-    let mut block = Block::new(rt.alloc(), 16)?;
+/// Asserts what a labelled block tells of two objects, the second of which begins at word 4.
+fn assert_two_lie(rt: &impl Abort, block: &mut Block) {
     block.label(7, 1, 2);
-    assert_eq!(rt; label_of(&block), (7, 1, 2));
+    assert_eq!(rt; label_of(block), (7, 1, 2));
     assert!(rt; block.fits(16) && !block.fits(17) && block.is_empty());
-    assert_eq!(rt; push_two(&mut block), Some((0, 4)));
-    assert_eq!(rt; sizes_of(&block), (2, 7, 16));
-    assert_eq!(rt; second_of(&block), Some((4, 1, 1, 1)));
-    assert!(rt; is_at(&block, 1, &[65536], &[5]));
-    assert!(rt; begins_at(&block, 0, &[0], &[0, 0]));
+    assert_eq!(rt; push_two(block), Some((0, 4)));
+    assert_eq!(rt; sizes_of(block), (2, 7, 16));
+    assert_eq!(rt; second_of(block), Some((4, 1, 1, 1)));
+    assert!(rt; is_at(block, 1, &[65536], &[5]));
+    assert!(rt; begins_at(block, 0, &[0], &[0, 0]));
     assert!(rt;
         block.object_at(3).is_none()
             && block.object_at(7).is_none()
             && block.object_at(16).is_none()
     );
-    Ok(())
 }
 
 #[test]
-fn a_field_is_written(rt: HostRuntime) -> Result<(), Fail> {
+fn objects_lie_one_after_the_other(rt: HostRuntime) -> Result<(), Fail> {
     let mut block = Block::new(rt.alloc(), 16)?;
+    assert_two_lie(&rt, &mut block);
+    Ok(())
+}
+
+/// Writes a pointer and a plain word, and asserts that all others stay.
+fn assert_written(rt: &impl Abort, block: &mut Block) {
     assert!(rt; block.fits(4));
     block.push_new(1, 2);
     assert!(rt; block.fits(4));
@@ -86,7 +92,13 @@ fn a_field_is_written(rt: HostRuntime) -> Result<(), Fail> {
     block.set_pointer(1, 1, 65536);
     assert!(rt; 0 < block.len() && 1 < block.object(0).words.len());
     block.set_plain(0, 1, 7);
-    assert!(rt; is_at(&block, 0, &[0], &[0, 7]) && is_at(&block, 1, &[0, 65536], &[0]));
+    assert!(rt; is_at(block, 0, &[0], &[0, 7]) && is_at(block, 1, &[0, 65536], &[0]));
+}
+
+#[test]
+fn a_field_is_written(rt: HostRuntime) -> Result<(), Fail> {
+    let mut block = Block::new(rt.alloc(), 16)?;
+    assert_written(&rt, &mut block);
     Ok(())
 }
 
@@ -95,9 +107,8 @@ fn state_of(block: &Block) -> (usize, usize, usize, Option<(u32, u64)>) {
     (block.len(), block.used(), block.front(), block.sent())
 }
 
-#[test]
-fn an_object_is_taken_back(rt: HostRuntime) -> Result<(), Fail> {
-    let mut block = Block::new(rt.alloc(), 16)?;
+/// Asserts that the last of two objects is taken back, the first of which is scanned.
+fn assert_taken_back(rt: &impl Abort, block: &mut Block) {
     assert!(rt; block.fits(3));
     block.push_new(2, 0);
     assert!(rt; block.front() < block.len());
@@ -106,14 +117,25 @@ fn an_object_is_taken_back(rt: HostRuntime) -> Result<(), Fail> {
     block.push_new(0, 4);
     assert!(rt; block.front() < block.len());
     block.take_back_last();
-    assert_eq!(rt; state_of(&block), (1, 3, 1, None));
+    assert_eq!(rt; state_of(block), (1, 3, 1, None));
     assert!(rt; block.object_at(3).is_none());
+}
+
+/// Asserts what a block tells of how it was sent, and that nothing is left of it in the end.
+fn assert_sent_and_cleared(rt: &impl Abort, block: &mut Block) {
     block.mark_exported(1, 4);
     assert_eq!(rt; block.sent(), Some((1, 4)));
     block.restore_sent(Some((2, 7)));
     assert_eq!(rt; block.sent(), Some((2, 7)));
     block.clear();
-    assert_eq!(rt; state_of(&block), (0, 0, 0, None));
+    assert_eq!(rt; state_of(block), (0, 0, 0, None));
+}
+
+#[test]
+fn an_object_is_taken_back(rt: HostRuntime) -> Result<(), Fail> {
+    let mut block = Block::new(rt.alloc(), 16)?;
+    assert_taken_back(&rt, &mut block);
+    assert_sent_and_cleared(&rt, &mut block);
     Ok(())
 }
 
@@ -135,19 +157,31 @@ fn is_free_list(alloc: Global, pool: &Pool, numbers: &[u32]) -> Result<bool, All
     Ok(same)
 }
 
+/// Asserts that two of five blocks are granted, and that one more is taken.
+fn assert_two_granted(rt: &impl Abort, alloc: Global, pool: &mut Pool) -> Result<(), AllocError> {
+    assert_eq!(rt; (pool.limit(), pool.free_count()), (5, 5));
+    assert!(rt; is_granted(alloc, pool, 2, &[0, 1]));
+    assert!(rt; pool.is_free(3));
+    pool.take(3);
+    assert!(rt; is_free_list(alloc, pool, &[2, 4])?);
+    Ok(())
+}
+
+/// Asserts that a block comes back, and that then three are granted and not four.
+fn assert_three_granted(rt: &impl Abort, alloc: Global, pool: &mut Pool) -> Result<(), AllocError> {
+    assert!(rt; 1 < pool.limit() && !pool.is_free(1) && !pool.is_free(5));
+    pool.give_back(1);
+    assert!(rt; is_free_list(alloc, pool, &[1, 2, 4])?);
+    assert_eq!(rt; pool.grant(alloc, 4).err(), Some(GrantError::HeapFull));
+    assert!(rt; is_granted(alloc, pool, 3, &[1, 2, 4]));
+    assert_eq!(rt; pool.free_count(), 0);
+    Ok(())
+}
+
 #[test]
 fn blocks_are_granted_in_rising_order(rt: HostRuntime) -> Result<(), Fail> {
     let mut pool = Pool::new(rt.alloc(), 5)?;
-    assert_eq!(rt; (pool.limit(), pool.free_count()), (5, 5));
-    assert!(rt; is_granted(rt.alloc(), &mut pool, 2, &[0, 1]));
-    assert!(rt; pool.is_free(3));
-    pool.take(3);
-    assert!(rt; is_free_list(rt.alloc(), &pool, &[2, 4])?);
-    assert!(rt; 1 < pool.limit() && !pool.is_free(1) && !pool.is_free(5));
-    pool.give_back(1);
-    assert!(rt; is_free_list(rt.alloc(), &pool, &[1, 2, 4])?);
-    assert_eq!(rt; pool.grant(rt.alloc(), 4).err(), Some(GrantError::HeapFull));
-    assert!(rt; is_granted(rt.alloc(), &mut pool, 3, &[1, 2, 4]));
-    assert_eq!(rt; pool.free_count(), 0);
+    assert_two_granted(&rt, rt.alloc(), &mut pool)?;
+    assert_three_granted(&rt, rt.alloc(), &mut pool)?;
     Ok(())
 }

@@ -1,3 +1,4 @@
+//! Words of places and headers, the order of places, and sizes.
 use layout::{Header, Place, TooBig, is_large, size, word_of};
 use std::cmp::Ordering;
 

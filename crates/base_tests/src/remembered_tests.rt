@@ -1,16 +1,22 @@
+//! Flags, and places that are noted.
 use block_pool::Flags;
 use layout::Place;
 use remembered_set::Remembered;
 use std::alloc::{AllocError, Global};
+use std::process::Abort;
 use std::test::Fail;
 
-#[test]
-fn flags_are_found_lowest_first(rt: HostRuntime) -> Result<(), Fail> {
-    let mut flags = Flags::new(rt.alloc());
+/// Sets two flags.
+fn set_two(flags: &mut Flags) -> Result<(), AllocError> {
     flags.reserve(200)?;
     flags.set(200);
     flags.reserve(3)?;
     flags.set(3);
+    Ok(())
+}
+
+/// Asserts which of two flags are found, and which is left.
+fn assert_flags(rt: &impl Abort, flags: &mut Flags) {
     assert_eq!(rt;
         (flags.next(0), flags.next(3), flags.next(4), flags.next(201)),
         (Some(3), Some(3), Some(200), None)
@@ -21,6 +27,13 @@ fn flags_are_found_lowest_first(rt: HostRuntime) -> Result<(), Fail> {
         (flags.is_set(3), flags.is_set(200), flags.is_set(9999)),
         (false, true, false)
     );
+}
+
+#[test]
+fn flags_are_found_lowest_first(rt: HostRuntime) -> Result<(), Fail> {
+    let mut flags = Flags::new(rt.alloc());
+    set_two(&mut flags)?;
+    assert_flags(&rt, &mut flags);
     Ok(())
 }
 
@@ -54,34 +67,40 @@ fn is_rising(
     Ok(members.as_slice() == places)
 }
 
+/// Notes a large place twice, and asserts that the second of two generations has three places, each once.
+fn assert_noted_once(rt: &impl Abort, alloc: Global, sets: &mut Remembered) -> Result<(), Fail> {
+    let (low, small, large) = (Place::small(0, 8), Place::small(3, 500), Place::large(7));
+    note_all(sets, 1, &[large, small, large, low])?;
+    assert_eq!(rt; (sets.generations(), sets.len(0), sets.len(2)), (2, 0, 0));
+    assert!(rt; is_noted(sets, 1, &[large, small, low]));
+    assert!(rt; sets.contains(1, small) && !sets.contains(0, small) && !sets.contains(2, small));
+    assert!(rt; is_rising(alloc, sets, 1, &[low, small, large])?);
+    Ok(())
+}
+
 #[test]
 fn places_are_noted_once(rt: HostRuntime) -> Result<(), Fail> {
     let mut sets = Remembered::new(rt.alloc(), 2)?;
-    let large = Place::large(7);
-    let small = Place::small(3, 500);
-    let low = Place::small(0, 8);
-    note_all(&mut sets, 1, &[large, small, large, low])?;
-    assert_eq!(rt; (sets.generations(), sets.len(0), sets.len(2)), (2, 0, 0));
-    assert!(rt; is_noted(&sets, 1, &[large, small, low]));
-    assert!(rt; sets.contains(1, small) && !sets.contains(0, small) && !sets.contains(2, small));
-    assert!(rt; is_rising(rt.alloc(), &sets, 1, &[low, small, large])?);
+    assert_noted_once(&rt, rt.alloc(), &mut sets)
+}
+
+/// Takes two of three places back, of which one is noted once more.
+fn assert_taken_back(rt: &impl Abort, sets: &mut Remembered) -> Result<(), Fail> {
+    let (low, small, large) = (Place::small(0, 0), Place::small(0, 511), Place::large(0));
+    note_all(sets, 0, &[large, small, low])?;
+    assert!(rt; 0 < sets.len(0));
+    sets.remove(0, 0);
+    assert!(rt; is_noted(sets, 0, &[low, small]) && !sets.contains(0, large));
+    assert!(rt; 0 < sets.generations());
+    sets.cut(0, 1);
+    assert!(rt; is_noted(sets, 0, &[low]) && !sets.contains(0, small));
+    note_all(sets, 0, &[small])?;
+    assert!(rt; is_noted(sets, 0, &[low, small]));
     Ok(())
 }
 
 #[test]
 fn places_are_taken_back(rt: HostRuntime) -> Result<(), Fail> {
     let mut sets = Remembered::new(rt.alloc(), 1)?;
-    let large = Place::large(0);
-    let small = Place::small(0, 511);
-    let low = Place::small(0, 0);
-    note_all(&mut sets, 0, &[large, small, low])?;
-    assert!(rt; 0 < sets.len(0));
-    sets.remove(0, 0);
-    assert!(rt; is_noted(&sets, 0, &[low, small]) && !sets.contains(0, large));
-    assert!(rt; 0 < sets.generations());
-    sets.cut(0, 1);
-    assert!(rt; is_noted(&sets, 0, &[low]) && !sets.contains(0, small));
-    note_all(&mut sets, 0, &[small])?;
-    assert!(rt; is_noted(&sets, 0, &[low, small]));
-    Ok(())
+    assert_taken_back(&rt, &mut sets)
 }

@@ -1,6 +1,8 @@
+//! Worked traces, line by line as calls of a store.
 use model::Kind;
 use reference::{Config, Refusal, Store};
 use std::alloc::Global;
+use std::process::Abort;
 use std::test::Fail;
 
 fn config_of(block_words: u64, mutators: u64, nursery_blocks: u64, generations: u64) -> Config {
@@ -14,105 +16,201 @@ fn config_of(block_words: u64, mutators: u64, nursery_blocks: u64, generations: 
     }
 }
 
+/// Makes an object of mutator 0, and lets go of what is printed.
+fn add(
+    alloc: Global,
+    config: &Config,
+    store: &mut Store,
+    name: &[u8],
+    pointers: u64,
+    words: u64,
+) -> Result<(), Refusal> {
+    let _line = store.add(alloc, config, name, 0, pointers, words)?;
+    Ok(())
+}
+
+/// Asserts the line of a collection.
+fn assert_collected(
+    rt: &impl Abort,
+    alloc: Global,
+    config: &Config,
+    store: &mut Store,
+    generation: u64,
+    line: &str,
+) -> Result<(), Refusal> {
+    let printed = store.collect_to(alloc, config, generation)?;
+    assert_eq!(rt; printed.as_str(), line);
+    Ok(())
+}
+
+/// Asserts the lines of the census.
+fn assert_census(
+    rt: &impl Abort,
+    alloc: Global,
+    config: &Config,
+    store: &Store,
+    census: &str,
+) -> Result<(), Fail> {
+    assert_eq!(rt; store.census(alloc, config)?.as_str(), census);
+    Ok(())
+}
+
+/// An object leads to another, which has no name then, and a third one is dropped.
+fn add_three(alloc: Global, config: &Config, store: &mut Store) -> Result<(), Fail> {
+    add(alloc, config, store, b"a", 1, 1)?;
+    add(alloc, config, store, b"b", 0, 2)?;
+    store.put(config, b"b", 1, 18446744073709551615)?;
+    store.set(config, b"a", 0, Some(b"b"))?;
+    store.forget(config, b"b")?;
+    add(alloc, config, store, b"c", 0, 0)?;
+    store.forget(config, b"c")?;
+    Ok(())
+}
+
+/// The census after two of three objects are kept.
+const TWO: &str =
+    "gen 0 step 0: 2 objects 6 words\nlarge: 0 objects 0 words\nroots: 1\nremembered: 0\n";
+
+/// Asserts that the first two of three objects are kept.
+fn assert_two_kept(
+    rt: &impl Abort,
+    alloc: Global,
+    config: &Config,
+    store: &mut Store,
+) -> Result<(), Fail> {
+    add_three(alloc, config, store)?;
+    assert_eq!(rt; store.live(alloc, 0)?.as_slice(), [0, 1].as_slice());
+    assert_collected(
+        rt,
+        alloc,
+        config,
+        store,
+        0,
+        "collected 0: 2 kept, 1 freed\n",
+    )?;
+    assert_census(rt, alloc, config, store, TWO)
+}
+
 #[test]
 fn two_kept_one_dropped(rt: HostRuntime) -> Result<(), Fail> {
-    let alloc: Global = rt.alloc();
     let config = config_of(64, 1, 4, 1);
-    let mut store = Store::empty(alloc, &config)?;
-    let _line = store.add(alloc, &config, b"a", 0, 1, 1)?;
-    let _line = store.add(alloc, &config, b"b", 0, 0, 2)?;
-    store.put(&config, b"b", 1, 18446744073709551615)?;
-    store.set(&config, b"a", 0, Some(b"b"))?;
-    store.forget(&config, b"b")?;
-    let _line = store.add(alloc, &config, b"c", 0, 0, 0)?;
-    store.forget(&config, b"c")?;
-    assert_eq!(rt; store.live(alloc, 0)?.as_slice(), [0, 1].as_slice());
-    let line = store.collect_to(alloc, &config, 0)?;
-    assert_eq!(rt; line.as_str(), "collected 0: 2 kept, 1 freed\n");
-    let census = store.census(alloc, &config)?;
-    assert_eq!(rt;
-        census.as_str(),
-        "gen 0 step 0: 2 objects 6 words\nlarge: 0 objects 0 words\nroots: 1\nremembered: 0\n"
-    );
+    let mut store = Store::empty(rt.alloc(), &config)?;
+    assert_two_kept(&rt, rt.alloc(), &config, &mut store)
+}
+
+/// Four objects fill the nursery, and the first one is dropped.
+fn fill_nursery(alloc: Global, config: &Config, store: &mut Store) -> Result<(), Fail> {
+    add(alloc, config, store, b"a", 0, 15)?;
+    store.forget(config, b"a")?;
+    for name in [b"b", b"c", b"d"] {
+        add(alloc, config, store, name, 0, 15)?;
+    }
     Ok(())
+}
+
+/// The census after a fifth object, for which the nursery was collected.
+const AGED: &str =
+    "gen 0 step 0: 1 objects 16 words\ngen 0 step 1: 3 objects 48 words\ngen 1 step 0: 0 objects 0 words\nlarge: 0 objects 0 words\nroots: 4\nremembered: 0\n";
+
+/// Asserts that a full nursery is collected before the next object, and that what is kept ages.
+fn assert_aged(
+    rt: &impl Abort,
+    alloc: Global,
+    config: &Config,
+    store: &mut Store,
+) -> Result<(), Fail> {
+    fill_nursery(alloc, config, store)?;
+    let line = store.add(alloc, config, b"e", 0, 0, 15)?;
+    assert_eq!(rt; line.as_str(), "auto 0: 3 kept, 1 freed\n");
+    assert_census(rt, alloc, config, store, AGED)
 }
 
 #[test]
 fn automatic_collection(rt: HostRuntime) -> Result<(), Fail> {
-    let alloc: Global = rt.alloc();
     let config = config_of(64, 1, 1, 2);
-    let mut store = Store::empty(alloc, &config)?;
-    let _line = store.add(alloc, &config, b"a", 0, 0, 15)?;
-    store.forget(&config, b"a")?;
-    let _line = store.add(alloc, &config, b"b", 0, 0, 15)?;
-    let _line = store.add(alloc, &config, b"c", 0, 0, 15)?;
-    let _line = store.add(alloc, &config, b"d", 0, 0, 15)?;
-    let line = store.add(alloc, &config, b"e", 0, 0, 15)?;
-    assert_eq!(rt; line.as_str(), "auto 0: 3 kept, 1 freed\n");
-    let census = store.census(alloc, &config)?;
-    assert_eq!(rt;
-        census.as_str(),
-        "gen 0 step 0: 1 objects 16 words\ngen 0 step 1: 3 objects 48 words\ngen 1 step 0: 0 objects 0 words\nlarge: 0 objects 0 words\nroots: 4\nremembered: 0\n"
-    );
+    let mut store = Store::empty(rt.alloc(), &config)?;
+    assert_aged(&rt, rt.alloc(), &config, &mut store)
+}
+
+/// An object of the older generation leads to a new one, and neither has a name then.
+fn assert_parent_ages(
+    rt: &impl Abort,
+    alloc: Global,
+    config: &Config,
+    store: &mut Store,
+) -> Result<(), Fail> {
+    add(alloc, config, store, b"a", 1, 0)?;
+    for _time in 0..2 {
+        assert_collected(
+            rt,
+            alloc,
+            config,
+            store,
+            0,
+            "collected 0: 1 kept, 0 freed\n",
+        )?;
+    }
+    add(alloc, config, store, b"b", 0, 0)?;
+    store.set(config, b"a", 0, Some(b"b"))?;
+    store.forget(config, b"b")?;
+    store.forget(config, b"a")?;
+    Ok(())
+}
+
+/// Asserts that the new object is kept, until the generation of the dead one is collected.
+fn assert_child_is_kept(
+    rt: &impl Abort,
+    alloc: Global,
+    config: &Config,
+    store: &mut Store,
+) -> Result<(), Fail> {
+    assert_parent_ages(rt, alloc, config, store)?;
+    for (generation, line) in [
+        (0, "collected 0: 1 kept, 0 freed\n"),
+        (1, "collected 1: 0 kept, 2 freed\n"),
+    ] {
+        assert_collected(rt, alloc, config, store, generation, line)?;
+    }
     Ok(())
 }
 
 #[test]
 fn dead_parent_keeps_child(rt: HostRuntime) -> Result<(), Fail> {
-    let alloc: Global = rt.alloc();
     let config = config_of(64, 1, 4, 2);
-    let mut store = Store::empty(alloc, &config)?;
-    let _line = store.add(alloc, &config, b"a", 0, 1, 0)?;
-    assert_eq!(rt;
-        store.collect_to(alloc, &config, 0)?.as_str(),
-        "collected 0: 1 kept, 0 freed\n"
-    );
-    assert_eq!(rt;
-        store.collect_to(alloc, &config, 0)?.as_str(),
-        "collected 0: 1 kept, 0 freed\n"
-    );
-    let _line = store.add(alloc, &config, b"b", 0, 0, 0)?;
-    store.set(&config, b"a", 0, Some(b"b"))?;
-    store.forget(&config, b"b")?;
-    store.forget(&config, b"a")?;
-    assert_eq!(rt;
-        store.collect_to(alloc, &config, 0)?.as_str(),
-        "collected 0: 1 kept, 0 freed\n"
-    );
-    assert_eq!(rt;
-        store.collect_to(alloc, &config, 1)?.as_str(),
-        "collected 1: 0 kept, 2 freed\n"
-    );
+    let mut store = Store::empty(rt.alloc(), &config)?;
+    assert_child_is_kept(&rt, rt.alloc(), &config, &mut store)
+}
+
+/// Asserts that a nil pointer gives no name, and one that isn't nil does.
+fn assert_pointer_is_got(
+    rt: &impl Abort,
+    alloc: Global,
+    config: &Config,
+    store: &mut Store,
+) -> Result<(), Fail> {
+    add(alloc, config, store, b"a", 1, 0)?;
+    let refusal = store.get(alloc, config, b"b", b"a", 0).err();
+    assert_eq!(rt; refusal, Some(Refusal::Fault(Kind::NilPointer)));
+    store.set(config, b"a", 0, Some(b"a"))?;
+    store.get(alloc, config, b"b", b"a", 0)?;
     Ok(())
+}
+
+/// Asserts the faults of an object and of a collection.
+fn assert_faults(rt: &impl Abort, alloc: Global, config: &Config, store: &mut Store) {
+    let refusal = store.add(alloc, config, b"c", 0, 100001, 0).err();
+    assert_eq!(rt; refusal, Some(Refusal::Fault(Kind::TooBig)));
+    let refusal = store.add(alloc, config, b"c", 1, 0, 0).err();
+    assert_eq!(rt; refusal, Some(Refusal::Fault(Kind::NoMutator)));
+    let refusal = store.collect_to(alloc, config, 2).err();
+    assert_eq!(rt; refusal, Some(Refusal::Fault(Kind::NoGeneration)));
 }
 
 #[test]
 fn get_and_new_faults(rt: HostRuntime) -> Result<(), Fail> {
-    let alloc: Global = rt.alloc();
     let config = config_of(512, 1, 4, 2);
-    let mut store = Store::empty(alloc, &config)?;
-    let _line = store.add(alloc, &config, b"a", 0, 1, 0)?;
-    let refusal = store
-        .get(alloc, &config, b"b", b"a", 0)
-        .err()
-        .ok_or("got nil")?;
-    assert_eq!(rt; refusal, Refusal::Fault(Kind::NilPointer));
-    store.set(&config, b"a", 0, Some(b"a"))?;
-    store.get(alloc, &config, b"b", b"a", 0)?;
-    let refusal = store
-        .add(alloc, &config, b"c", 0, 100001, 0)
-        .err()
-        .ok_or("added")?;
-    assert_eq!(rt; refusal, Refusal::Fault(Kind::TooBig));
-    let refusal = store
-        .add(alloc, &config, b"c", 1, 0, 0)
-        .err()
-        .ok_or("added")?;
-    assert_eq!(rt; refusal, Refusal::Fault(Kind::NoMutator));
-    let refusal = store
-        .collect_to(alloc, &config, 2)
-        .err()
-        .ok_or("collected")?;
-    assert_eq!(rt; refusal, Refusal::Fault(Kind::NoGeneration));
+    let mut store = Store::empty(rt.alloc(), &config)?;
+    assert_pointer_is_got(&rt, rt.alloc(), &config, &mut store)?;
+    assert_faults(&rt, rt.alloc(), &config, &mut store);
     Ok(())
 }
