@@ -23,6 +23,8 @@ mod large_at_size;
 #[cfg(test)]
 mod memory;
 #[cfg(test)]
+mod odd;
+#[cfg(test)]
 mod pointers;
 #[cfg(test)]
 mod program;
@@ -38,6 +40,8 @@ mod refused_replays;
 mod replays;
 #[cfg(test)]
 mod streams;
+#[cfg(test)]
+mod table;
 #[cfg(test)]
 mod texts;
 #[cfg(test)]
