@@ -2,7 +2,7 @@
 //! objects. The first object of each has a name and 127 pointers, which lead to the 24 others, to itself and to one other of
 //! the component ten before. The others lead back to it and to the first object of the component ten behind, or, from the last
 //! ten, of that among the first ten which ends alike. So the components whose numbers end alike live and die together.
-use crate::program::ran;
+use crate::program::assert_output;
 use std::alloc::{AllocError, Global};
 use std::fmt::Write;
 use std::test::Fail;
@@ -265,9 +265,6 @@ fn output_of(alloc: Global) -> Result<String, AllocError> {
 fn three_collections_at_size(rt: HostRuntime) -> Result<(), Fail> {
     let trace = trace_of(rt.alloc())?;
     let output = output_of(rt.alloc())?;
-    let words = ["gctrace", "run", "--generations=1", "--nursery=64"];
-    let ended = ran(rt.alloc(), &words, trace.as_bytes());
-    assert_eq!(rt; (ended.status, ended.errors.is_empty()), (0, true));
-    assert!(rt; ended.output.as_slice() == output.as_bytes());
-    Ok(())
+    let words = "gctrace run --generations=1 --nursery=64";
+    assert_output(&rt, rt.alloc(), words, trace.as_str(), output.as_str())
 }

@@ -1,6 +1,7 @@
 //! Traces with collections that a full nursery starts, and what they print.
 
-pub(crate) const ROWS: &str = "== a full nursery collects 1
+pub(crate) const ROWS: &str =
+    "== four objects of 16 words fill the nursery, and the fifth finds no room
 gctrace run --block-words 64 --nursery 1
 status 0
 -- reads
@@ -20,7 +21,7 @@ large: 0 objects 0 words
 roots: 4
 remembered: 0
 -- tells
-== a full nursery collects 2
+== one word is left in the first block, which was left; the second is full
 gctrace run --block-words 64 --nursery 2
 status 0
 -- reads
@@ -36,7 +37,7 @@ new i 0 0 0
 -- writes
 auto 0: 8 kept, 0 freed
 -- tells
-== a full nursery collects 3
+== one word is left, which an object of one word takes and one of two doesn't
 gctrace run --block-words 64 --nursery 1
 status 0
 -- reads
@@ -56,7 +57,7 @@ new l 0 0 0
 auto 0: 5 kept, 0 freed
 auto 0: 11 kept, 0 freed
 -- tells
-== survivors of full nurseries age
+== survivors age: the second collection finds a pointer from the first step to the nursery, and one object of that step dead
 gctrace run --block-words 64 --nursery 1
 status 0
 -- reads
@@ -104,7 +105,7 @@ root j #5
 #6 gen 1 step 0 ptrs [] words [0 0 0 0 0 0 0 0 0 0 0 0 0 0 0]
 #7 gen 0 step 1 ptrs [] words [0 0 0 0 0 0 0 0 0 0 0 0 0 0 0]
 -- tells
-== any full nursery empties all 1
+== the second mutator's nursery is full, then the first one has room for four again
 gctrace run --block-words 16 --mutators 2 --nursery 1
 status 0
 -- reads
@@ -141,7 +142,7 @@ large: 0 objects 0 words
 roots: 15
 remembered: 0
 -- tells
-== any full nursery empties all 2
+== a collection by command empties each nursery too, so nothing is collected at the fifth object
 gctrace run --block-words 16 --mutators 2 --nursery 1
 status 0
 -- reads
@@ -155,7 +156,7 @@ new e 1 0 3
 -- writes
 collected 1: 3 kept, 1 freed
 -- tells
-== a fault comes before the collection 1
+== fault before the collection: name in use
 gctrace run --block-words 64 --nursery 1
 status 2
 -- reads
@@ -167,7 +168,7 @@ new d 0 0 15
 -- writes
 -- tells
 gctrace: line 5: name in use
-== a fault comes before the collection 2
+== fault before the collection: no such mutator
 gctrace run --block-words 64 --nursery 1
 status 2
 -- reads
@@ -179,7 +180,7 @@ new e 1 0 15
 -- writes
 -- tells
 gctrace: line 5: no such mutator
-== a fault comes before the collection 3
+== fault before the collection: too big
 gctrace run --block-words 64 --nursery 1
 status 2
 -- reads
@@ -191,7 +192,7 @@ new e 0 100001 15
 -- writes
 -- tells
 gctrace: line 5: too big
-== a fault comes before the collection 4
+== fault before the collection: wrong number of words
 gctrace run --block-words 64 --nursery 1
 status 2
 -- reads
@@ -203,7 +204,7 @@ new e 0 0
 -- writes
 -- tells
 gctrace: line 5: wrong number of words
-== heap full in automatic collections 1
+== eight objects of 16 words want two blocks, and one is free
 gctrace run --generations 1 --block-words 64 --nursery 2 --blocks 3
 status 1
 -- reads
@@ -225,7 +226,7 @@ roots: 0
 remembered: 0
 -- tells
 gctrace: line 10: heap full
-== heap full in automatic collections 2
+== four of them fit into the one block, and that is all
 gctrace run --generations 1 --block-words 64 --nursery 2 --blocks 3
 status 1
 -- reads
@@ -254,7 +255,7 @@ new x8 0 0 15
 auto 0: 4 kept, 4 freed
 -- tells
 gctrace: line 21: heap full
-== heap full in automatic collections 3
+== two blocks take the first eight, and then none is free
 gctrace run --generations 1 --block-words 64 --nursery 2 --blocks 4
 status 1
 -- reads

@@ -1,6 +1,7 @@
 //! Automatic collections in a replay: several workers take turns to the end, and what each did follows the line.
 
-pub(crate) const ROWS: &str = "== workers share the names 1
+pub(crate) const ROWS: &str =
+    "== three names are left when the nursery is full, and one worker has all three slots
 gctrace replay --block-words=64 --nursery=1
 status 0
 -- reads
@@ -21,7 +22,7 @@ large: 0 objects 0 words
 roots: 4
 remembered: 0
 -- tells
-== workers share the names 2
+== the first of two workers has the first slot and the third
 gctrace replay --block-words=64 --nursery=1 --threads=2
 status 0
 -- reads
@@ -43,7 +44,7 @@ large: 0 objects 0 words
 roots: 4
 remembered: 0
 -- tells
-== workers share the names 3
+== each of three workers has one slot
 gctrace replay --block-words=64 --nursery=1 --threads=3
 status 0
 -- reads
@@ -66,7 +67,7 @@ large: 0 objects 0 words
 roots: 4
 remembered: 0
 -- tells
-== workers take their own blocks 1
+== one worker takes its own blocks: it exports what is full, scans what stands in the last block, and only then takes back
 gctrace replay --generations=1 --block-words=16 --nursery=2 --threads 1
 status 0
 -- reads
@@ -91,7 +92,7 @@ worker 0: 9 won, 9 scanned
 block 0.0: 4 objects, taken by 0
 block 0.1: 4 objects, taken by 0
 -- tells
-== workers take their own blocks 2
+== two workers take their own blocks
 gctrace replay --generations=1 --block-words=16 --nursery=3 --threads 2
 status 0
 -- reads
@@ -142,7 +143,7 @@ root m #13
 #12 gen 0 step 0 ptrs [] words [0 0 0]
 #13 gen 0 step 0 ptrs [] words [0 0 0]
 -- tells
-== replays stop in automatic collections 1
+== one block is free, which the first worker fills; the second finds none
 gctrace replay --generations=1 --block-words=64 --nursery=2 --blocks=3 --threads=2
 status 1
 -- reads
@@ -158,7 +159,7 @@ new i 0 0 15
 -- writes
 -- tells
 gctrace: line 9: heap full
-== replays stop in automatic collections 2
+== between a collection and its commit no object is made
 gctrace replay --block-words=64 --nursery=1
 status 2
 -- reads

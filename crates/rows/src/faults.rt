@@ -1,6 +1,6 @@
 //! Every fault of a line, of the heap and of the words, with its text and status.
 
-pub(crate) const ROWS: &str = "== lines without a command 3
+pub(crate) const ROWS: &str = "== no command: frob
 gctrace run --generations 1
 status 2
 -- reads
@@ -8,7 +8,7 @@ frob
 -- writes
 -- tells
 gctrace: line 1: unknown command
-== lines without a command 4
+== no command: New a 0 0 0
 gctrace run --generations 1
 status 2
 -- reads
@@ -16,7 +16,7 @@ New a 0 0 0
 -- writes
 -- tells
 gctrace: line 1: unknown command
-== lines without a command 5
+== no command: Set a 0 b
 gctrace run --generations 1
 status 2
 -- reads
@@ -26,7 +26,7 @@ Set a 0 b
 -- writes
 -- tells
 gctrace: line 3: unknown command
-== lines without a command 6
+== no command: gets b a 0
 gctrace run --generations 1
 status 2
 -- reads
@@ -34,7 +34,7 @@ gets b a 0
 -- writes
 -- tells
 gctrace: line 1: unknown command
-== lines without a command 7
+== no command: look 0
 gctrace run --generations 1
 status 2
 -- reads
@@ -42,7 +42,7 @@ look 0
 -- writes
 -- tells
 gctrace: line 1: unknown command
-== words without the form 1
+== form: new a 0 0
 gctrace run --generations 1
 status 2
 -- reads
@@ -50,7 +50,7 @@ new a 0 0
 -- writes
 -- tells
 gctrace: line 1: wrong number of words
-== words without the form 2
+== form: new a 0 0 0 0
 gctrace run --generations 1
 status 2
 -- reads
@@ -58,7 +58,7 @@ new a 0 0 0 0
 -- writes
 -- tells
 gctrace: line 1: wrong number of words
-== words without the form 3
+== form: drop
 gctrace run --generations 1
 status 2
 -- reads
@@ -66,7 +66,7 @@ drop
 -- writes
 -- tells
 gctrace: line 1: wrong number of words
-== words without the form 4
+== form: drop nil nil
 gctrace run --generations 1
 status 2
 -- reads
@@ -74,7 +74,7 @@ drop nil nil
 -- writes
 -- tells
 gctrace: line 1: wrong number of words
-== words without the form 5
+== form: collect
 gctrace run --generations 1
 status 2
 -- reads
@@ -82,7 +82,7 @@ collect
 -- writes
 -- tells
 gctrace: line 1: wrong number of words
-== words without the form 6
+== form: collect 0 0
 gctrace run --generations 1
 status 2
 -- reads
@@ -90,7 +90,7 @@ collect 0 0
 -- writes
 -- tells
 gctrace: line 1: wrong number of words
-== words without the form 7
+== form: census 0
 gctrace run --generations 1
 status 2
 -- reads
@@ -98,7 +98,7 @@ census 0
 -- writes
 -- tells
 gctrace: line 1: wrong number of words
-== words without the form 8
+== form: drop nil
 gctrace run --generations 1
 status 2
 -- reads
@@ -106,7 +106,7 @@ drop nil
 -- writes
 -- tells
 gctrace: line 1: bad name
-== words without the form 9
+== form: new a/b x 0 0
 gctrace run --generations 1
 status 2
 -- reads
@@ -114,7 +114,7 @@ new a/b x 0 0
 -- writes
 -- tells
 gctrace: line 1: bad name
-== words without the form 10
+== form: new a23456789012345678901234567890123 0 0 0
 gctrace run --generations 1
 status 2
 -- reads
@@ -122,7 +122,7 @@ new a23456789012345678901234567890123 0 0 0
 -- writes
 -- tells
 gctrace: line 1: bad name
-== words without the form 11
+== form: new a -0 0 0
 gctrace run --generations 1
 status 2
 -- reads
@@ -130,7 +130,7 @@ new a -0 0 0
 -- writes
 -- tells
 gctrace: line 1: bad number
-== words without the form 12
+== form: new a 0 0x0 0
 gctrace run --generations 1
 status 2
 -- reads
@@ -138,7 +138,7 @@ new a 0 0x0 0
 -- writes
 -- tells
 gctrace: line 1: bad number
-== words without the form 13
+== form: new a 0 0 18446744073709551616
 gctrace run --generations 1
 status 2
 -- reads
@@ -146,7 +146,7 @@ new a 0 0 18446744073709551616
 -- writes
 -- tells
 gctrace: line 1: bad number
-== words without the form 14
+== form: collect +0
 gctrace run --generations 1
 status 2
 -- reads
@@ -154,7 +154,7 @@ collect +0
 -- writes
 -- tells
 gctrace: line 1: bad number
-== lines against the heap 1
+== against the heap: new a 0 0 0, new a 1 0 0
 gctrace run --generations 1
 status 2
 -- reads
@@ -163,7 +163,7 @@ new a 1 0 0
 -- writes
 -- tells
 gctrace: line 2: name in use
-== lines against the heap 2
+== against the heap: new a 0 0 0, new a 0 0 x
 gctrace run --generations 1
 status 2
 -- reads
@@ -172,7 +172,7 @@ new a 0 0 x
 -- writes
 -- tells
 gctrace: line 2: bad number
-== lines against the heap 3
+== against the heap: drop x
 gctrace run --generations 1
 status 2
 -- reads
@@ -180,7 +180,7 @@ drop x
 -- writes
 -- tells
 gctrace: line 1: unknown name
-== lines against the heap 4
+== against the heap: new a 0 0 0, drop a, drop a
 gctrace run --generations 1
 status 2
 -- reads
@@ -190,7 +190,7 @@ drop a
 -- writes
 -- tells
 gctrace: line 3: unknown name
-== lines against the heap 5
+== against the heap: new a 1 100001 0
 gctrace run --generations 1
 status 2
 -- reads
@@ -198,7 +198,7 @@ new a 1 100001 0
 -- writes
 -- tells
 gctrace: line 1: no such mutator
-== lines against the heap 6
+== against the heap: new a 0 100001 0
 gctrace run --generations 1
 status 2
 -- reads
@@ -206,7 +206,7 @@ new a 0 100001 0
 -- writes
 -- tells
 gctrace: line 1: too big
-== lines against the heap 7
+== against the heap: new a 0 0 100001
 gctrace run --generations 1
 status 2
 -- reads
@@ -214,7 +214,7 @@ new a 0 0 100001
 -- writes
 -- tells
 gctrace: line 1: too big
-== lines against the heap 8
+== against the heap: collect 1
 gctrace run --generations 1
 status 2
 -- reads
@@ -222,7 +222,7 @@ collect 1
 -- writes
 -- tells
 gctrace: line 1: no such generation
-== lines against the heap 9
+== against the heap: collect 18446744073709551615
 gctrace run --generations 1
 status 2
 -- reads
@@ -230,7 +230,7 @@ collect 18446744073709551615
 -- writes
 -- tells
 gctrace: line 1: no such generation
-== lines against the heap 10
+== objects of 128 fields
 gctrace run --generations 1
 status 0
 -- reads
@@ -238,7 +238,7 @@ new a 0 63 64
 new b 0 64 64
 -- writes
 -- tells
-== heap full at an object and at the start 1
+== the tenth object finds the nursery full, and the collection wants two blocks where one is free
 gctrace run --generations=1 --block-words 16 --nursery=1 --blocks 3
 status 1
 -- reads
@@ -258,7 +258,7 @@ census
 collected 0: 4 kept, 0 freed
 -- tells
 gctrace: line 11: heap full
-== heap full at an object and at the start 2
+== blocks wanting at the start
 gctrace run --generations=1 --blocks 3
 status 1
 -- reads
@@ -285,7 +285,7 @@ roots: 1
 remembered: 0
 -- tells
 gctrace: line 6: unknown name
-== texts of mistakes 1
+== mistaken number
 gctrace run --threads=x
 status 3
 -- reads
@@ -294,7 +294,7 @@ status 3
 error: invalid value 'x' for '--threads <NUMBER>': invalid digit found in string
 
 For more information, try '--help'.
-== texts of mistakes 2
+== mistaken command
 gctrace walk
 status 3
 -- reads

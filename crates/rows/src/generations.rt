@@ -1,6 +1,6 @@
 //! Worked traces of several generations, steps and mutators, with what they print.
 
-pub(crate) const ROWS: &str = "== objects age 1
+pub(crate) const ROWS: &str = "== objects age
 gctrace run --block-words 64
 status 0
 -- reads
@@ -27,7 +27,7 @@ collected 1: 1 kept, 0 freed
 root a #1
 #1 gen 1 step 0 ptrs [] words [0]
 -- tells
-== objects age 2
+== objects age through three generations
 gctrace run --generations 3 --steps 1
 status 0
 -- reads
@@ -66,7 +66,7 @@ root a #1
 collected 1: 0 kept, 0 freed
 collected 2: 0 kept, 2 freed
 -- tells
-== older objects point to younger ones 1
+== old object points to a young one
 gctrace run --block-words 64
 status 0
 -- reads
@@ -94,7 +94,7 @@ root a #1
 #1 gen 1 step 0 ptrs [#2] words []
 #2 gen 0 step 1 ptrs [] words [7]
 -- tells
-== older objects point to younger ones 2
+== young object that only an old dead one leads to
 gctrace run --block-words 64
 status 0
 -- reads
@@ -113,7 +113,7 @@ collected 0: 1 kept, 0 freed
 collected 0: 1 kept, 0 freed
 collected 1: 0 kept, 2 freed
 -- tells
-== older objects point to younger ones 3
+== pointer becomes an old one as its object moves
 gctrace run --block-words 64
 status 0
 -- reads
@@ -134,7 +134,7 @@ large: 0 objects 0 words
 roots: 1
 remembered: 1
 -- tells
-== older objects point to younger ones 4
+== pointer from an old object to a young one becomes nil
 gctrace run --block-words 64
 status 0
 -- reads
@@ -158,7 +158,7 @@ roots: 1
 remembered: 0
 collected 0: 0 kept, 1 freed
 -- tells
-== mutators have nurseries of their own 1
+== mutators have nurseries of their own
 gctrace run --block-words 16 --mutators 2 --nursery 1
 status 0
 -- reads
@@ -178,7 +178,7 @@ large: 0 objects 0 words
 roots: 6
 remembered: 0
 -- tells
-== mutators have nurseries of their own 2
+== nursery of one of two mutators is full
 gctrace run --block-words 16 --mutators 2 --nursery 1
 status 2
 -- reads
@@ -209,7 +209,7 @@ roots: 7
 remembered: 0
 -- tells
 gctrace: line 11: no such mutator
-== faults with two generations 1
+== two generations: new a 0 1 0, new b 0 0 0, set a 1 b
 gctrace run
 status 2
 -- reads
@@ -219,7 +219,7 @@ set a 1 b
 -- writes
 -- tells
 gctrace: line 3: no such field
-== faults with two generations 3
+== two generations: new a 1 0 0
 gctrace run
 status 2
 -- reads
@@ -227,7 +227,7 @@ new a 1 0 0
 -- writes
 -- tells
 gctrace: line 1: no such mutator
-== faults with two generations 4
+== two generations: collect 2
 gctrace run
 status 2
 -- reads
@@ -235,21 +235,21 @@ collect 2
 -- writes
 -- tells
 gctrace: line 1: no such generation
-== faults with two generations 5
+== one block too few for the nursery
 gctrace run --blocks 3
 status 1
 -- reads
 -- writes
 -- tells
 gctrace: heap full
-== faults with two generations 6
+== one block too few for 16 nurseries
 gctrace run --mutators 16 --nursery 64 --blocks 1023
 status 1
 -- reads
 -- writes
 -- tells
 gctrace: heap full
-== faults with two generations 7
+== blocks enough for 16 nurseries
 gctrace run --mutators 16 --nursery 64 --blocks 1024
 status 0
 -- reads

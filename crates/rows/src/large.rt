@@ -1,6 +1,6 @@
 //! Worked traces with large objects, which have blocks of their own, and what they print.
 
-pub(crate) const ROWS: &str = "== last small first large 1
+pub(crate) const ROWS: &str = "== last small and first large object
 gctrace run --block-words 64
 status 0
 -- reads
@@ -17,7 +17,7 @@ large: 1 objects 17 words
 roots: 2
 remembered: 0
 -- tells
-== last small first large 2
+== largest object
 gctrace run
 status 0
 -- reads
@@ -31,7 +31,7 @@ large: 1 objects 200001 words
 roots: 1
 remembered: 0
 -- tells
-== large wants blocks 1
+== large object wants blocks
 gctrace run --block-words 64 --nursery 1 --blocks 3
 status 1
 -- reads
@@ -44,7 +44,7 @@ new c 0 0 16
 collected 0: 0 kept, 1 freed
 -- tells
 gctrace: line 5: heap full
-== large wants blocks 2
+== large object collects nothing, though a collection would make room
 gctrace run --block-words 64 --nursery 1 --blocks 3
 status 1
 -- reads
@@ -54,7 +54,7 @@ new b 0 0 16
 -- writes
 -- tells
 gctrace: line 3: heap full
-== large wants blocks 3
+== one word more than two blocks hold
 gctrace run --block-words 64 --nursery 1 --blocks 3
 status 1
 -- reads
@@ -62,7 +62,7 @@ new a 0 0 128
 -- writes
 -- tells
 gctrace: line 1: heap full
-== large wants blocks 4
+== name that is in use comes before want of blocks
 gctrace run --block-words 64 --nursery 1 --blocks 3
 status 2
 -- reads
@@ -71,7 +71,7 @@ new a 0 0 128
 -- writes
 -- tells
 gctrace: line 2: name in use
-== each number of free blocks for a large object 1
+== large object of three blocks, where none is free
 gctrace run --block-words 64 --nursery 1 --blocks 1
 status 1
 -- reads
@@ -79,7 +79,7 @@ new a 0 0 128
 -- writes
 -- tells
 gctrace: line 1: heap full
-== each number of free blocks for a large object 2
+== large object of three blocks, where one is free
 gctrace run --block-words 64 --nursery 1 --blocks 2
 status 1
 -- reads
@@ -87,7 +87,7 @@ new a 0 0 128
 -- writes
 -- tells
 gctrace: line 1: heap full
-== each number of free blocks for a large object 3
+== large object of three blocks, where two are free
 gctrace run --block-words 64 --nursery 1 --blocks 3
 status 1
 -- reads
@@ -95,14 +95,14 @@ new a 0 0 128
 -- writes
 -- tells
 gctrace: line 1: heap full
-== each number of free blocks for a large object 4
+== large object of three blocks, where three are free
 gctrace run --block-words 64 --nursery 1 --blocks 4
 status 0
 -- reads
 new a 0 0 128
 -- writes
 -- tells
-== each number of free blocks for a collection 1
+== large object leads to eight small ones, which take two blocks, where none is free
 gctrace run --generations 1 --block-words 16 --nursery 2 --blocks 3
 status 1
 -- reads
@@ -136,7 +136,7 @@ collect 0
 -- writes
 -- tells
 gctrace: line 26: heap full
-== each number of free blocks for a collection 2
+== large object leads to eight small ones, which take two blocks, where one is free
 gctrace run --generations 1 --block-words 16 --nursery 2 --blocks 4
 status 1
 -- reads
@@ -170,7 +170,7 @@ collect 0
 -- writes
 -- tells
 gctrace: line 26: heap full
-== each number of free blocks for a collection 3
+== large object leads to eight small ones, which take two blocks, where two are free
 gctrace run --generations 1 --block-words 16 --nursery 2 --blocks 5
 status 1
 -- reads
@@ -205,7 +205,7 @@ collect 0
 collected 0: 9 kept, 0 freed
 -- tells
 gctrace: line 27: heap full
-== large remembered
+== large object is remembered
 gctrace run --block-words 64
 status 0
 -- reads
@@ -228,7 +228,7 @@ large: 1 objects 22 words
 roots: 1
 remembered: 1
 -- tells
-== large objects are promoted
+== the collection itself makes the pointer of a large object an old one, and a large object points to a younger large one
 gctrace run --block-words 64
 status 0
 -- reads
@@ -272,7 +272,7 @@ large: 0 objects 0 words
 roots: 0
 remembered: 0
 -- tells
-== blocks change hands
+== large object leads to thirteen small ones, whose blocks one worker exports and both take
 gctrace replay --threads 2 --generations 1 --block-words 16
 status 0
 -- reads
@@ -380,7 +380,7 @@ block 0.0: 4 objects, taken by 1
 block 0.1: 4 objects, taken by 0
 block 0.2: 4 objects, taken by 1
 -- tells
-== front changes hands
+== block changes hands of which one object is scanned
 gctrace replay --threads 2 --generations 1 --block-words 16
 status 0
 -- reads

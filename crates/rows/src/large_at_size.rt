@@ -1,10 +1,8 @@
 //! A trace of 200 large objects with names, each of which leads to 20 small ones, in blocks of 64 words, and what it prints.
-use crate::program::ran;
+use crate::program::assert_output;
 use std::alloc::{AllocError, Global};
 use std::fmt::Write;
 use std::test::Fail;
-
-const WORDS: [&str; 6] = ["gctrace", "run", "--block-words", "64", "--nursery", "64"];
 
 /// The name of large object `k` has this number, so that all are of one length.
 fn name_of(k: u16) -> u64 {
@@ -134,10 +132,7 @@ fn heap_of(alloc: Global) -> Result<String, AllocError> {
 #[test]
 fn two_hundred_large_objects(rt: HostRuntime) -> Result<(), Fail> {
     let trace = trace_of(rt.alloc())?;
-    let ended = ran(rt.alloc(), &WORDS, trace.as_bytes());
-    let printed = heap_of(rt.alloc())?;
-    assert!(rt; ended.errors.is_empty());
-    assert!(rt; ended.output.as_slice() == printed.as_bytes());
-    assert_eq!(rt; ended.status, 0);
-    Ok(())
+    let output = heap_of(rt.alloc())?;
+    let words = "gctrace run --block-words 64 --nursery 64";
+    assert_output(&rt, rt.alloc(), words, trace.as_str(), output.as_str())
 }

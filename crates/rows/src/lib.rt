@@ -2,7 +2,6 @@
 #![tactic(auto)]
 
 mod fronts;
-mod trace_tests;
 
 pub use fronts::is_front_in_lines;
 
@@ -13,7 +12,11 @@ mod automatic;
 #[cfg(test)]
 mod automatic_replays;
 #[cfg(test)]
+mod calls;
+#[cfg(test)]
 mod faults;
+#[cfg(test)]
+mod field_faults;
 #[cfg(test)]
 mod generations;
 #[cfg(test)]
@@ -21,9 +24,11 @@ mod large;
 #[cfg(test)]
 mod large_at_size;
 #[cfg(test)]
-mod memory;
+mod lines;
 #[cfg(test)]
 mod odd;
+#[cfg(test)]
+mod pieces;
 #[cfg(test)]
 mod pointers;
 #[cfg(test)]
@@ -31,19 +36,17 @@ mod program;
 #[cfg(test)]
 mod reads_and_writes;
 #[cfg(test)]
-mod refused_generations;
+mod refused;
 #[cfg(test)]
-mod refused_large;
-#[cfg(test)]
-mod refused_replays;
+mod refused_traces;
 #[cfg(test)]
 mod replays;
+#[cfg(test)]
+mod reports;
 #[cfg(test)]
 mod streams;
 #[cfg(test)]
 mod table;
-#[cfg(test)]
-mod texts;
 #[cfg(test)]
 mod walked;
 #[cfg(test)]

@@ -90,247 +90,7 @@ collected 0: 1 kept, 1 freed
 root c #1
 #1 gen 0 step 1 ptrs [] words [9]
 -- tells
-== get and new faults 1
-gctrace run
-status 2
--- reads
-new a 0 1 0
-get b a 0
--- writes
--- tells
-gctrace: line 2: nil pointer
-== get and new faults 2
-gctrace run
-status 2
--- reads
-new a 0 100001 0
--- writes
--- tells
-gctrace: line 1: too big
-== get and new faults 3
-gctrace run
-status 2
--- reads
-new a 1 0 0
--- writes
--- tells
-gctrace: line 1: no such mutator
-== first fault of a get 1
-gctrace run
-status 2
--- reads
-new a 0 0 0
-get a x 0
--- writes
--- tells
-gctrace: line 2: name in use
-== first fault of a get 2
-gctrace run
-status 2
--- reads
-new a 0 1 0
-set a 0 a
-get a a 0
--- writes
--- tells
-gctrace: line 3: name in use
-== first fault of a get 3
-gctrace run
-status 2
--- reads
-get b a 0
--- writes
--- tells
-gctrace: line 1: unknown name
-== first fault of a get 4
-gctrace run
-status 2
--- reads
-new a 0 1 0
-get b b 0
--- writes
--- tells
-gctrace: line 2: unknown name
-== first fault of a get 5
-gctrace run
-status 2
--- reads
-new a 0 1 0
-get b a 1
--- writes
--- tells
-gctrace: line 2: no such field
-== first fault of a get 6
-gctrace run
-status 2
--- reads
-new a 0 0 1
-get b a 0
--- writes
--- tells
-gctrace: line 2: no such field
-== first fault of a get 7
-gctrace run
-status 2
--- reads
-get nil a/ 0x
--- writes
--- tells
-gctrace: line 1: bad name
-== first fault of a get 8
-gctrace run
-status 2
--- reads
-get b a 0x
--- writes
--- tells
-gctrace: line 1: bad number
-== first fault of a get 9
-gctrace run
-status 2
--- reads
-get b a
--- writes
--- tells
-gctrace: line 1: wrong number of words
-== faults of fields 1
-gctrace run --generations 1
-status 2
--- reads
-new a 0 1 0
-new b 0 0 0
-set a 1 b
--- writes
--- tells
-gctrace: line 3: no such field
-== faults of fields 2
-gctrace run --generations 1
-status 2
--- reads
-new a 0 1 0
-set a 1 x
--- writes
--- tells
-gctrace: line 2: no such field
-== faults of fields 3
-gctrace run --generations 1
-status 2
--- reads
-new a 0 1 0
-set a 1 nil
--- writes
--- tells
-gctrace: line 2: no such field
-== faults of fields 4
-gctrace run --generations 1
-status 2
--- reads
-new a 0 1 0
-set a 0 x
--- writes
--- tells
-gctrace: line 2: unknown name
-== faults of fields 5
-gctrace run --generations 1
-status 2
--- reads
-new a 0 1 0
-set x 1 a
--- writes
--- tells
-gctrace: line 2: unknown name
-== faults of fields 6
-gctrace run --generations 1
-status 2
--- reads
-new a 0 1 0
-put a 0 1
--- writes
--- tells
-gctrace: line 2: no such field
-== faults of fields 7
-gctrace run --generations 1
-status 2
--- reads
-new a 0 0 1
-put a 1 1
--- writes
--- tells
-gctrace: line 2: no such field
-== faults of fields 8
-gctrace run --generations 1
-status 2
--- reads
-put x 0 1
--- writes
--- tells
-gctrace: line 1: unknown name
-== faults of fields 9
-gctrace run --generations 1
-status 2
--- reads
-new a 0 0 1
-put a 0 18446744073709551616
--- writes
--- tells
-gctrace: line 2: bad number
-== faults of fields 10
-gctrace run --generations 1
-status 2
--- reads
-put a 0 nil
--- writes
--- tells
-gctrace: line 1: bad number
-== faults of fields 11
-gctrace run --generations 1
-status 2
--- reads
-set x 18446744073709551616 nil
--- writes
--- tells
-gctrace: line 1: bad number
-== faults of fields 12
-gctrace run --generations 1
-status 2
--- reads
-set nil 0 a
--- writes
--- tells
-gctrace: line 1: bad name
-== faults of fields 13
-gctrace run --generations 1
-status 2
--- reads
-set a 0 a/b
--- writes
--- tells
-gctrace: line 1: bad name
-== faults of fields 14
-gctrace run --generations 1
-status 2
--- reads
-set a 0
--- writes
--- tells
-gctrace: line 1: wrong number of words
-== faults of fields 15
-gctrace run --generations 1
-status 2
--- reads
-put a 0 1 2
--- writes
--- tells
-gctrace: line 1: wrong number of words
-== faults of fields 16
-gctrace run --generations 1
-status 2
--- reads
-heap a
--- writes
--- tells
-gctrace: line 1: wrong number of words
-== numbers by first occurrence
+== numbers by first occurrence: byte order of names is B, a, b, and what b leads to beyond them comes breadth first
 gctrace run --generations 1 --block-words 64
 status 0
 -- reads
@@ -373,5 +133,37 @@ root b #3
 #4 gen 0 step 0 ptrs [] words []
 #5 gen 0 step 0 ptrs [#6] words []
 #6 gen 0 step 0 ptrs [] words [0 9]
+-- tells
+== fields are written
+gctrace run --generations 1 --block-words 64 --blocks 16
+status 0
+-- reads
+new b 0 1 0
+new a 0 2 1
+new c 0 0 2
+set a 0 b
+set a 1 a
+set a 1 nil
+set b 0 a
+put a 0 18446744073709551615
+put c 1 7
+heap
+drop b
+collect 0
+drop c
+collect 0
+heap
+-- writes
+root a #1
+root b #2
+root c #3
+#1 gen 0 step 0 ptrs [#2 nil] words [18446744073709551615]
+#2 gen 0 step 0 ptrs [#1] words []
+#3 gen 0 step 0 ptrs [] words [0 7]
+collected 0: 3 kept, 0 freed
+collected 0: 2 kept, 1 freed
+root a #1
+#1 gen 0 step 0 ptrs [#2 nil] words [18446744073709551615]
+#2 gen 0 step 0 ptrs [#1] words []
 -- tells
 ";

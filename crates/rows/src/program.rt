@@ -1,7 +1,8 @@
 //! The program over memory.
 use heap_text::Counted;
-use std::alloc::Global;
+use std::alloc::{AllocError, Global};
 use std::process::Abort;
+use std::test::Fail;
 use trace_driver::{CountedReader, main_with};
 
 /// What a run of the program leaves.
@@ -13,7 +14,7 @@ pub(crate) struct Ended {
 }
 
 /// Runs the program over memory.
-pub(crate) fn ran(alloc: Global, words: &[&str], input: &[u8]) -> Ended {
+fn ran_by(alloc: Global, words: &[&str], input: &[u8]) -> Ended {
     let mut reader = CountedReader {
         inner: input,
         failed_reads: 0,
@@ -34,33 +35,45 @@ pub(crate) fn ran(alloc: Global, words: &[&str], input: &[u8]) -> Ended {
     }
 }
 
+/// Runs the program over memory by the words of a command line, between which there are spaces.
+pub(crate) fn ran(alloc: Global, words: &str, input: &[u8]) -> Result<Ended, AllocError> {
+    let words: Vec<&str> = words.split_whitespace().collect(alloc)?;
+    Ok(ran_by(alloc, words.as_slice(), input))
+}
+
 /// Runs the program, and asserts all that it leaves.
 pub(crate) fn assert_run(
     rt: &impl Abort,
     alloc: Global,
-    words: &[&str],
+    words: &str,
     input: &[u8],
     output: &[u8],
     errors: &[u8],
     status: u8,
-) {
-    let ended = ran(alloc, words, input);
-    assert_eq!(rt; ended.errors.as_slice(), errors);
-    assert_eq!(rt; ended.output.as_slice(), output);
-    assert_eq!(rt; ended.status, status);
+) -> Result<(), Fail> {
+    let ended = ran(alloc, words, input)?;
+    assert_eq!(rt; ended.errors.as_slice(), errors, "told by: {words}");
+    assert_eq!(rt; ended.output.as_slice(), output, "written by: {words}");
+    assert_eq!(rt; ended.status, status, "status of: {words}");
+    Ok(())
 }
 
-pub(crate) const ONE_GENERATION: [&str; 4] = ["gctrace", "run", "--generations", "1"];
+/// Asserts that a run ends well and writes a long text, which a failure doesn't show.
+pub(crate) fn assert_output(
+    rt: &impl Abort,
+    alloc: Global,
+    words: &str,
+    input: &str,
+    output: &str,
+) -> Result<(), Fail> {
+    let ended = ran(alloc, words, input.as_bytes())?;
+    assert_eq!(rt; (ended.status, ended.errors.is_empty()), (0, true));
+    assert!(rt; ended.output.as_slice() == output.as_bytes());
+    Ok(())
+}
 
-/// The words of a run with one generation and blocks of 64 words.
-pub(crate) const BLOCKS_OF_64: [&str; 6] = [
-    "gctrace",
-    "run",
-    "--generations",
-    "1",
-    "--block-words",
-    "64",
-];
+/// The words of a run with one generation.
+pub(crate) const ONE_GENERATION: &str = "gctrace run --generations 1";
 
 /// One object is kept and one freed.
 pub(crate) const FIRST_TRACE: &[u8] = b"new a 0 0 1\nnew b 0 0 0\ndrop b\ncollect 0\ncensus\n";

@@ -1,6 +1,6 @@
 //! Traces whose collections have schedules.
 
-pub(crate) const ROWS: &str = "== faults of schedules 1
+pub(crate) const ROWS: &str = "== fault of a schedule: collect 0, idle 0, idle 1, wake 0
 gctrace replay --threads 2
 status 2
 -- reads
@@ -11,7 +11,7 @@ wake 0
 -- writes
 -- tells
 gctrace: line 4: event not lawful
-== faults of schedules 2
+== fault of a schedule: collect 0, take 0 2
 gctrace replay --generations 1 --threads 2
 status 2
 -- reads
@@ -20,7 +20,7 @@ take 0 2
 -- writes
 -- tells
 gctrace: line 2: event not lawful
-== faults of schedules 3
+== fault of a schedule: collect 0, look 18446744073709551615
 gctrace replay --generations 1 --threads 2
 status 2
 -- reads
@@ -29,7 +29,7 @@ look 18446744073709551615
 -- writes
 -- tells
 gctrace: line 2: event not lawful
-== faults of schedules 4
+== fault of a schedule: collect 0, own 0 big
 gctrace replay --generations 1
 status 2
 -- reads
@@ -38,7 +38,7 @@ own 0 big
 -- writes
 -- tells
 gctrace: line 2: bad number
-== faults of schedules 5
+== fault of a schedule: collect 0, collect 0
 gctrace replay --generations 1
 status 2
 -- reads
@@ -47,7 +47,7 @@ collect 0
 -- writes
 -- tells
 gctrace: line 2: unknown event
-== faults of schedules 6
+== fault of a schedule: collect 0, idle 0, commit
 gctrace replay --generations 1
 status 2
 -- reads
@@ -57,7 +57,7 @@ commit
 -- writes
 -- tells
 gctrace: line 3: collection not ended
-== faults of schedules 8
+== fault of a schedule: collect 0, look
 gctrace replay --generations 1
 status 2
 -- reads
@@ -66,7 +66,7 @@ look
 -- writes
 -- tells
 gctrace: line 2: wrong number of words
-== faults of schedules 9
+== fault of a schedule: finish
 gctrace replay --generations 1
 status 2
 -- reads
@@ -74,7 +74,7 @@ finish
 -- writes
 -- tells
 gctrace: line 1: unknown command
-== faults of schedules 10
+== fault of a schedule: collect 1, finish, commit
 gctrace replay --generations 1
 status 2
 -- reads
@@ -84,7 +84,7 @@ commit
 -- writes
 -- tells
 gctrace: line 1: no such generation
-== faults of schedules 11
+== unfinished schedule after a census
 gctrace replay --generations 1
 status 2
 -- reads
@@ -98,7 +98,7 @@ roots: 0
 remembered: 0
 -- tells
 gctrace: line 2: unfinished schedule
-== faults of schedules 12
+== schedule wants a block
 gctrace replay --threads 2 --generations 1 --block-words 64 --nursery 2 --blocks 3
 status 1
 -- reads
@@ -114,14 +114,14 @@ look 1
 -- writes
 -- tells
 gctrace: line 9: heap full
-== faults of schedules 13
+== too many workers
 gctrace replay --generations 1 --threads 17
 status 3
 -- reads
 -- writes
 -- tells
 gctrace: bad configuration
-== retired in hand
+== a block is full while it is in hand, and the next copy retires it there: it is never exported
 gctrace replay --threads 1 --generations 1 --block-words 64
 status 0
 -- reads
@@ -163,7 +163,7 @@ commit
 collected 0: 5 kept, 0 freed
 worker 0: 5 won, 5 scanned
 -- tells
-== wake and end
+== a worker that was idle wakes, and the ends come in any order
 gctrace replay --threads 2
 status 0
 -- reads
@@ -180,7 +180,7 @@ collected 0: 0 kept, 0 freed
 worker 0: 0 won, 0 scanned
 worker 1: 0 won, 0 scanned
 -- tells
-== block changes hands
+== ten objects of four words in blocks of 16: the block with the first four grandchildren is exported, and the other worker scans it
 gctrace replay --threads 2 --generations 1 --block-words 16
 status 0
 -- reads
@@ -259,7 +259,7 @@ worker 0: 10 won, 6 scanned
 worker 1: 0 won, 4 scanned
 block 0.0: 4 objects, taken by 1
 -- tells
-== lost race
+== both workers propose a copy: worker 1 wins, and worker 0 takes its own back
 gctrace replay --threads 2 --generations 1 --block-words 64 --nursery 1 --blocks 3
 status 0
 -- reads
@@ -288,7 +288,7 @@ root a #1
 root b #1
 #1 gen 0 step 0 ptrs [#1] words []
 -- tells
-== empty block returns
+== the block that worker 0 drew went back empty, so one block is free for the second collection, and suffices
 gctrace replay --threads 2 --generations 1 --block-words 64 --nursery 1 --blocks 3
 status 0
 -- reads
@@ -323,7 +323,7 @@ collected 0: 1 kept, 0 freed
 worker 0: 1 won, 1 scanned
 worker 1: 0 won, 0 scanned
 -- tells
-== finishes
+== what comes next by itself comes to the end, also after some events; each collection has a schedule of its own
 gctrace replay --generations 1 --threads 2
 status 0
 -- reads

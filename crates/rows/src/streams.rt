@@ -2,10 +2,9 @@
 //! cell for each pointer of each table, by two mutators in turn, and another object that leads to the cell and is dropped with
 //! it. Each cell leads back to its table, which alone leads to it, until the next round puts another cell in its place. All
 //! objects have 16 words, so a nursery of 64 words is full of four, and each fourth cell finds it full.
-use crate::program::ran;
+use crate::program::assert_output;
 use std::alloc::{AllocError, Global};
 use std::fmt::Write;
-use std::process::Abort;
 use std::test::Fail;
 
 /// The name of table `k` has this number, so that all are of one length.
@@ -239,27 +238,12 @@ fn output_of(alloc: Global) -> Result<String, AllocError> {
     Ok(text)
 }
 
-/// Asserts that a run ends well and leaves this output.
-fn assert_output(rt: &impl Abort, alloc: Global, words: &[&str], trace: &[u8], output: &[u8]) {
-    let ended = ran(alloc, words, trace);
-    assert_eq!(rt; (ended.status, ended.errors.is_empty()), (0, true));
-    assert!(rt; ended.output.as_slice() == output);
-}
-
 #[test]
 fn three_rounds_of_cells(rt: HostRuntime) -> Result<(), Fail> {
     let trace = trace_of(rt.alloc())?;
     let output = output_of(rt.alloc())?;
-    let words = [
-        "gctrace",
-        "run",
-        "--block-words=64",
-        "--nursery=1",
-        "--mutators=2",
-        "--generations=3",
-    ];
-    assert_output(&rt, rt.alloc(), &words, trace.as_bytes(), output.as_bytes());
-    Ok(())
+    let words = "gctrace run --block-words=64 --nursery=1 --mutators=2 --generations=3";
+    assert_output(&rt, rt.alloc(), words, trace.as_str(), output.as_str())
 }
 
 /// One round over young tables, and a collection that has a schedule.
@@ -310,15 +294,7 @@ remembered: 1
 fn a_round_of_cells_by_two_workers(rt: HostRuntime) -> Result<(), Fail> {
     let trace = replayed_trace(rt.alloc())?;
     let output = replayed_output(rt.alloc())?;
-    let words = [
-        "gctrace",
-        "replay",
-        "--block-words=64",
-        "--nursery=1",
-        "--mutators=2",
-        "--generations=3",
-        "--threads=2",
-    ];
-    assert_output(&rt, rt.alloc(), &words, trace.as_bytes(), output.as_bytes());
-    Ok(())
+    let words =
+        "gctrace replay --block-words=64 --nursery=1 --mutators=2 --generations=3 --threads=2";
+    assert_output(&rt, rt.alloc(), words, trace.as_str(), output.as_str())
 }

@@ -1,47 +1,95 @@
-//! The worked traces, one after the other through the program over memory.
+//! The worked rows, one after the other through the program over memory. A row is a text:
+//!
+//! ```text
+//! == its name
+//! the words of a command line
+//! status 0
+//! -- reads
+//! what it reads
+//! -- writes
+//! what it writes
+//! -- tells
+//! what it tells of a fault
+//! ```
 use crate::program::ran;
-use crate::{automatic, automatic_replays, faults, generations, large, pointers, replays, worked};
+use crate::{
+    automatic, automatic_replays, faults, field_faults, generations, large, pointers, replays,
+    worked,
+};
 use std::alloc::Global;
+use std::process::Abort;
 use std::test::Fail;
 
-/// A row: its name, the words of a run and its status, what it reads, and what it writes to each of the two streams.
+/// A row but its streams.
 #[derive(Clone, Copy)]
 struct Row {
     name: &'static str,
     words: &'static str,
     status: &'static str,
+    streams: Streams,
+}
+
+/// What a row reads, and what it writes to each of the two streams.
+#[derive(Clone, Copy)]
+struct Streams {
     reads: &'static str,
     writes: &'static str,
     tells: &'static str,
 }
 
-/// The row of a text, if it has the form of one.
-fn row_of(text: &'static str) -> Option<Row> {
-    let (name, rest) = text.split_once("\n")?;
-    let (words, rest) = rest.split_once("\nstatus ")?;
-    let (status, rest) = rest.split_once("\n-- reads\n")?;
-    let (reads, rest) = rest.split_once("-- writes\n")?;
+/// The streams of a text, if it has the form of them.
+fn streams_of(text: &'static str) -> Option<Streams> {
+    let (reads, rest) = text.split_once("-- writes\n")?;
     let (writes, tells) = rest.split_once("-- tells\n")?;
-    Some(Row {
-        name,
-        words,
-        status,
+    Some(Streams {
         reads,
         writes,
         tells,
     })
 }
 
-/// What a run leaves, as texts.
-fn texts_of(alloc: Global, row: Row) -> Result<(String, String, String), Fail> {
-    let words: Vec<&str> = row.words.split_whitespace().collect(alloc)?;
-    let ended = ran(alloc, words.as_slice(), row.reads.as_bytes());
-    let status = format!(in alloc; "{}", ended.status)?;
-    Ok((
+/// The row of a text, if it has the form of one.
+fn row_of(text: &'static str) -> Option<Row> {
+    let (head, streams) = text.split_once("\n-- reads\n")?;
+    let (name, rest) = head.split_once("\n")?;
+    let (words, status) = rest.split_once("\nstatus ")?;
+    let streams = streams_of(streams)?;
+    Some(Row {
+        name,
+        words,
         status,
+        streams,
+    })
+}
+
+/// Asserts that a run leaves what its row says.
+fn assert_row(rt: &impl Abort, alloc: Global, row: Row) -> Result<(), Fail> {
+    let Streams {
+        reads,
+        writes,
+        tells,
+    } = row.streams;
+    let ended = ran(alloc, row.words, reads.as_bytes())?;
+    let status = format!(in alloc; "{}", ended.status)?;
+    let (written, told) = (
         String::from_utf8(ended.output)?,
         String::from_utf8(ended.errors)?,
-    ))
+    );
+    assert_eq!(rt; told.as_str(), tells, "told by: {}", row.name);
+    assert_eq!(rt; written.as_str(), writes, "written by: {}", row.name);
+    assert_eq!(rt; status.as_str(), row.status, "status of: {}", row.name);
+    Ok(())
+}
+
+/// Asserts that each run leaves what its row says.
+fn assert_rows(rt: &impl Abort, alloc: Global, rows: &'static str) -> Result<(), Fail> {
+    for text in rows.split("== ").skip(1) {
+        match row_of(text) {
+            Some(row) => assert_row(rt, alloc, row)?,
+            None => assert!(rt; false, "no row: {text}"),
+        }
+    }
+    Ok(())
 }
 
 #[test]
@@ -49,6 +97,7 @@ fn each_row_is_as_told(rt: HostRuntime) -> Result<(), Fail> {
     for rows in [
         worked::ROWS,
         pointers::ROWS,
+        field_faults::ROWS,
         generations::ROWS,
         large::ROWS,
         automatic::ROWS,
@@ -56,16 +105,7 @@ fn each_row_is_as_told(rt: HostRuntime) -> Result<(), Fail> {
         replays::ROWS,
         faults::ROWS,
     ] {
-        for text in rows.split("== ").skip(1) {
-            let Some(row) = row_of(text) else {
-                assert!(rt; false, "no row: {text}");
-                continue;
-            };
-            let (status, writes, tells) = texts_of(rt.alloc(), row)?;
-            assert_eq!(rt; tells.as_str(), row.tells, "{}", row.name);
-            assert_eq!(rt; writes.as_str(), row.writes, "{}", row.name);
-            assert_eq!(rt; status.as_str(), row.status, "{}", row.name);
-        }
+        assert_rows(&rt, rt.alloc(), rows)?;
     }
     Ok(())
 }

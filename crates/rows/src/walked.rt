@@ -1,6 +1,6 @@
 //! A list of 3,000 objects of three words, in blocks of 512 words with two generations, that is made from its end, then walked
 //! from its front, and what the trace prints. Object k has the plain word k and leads to object k - 1.
-use crate::program::ran;
+use crate::program::assert_output;
 use std::alloc::{AllocError, Global};
 use std::fmt::Write;
 use std::test::Fail;
@@ -162,9 +162,6 @@ fn output_of(alloc: Global) -> Result<String, AllocError> {
 fn list_is_walked(rt: HostRuntime) -> Result<(), Fail> {
     let trace = trace_of(rt.alloc())?;
     let output = output_of(rt.alloc())?;
-    let words = ["gctrace", "run", "--nursery=64"];
-    let ended = ran(rt.alloc(), &words, trace.as_bytes());
-    assert_eq!(rt; (ended.status, ended.errors.is_empty()), (0, true));
-    assert!(rt; ended.output.as_slice() == output.as_bytes());
-    Ok(())
+    let words = "gctrace run --nursery=64";
+    assert_output(&rt, rt.alloc(), words, trace.as_str(), output.as_str())
 }

@@ -16,13 +16,13 @@ large: 0 objects 0 words
 roots: 1
 remembered: 0
 -- tells
-== empty trace 1
+== empty trace
 gctrace run --generations 1
 status 0
 -- reads
 -- writes
 -- tells
-== empty trace 2
+== trace without a command
 gctrace run --generations 1
 status 0
 -- reads
@@ -48,7 +48,7 @@ roots: 1
 remembered: 0
 -- tells
 gctrace: line 5: no such generation
-== heap full in collection 1
+== five objects of 16 words, for which one block of 64 words is too small
 gctrace run --generations 1 --block-words 64 --nursery 2 --blocks 3
 status 1
 -- reads
@@ -61,7 +61,7 @@ collect 0
 -- writes
 -- tells
 gctrace: line 6: heap full
-== heap full in collection 2
+== five objects of 16 words in two blocks of 64 words
 gctrace run --generations 1 --block-words 64 --nursery 2 --blocks 4
 status 0
 -- reads
@@ -74,7 +74,7 @@ collect 0
 -- writes
 collected 0: 5 kept, 0 freed
 -- tells
-== eight objects in two blocks
+== eight objects of 16 words, for which two blocks of 64 words suffice
 gctrace run --generations 1 --block-words 64 --nursery 2 --blocks 4
 status 0
 -- reads

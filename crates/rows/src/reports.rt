@@ -1,3 +1,4 @@
+//! The lines of workers and of blocks that change hands.
 use heap::{Delivery, Report, Won, WorkerReport};
 use heap_text::{Cause, Counted, workers_text, write_report};
 use layout::Place;

@@ -1,0 +1,132 @@
+//! The calls below the program: a collection's line, runs, and faults as text.
+ghost use Rattle.std.specs.Prelude.{◌≡◌, IfOk};
+
+use crate::program::{FIRST_OUTPUT, FIRST_TRACE};
+use heap::{BadConfig, Config, Sizes};
+use heap_text::{Cause, Counted, write_collection};
+use std::alloc::{AllocError, Global};
+use std::process::Abort;
+use std::test::Fail;
+use trace_driver::{CountedReader, Fault, RunConfig, run, run_one};
+use trace_text::{Kind, ScheduleKind};
+
+/// One block of 16 words for the nursery, and one more.
+fn two_blocks() -> Result<RunConfig, Fail>
+    ensures { IfOk result (λ run. run.workers ≡ 1) }
+{
+    let config = Config::new(Sizes {
+        block_words: 16,
+        blocks: 2,
+        mutators: 1,
+        nursery_blocks: 1,
+        generations: 1,
+        steps: 1,
+    })?;
+    Ok(RunConfig::new(config, 1)?)
+}
+
+#[test]
+fn line_of_a_collection_and_a_run(rt: HostRuntime) -> Result<(), Fail> {
+    let mut writer = Counted {
+        inner: Vec::new(rt.alloc()),
+        failed_writes: 0,
+    };
+    write_collection(Cause::Command, 3, u64::MAX, 10, &mut writer)?;
+    let mut reader = CountedReader {
+        inner: b"new a 0 0 0\ncollect 0\n".as_slice(),
+        failed_reads: 0,
+    };
+    let result = run_one(rt.alloc(), &mut reader, &mut writer, two_blocks()?);
+    assert_eq!(rt; result, Ok(()));
+    assert_eq!(rt;
+        writer.inner.as_slice(),
+        b"collected 3: 18446744073709551615 kept, 10 freed\ncollected 0: 1 kept, 0 freed\n".as_slice()
+    );
+    Ok(())
+}
+
+/// Four blocks of 64 words for the nursery, and twelve more.
+fn sixteen_blocks() -> Result<Config, BadConfig> {
+    Config::new(Sizes {
+        block_words: 64,
+        blocks: 16,
+        mutators: 1,
+        nursery_blocks: 4,
+        generations: 1,
+        steps: 2,
+    })
+}
+
+#[test]
+fn most_workers(rt: HostRuntime) -> Result<(), Fail> {
+    assert_eq!(rt;
+        RunConfig::new(sixteen_blocks()?, 17).err(),
+        Some(BadConfig)
+    );
+    Ok(())
+}
+
+#[test]
+fn run_without_words(rt: HostRuntime) -> Result<(), Fail> {
+    let config = RunConfig::new(sixteen_blocks()?, 1)?;
+    let mut reader = CountedReader {
+        inner: FIRST_TRACE,
+        failed_reads: 0,
+    };
+    let mut writer = Counted {
+        inner: Vec::new(rt.alloc()),
+        failed_writes: 0,
+    };
+    let result = run(rt.alloc(), &mut reader, &mut writer, config);
+    assert_eq!(rt; result, Ok(()));
+    assert_eq!(rt; writer.inner.as_slice(), FIRST_OUTPUT);
+    Ok(())
+}
+
+/// Asserts that a fault reads so, and has this status.
+fn assert_told(
+    rt: &impl Abort,
+    alloc: Global,
+    fault: Fault,
+    told: &str,
+    status: u8,
+) -> Result<(), AllocError> {
+    let text = format!(in alloc; "{fault}")?;
+    assert_eq!(rt; text.as_str(), told);
+    assert_eq!(rt; fault.status(), status, "{told}");
+    Ok(())
+}
+
+#[test]
+fn faults_as_text(rt: HostRuntime) -> Result<(), AllocError> {
+    for (fault, told, status) in [
+        (Fault::HeapFull(Some(6)), "line 6: heap full", 1),
+        (Fault::NoMemory(None), "no memory", 1),
+        (
+            Fault::BadTrace(5, Kind::NoGeneration),
+            "line 5: no such generation",
+            2,
+        ),
+    ] {
+        assert_told(&rt, rt.alloc(), fault, told, status)?;
+    }
+    Ok(())
+}
+
+#[test]
+fn faults_of_schedules_as_text(rt: HostRuntime) -> Result<(), AllocError> {
+    for (kind, told) in [
+        (ScheduleKind::UnknownEvent, "line 4: unknown event"),
+        (ScheduleKind::WrongWords, "line 4: wrong number of words"),
+        (ScheduleKind::BadNumber, "line 4: bad number"),
+        (ScheduleKind::NotLawful, "line 4: event not lawful"),
+        (ScheduleKind::NotEnded, "line 4: collection not ended"),
+        (
+            ScheduleKind::UnfinishedSchedule,
+            "line 4: unfinished schedule",
+        ),
+    ] {
+        assert_told(&rt, rt.alloc(), Fault::BadSchedule(4, kind), told, 2)?;
+    }
+    Ok(())
+}

@@ -1,0 +1,223 @@
+//! Runs and replays of which each request for memory, or each draw of a block, is refused in turn.
+ghost use Rattle.std.specs.Prelude.{◌≡◌, IfOk};
+
+use crate::pieces::PieceReader;
+use heap::{Config, Sizes};
+use heap_text::Counted;
+use refusing::Refusing;
+use std::alloc::{AllocError, Global};
+use std::process::Abort;
+use std::test::Fail;
+use trace_driver::{CountedReader, Fault, RunConfig, replay, run};
+
+/// What carries out a trace: one worker, or two by schedules.
+#[derive(Clone, Copy)]
+pub(crate) enum Task {
+    Run,
+    Replay,
+}
+
+/// What is refused in turn. The draws of blocks are refused by a heap of few blocks, and of one more each time.
+#[derive(Clone, Copy)]
+pub(crate) enum Wanted {
+    Memory,
+    Blocks,
+}
+
+/// A trace that is tried. Below each of its lines stands what that prints, behind `> `.
+#[derive(Clone, Copy)]
+pub(crate) struct Trial {
+    pub(crate) name: &'static str,
+    pub(crate) trace: &'static str,
+    pub(crate) task: Task,
+    pub(crate) sizes: Sizes,
+    /// How many bytes a read gives. Where they are few, what holds the input grows.
+    pub(crate) piece: usize,
+}
+
+/// More requests than a run or a replay makes.
+const MANY: u64 = 2000;
+
+/// More lines than a trace has.
+const ALL_LINES: u128 = 100;
+
+fn input_of(alloc: Global, trace: &str) -> Result<String, AllocError> {
+    let mut input = String::new(alloc);
+    for line in trace.lines() {
+        if !line.starts_with("> ") {
+            input.push_str(line)?;
+            input.push_str("\n")?;
+        }
+    }
+    Ok(input)
+}
+
+/// What the lines before this one print. Lines are counted from 1.
+fn output_before(alloc: Global, trace: &str, number: u128) -> Result<String, AllocError> {
+    let (mut output, mut last) = (String::new(alloc), 0_u128);
+    for line in trace.lines() {
+        match line.strip_prefix("> ") {
+            Some(printed) if last < number => {
+                output.push_str(printed)?;
+                output.push_str("\n")?;
+            }
+            Some(_) => {}
+            None => last = last.saturating_add(1),
+        }
+    }
+    Ok(output)
+}
+
+/// Whether an output that a refusal cut short is that of the lines before the refused one, and with it what the line's own
+/// automatic collection prints or not.
+fn is_cut_off(alloc: Global, trace: &str, number: u128, output: &[u8]) -> Result<bool, AllocError> {
+    let before = output_before(alloc, trace, number)?;
+    let with_it = output_before(alloc, trace, number.saturating_add(1))?;
+    let is_automatic = match with_it.as_str().strip_prefix(before.as_str()) {
+        Some(own) => own.starts_with("auto "),
+        None => false,
+    };
+    Ok(output == before.as_bytes() || is_automatic && output == with_it.as_bytes())
+}
+
+/// What a run or a replay leaves in which something was refused.
+#[derive(Drop)]
+struct Ended {
+    result: Result<(), Fault>,
+    output: Vec<u8>,
+    asked: u64,
+    returned: u64,
+}
+
+fn one_worker(config: Config) -> Result<RunConfig, Fail>
+    ensures { IfOk result (λ run. run.workers ≡ 1) }
+{
+    Ok(RunConfig::new(config, 1)?)
+}
+
+/// A run or a replay in a heap of so many blocks, in which this request is refused.
+fn carried_out(
+    alloc: Global,
+    trial: &Trial,
+    input: &str,
+    blocks: u64,
+    refused: u64,
+) -> Result<Ended, Fail> {
+    let config = Config::new(Sizes {
+        blocks,
+        ..trial.sizes
+    })?;
+    let (alone, both) = (one_worker(config)?, RunConfig::new(config, 2)?);
+    let refusing = Refusing::new(alloc, refused);
+    let mut reader = CountedReader {
+        inner: PieceReader {
+            bytes: input.as_bytes(),
+            piece: trial.piece,
+            left: MANY,
+        },
+        failed_reads: 0,
+    };
+    let mut writer = Counted {
+        inner: Vec::new(alloc),
+        failed_writes: 0,
+    };
+    let result = match trial.task {
+        Task::Run => run(&refusing, &mut reader, &mut writer, alone),
+        Task::Replay => replay(&refusing, &mut reader, &mut writer, both),
+    };
+    Ok(Ended {
+        result,
+        output: writer.inner,
+        asked: refusing.asked(),
+        returned: refusing.returned(),
+    })
+}
+
+/// The same, where so many requests were given or so many blocks are there.
+fn carried_out_at(
+    alloc: Global,
+    trial: &Trial,
+    input: &str,
+    wanted: Wanted,
+    number: u64,
+) -> Result<Ended, Fail> {
+    match wanted {
+        Wanted::Memory => carried_out(alloc, trial, input, trial.sizes.blocks, number),
+        Wanted::Blocks => carried_out(alloc, trial, input, number, MANY),
+    }
+}
+
+/// Whether a refused request is told as what it is, after the output that belongs to its line, and all else was given back.
+fn is_refused(alloc: Global, trace: &str, ended: &Ended) -> Result<bool, AllocError> {
+    match ended.result {
+        Err(Fault::NoMemory(number)) => {
+            let line = number.unwrap_or(0);
+            Ok(
+                is_cut_off(alloc, trace, line, ended.output.as_slice())?
+                    && ended.returned.checked_add(1) == Some(ended.asked),
+            )
+        }
+        _ => Ok(false),
+    }
+}
+
+/// Whether want of blocks in a line is told as what it is, after the output of the lines before, and all was given back.
+fn is_full(alloc: Global, trace: &str, ended: &Ended) -> Result<bool, AllocError> {
+    match ended.result {
+        Err(Fault::HeapFull(Some(number))) => {
+            let output = output_before(alloc, trace, number)?;
+            Ok(ended.output.as_slice() == output.as_bytes() && ended.returned == ended.asked)
+        }
+        _ => Ok(false),
+    }
+}
+
+/// Whether all lines were carried out, and all was given back.
+fn is_whole(alloc: Global, trace: &str, ended: &Ended) -> Result<bool, AllocError> {
+    let output = output_before(alloc, trace, ALL_LINES)?;
+    Ok(ended.output.as_slice() == output.as_bytes() && ended.returned == ended.asked)
+}
+
+/// Whether a run or a replay that stopped did so as it is to.
+fn is_stopped(
+    alloc: Global,
+    trace: &str,
+    wanted: Wanted,
+    ended: &Ended,
+) -> Result<bool, AllocError> {
+    match wanted {
+        Wanted::Memory => is_refused(alloc, trace, ended),
+        Wanted::Blocks => is_full(alloc, trace, ended),
+    }
+}
+
+/// How many requests are given at first, or how many blocks are there: the two of the nurseries.
+fn first_of(wanted: Wanted) -> u64 {
+    match wanted {
+        Wanted::Memory => 0,
+        Wanted::Blocks => 2,
+    }
+}
+
+/// Asserts that each request of a trial is refused in turn, or each draw of a block, and that nothing is wanting only where
+/// more than `least` are given.
+pub(crate) fn assert_each_refused(
+    rt: &impl Abort,
+    alloc: Global,
+    trial: &Trial,
+    wanted: Wanted,
+    least: u64,
+) -> Result<(), Fail> {
+    let input = input_of(alloc, trial.trace)?;
+    for number in first_of(wanted)..MANY {
+        let ended = carried_out_at(alloc, trial, input.as_str(), wanted, number)?;
+        if ended.result.is_ok() {
+            let is_as_told = is_whole(alloc, trial.trace, &ended)?;
+            assert!(rt; is_as_told && number > least, "{} at {number}", trial.name);
+            return Ok(());
+        }
+        let is_as_told = is_stopped(alloc, trial.trace, wanted, &ended)?;
+        assert!(rt; is_as_told, "{} at {number}", trial.name);
+    }
+    Err(Fail::from("each was refused"))
+}
