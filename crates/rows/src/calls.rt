@@ -70,7 +70,7 @@ fn most_workers(rt: HostRuntime) -> Result<(), Fail> {
 fn run_without_words(rt: HostRuntime) -> Result<(), Fail> {
     let config = RunConfig::new(sixteen_blocks()?, 1)?;
     let mut reader = CountedReader {
-        inner: FIRST_TRACE,
+        inner: FIRST_TRACE.as_bytes(),
         failed_reads: 0,
     };
     let mut writer = Counted {
@@ -79,7 +79,7 @@ fn run_without_words(rt: HostRuntime) -> Result<(), Fail> {
     };
     let result = run(rt.alloc(), &mut reader, &mut writer, config);
     assert_eq!(rt; result, Ok(()));
-    assert_eq!(rt; writer.inner.as_slice(), FIRST_OUTPUT);
+    assert_eq!(rt; writer.inner.as_slice(), FIRST_OUTPUT.as_bytes());
     Ok(())
 }
 

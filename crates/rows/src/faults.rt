@@ -339,4 +339,32 @@ Status:
 
 The lines of traces and schedules are described in docs/FORMATS.md.
 -- tells
+== generations out of range: 0
+gctrace run --generations=0
+status 3
+-- reads
+-- writes
+-- tells
+gctrace: bad configuration
+== generations out of range: 5
+gctrace run --generations=5
+status 3
+-- reads
+-- writes
+-- tells
+gctrace: bad configuration
+== version by --version
+gctrace --version
+status 0
+-- reads
+-- writes
+gctrace 0.1.0
+-- tells
+== version by -V
+gctrace -V
+status 0
+-- reads
+-- writes
+gctrace 0.1.0
+-- tells
 ";

@@ -1,83 +1,95 @@
 //! Worked runs that no text of rows holds: lines with other ends, or none, and many words for one trace.
-use crate::program::{FIRST_OUTPUT, FIRST_TRACE, ONE_GENERATION, assert_run, ran};
+use crate::program::{FIRST_OUTPUT, FIRST_TRACE, Left, assert_run, ran};
 use std::alloc::Global;
 use std::process::Abort;
 use std::test::Fail;
 
-#[test]
-fn line_ends(rt: HostRuntime) -> Result<(), Fail> {
-    let blocks_of_64 = "gctrace run --generations 1 --block-words 64";
-    assert_run(
-        &rt,
-        rt.alloc(),
-        blocks_of_64,
-        b"new a 0 0 0\r\n",
-        b"",
-        b"",
-        0,
-    )?;
-    assert_run(
-        &rt,
-        rt.alloc(),
-        ONE_GENERATION,
-        b" \t\r\n\t#\xff\x00\n new\ta 00 0  018446744073709551615\n",
-        b"",
-        b"gctrace: line 3: too big\n",
-        2,
-    )?;
-    assert_run(
-        &rt,
-        rt.alloc(),
-        ONE_GENERATION,
-        b"new\ta 00  0 01\t\r\n collect 000\r\n",
-        b"collected 0: 1 kept, 0 freed\n",
-        b"",
-        0,
-    )
+/// A run that ends well.
+fn done(writes: &'static str) -> Left<'static> {
+    Left {
+        status: 0,
+        writes,
+        tells: "",
+    }
 }
 
-/// Asserts that a run stops in a fault and prints nothing.
-fn assert_fault(
+/// A run that tells of a fault, and writes nothing.
+fn stopped(status: u8, tells: &'static str) -> Left<'static> {
+    Left {
+        status,
+        writes: "",
+        tells,
+    }
+}
+
+const ONE_GENERATION: &str = "gctrace run --generations 1";
+
+/// Asserts what a run leaves whose name is its command line.
+fn assert_words(
     rt: &impl Abort,
     alloc: Global,
     words: &str,
     input: &[u8],
-    errors: &[u8],
+    left: Left<'_>,
 ) -> Result<(), Fail> {
-    assert_run(rt, alloc, words, input, b"", errors, 2)
+    assert_run(rt, alloc, words, words, input, left)
+}
+
+#[test]
+fn line_ends(rt: HostRuntime) -> Result<(), Fail> {
+    for (words, input, left) in [
+        (
+            "gctrace run --generations 1 --block-words 64",
+            b"new a 0 0 0\r\n".as_slice(),
+            done(""),
+        ),
+        (
+            ONE_GENERATION,
+            b" \t\r\n\t#\xff\x00\n new\ta 00 0  018446744073709551615\n",
+            stopped(2, "gctrace: line 3: too big\n"),
+        ),
+        (
+            ONE_GENERATION,
+            b"new\ta 00  0 01\t\r\n collect 000\r\n",
+            done("collected 0: 1 kept, 0 freed\n"),
+        ),
+    ] {
+        assert_words(&rt, rt.alloc(), words, input, left)?;
+    }
+    Ok(())
 }
 
 #[test]
 fn lines_without_an_end(rt: HostRuntime) -> Result<(), Fail> {
-    let first = b"gctrace: line 1: unfinished line\n".as_slice();
-    let second = b"gctrace: line 2: unfinished line\n".as_slice();
-    for (words, input, errors) in [
-        (ONE_GENERATION, b"new a 0 1 0".as_slice(), first),
-        (ONE_GENERATION, b"#", first),
-        ("gctrace run", b"new a 0 1 0", first),
+    let first = stopped(2, "gctrace: line 1: unfinished line\n");
+    let second = stopped(2, "gctrace: line 2: unfinished line\n");
+    for (words, input, left) in [
+        (ONE_GENERATION, "new a 0 1 0", first),
+        (ONE_GENERATION, "#", first),
+        ("gctrace run", "new a 0 1 0", first),
         (
             "gctrace replay --generations 1",
-            b"collect 0\nidle 0",
+            "collect 0\nidle 0",
             second,
         ),
     ] {
-        assert_fault(&rt, rt.alloc(), words, input, errors)?;
+        assert_words(&rt, rt.alloc(), words, input.as_bytes(), left)?;
     }
     Ok(())
 }
 
 #[test]
 fn long_lines(rt: HostRuntime) -> Result<(), Fail> {
-    let too_long = b"gctrace: line 1: line too long\n";
+    let too_long = stopped(2, "gctrace: line 1: line too long\n");
     let mut line = [b'#'; 4098];
-    assert_fault(&rt, rt.alloc(), ONE_GENERATION, &line, too_long)?;
+    assert_words(&rt, rt.alloc(), ONE_GENERATION, &line, too_long)?;
     line[4097] = b'\n';
-    assert_fault(&rt, rt.alloc(), ONE_GENERATION, &line, too_long)?;
+    assert_words(&rt, rt.alloc(), ONE_GENERATION, &line, too_long)?;
     line[4096] = b'\r';
-    assert_fault(&rt, rt.alloc(), ONE_GENERATION, &line, too_long)?;
+    assert_words(&rt, rt.alloc(), ONE_GENERATION, &line, too_long)?;
     line[4096] = b'\n';
     line[4095] = b'\r';
-    assert_run(&rt, rt.alloc(), ONE_GENERATION, &line, b"", b"", 0)
+    assert_words(&rt, rt.alloc(), ONE_GENERATION, &line, done(""))
 }
 
 /// Command lines with a number out of its range.
@@ -98,12 +110,9 @@ gctrace run --generations=1 --threads=2
 
 #[test]
 fn numbers_out_of_range(rt: HostRuntime) -> Result<(), Fail> {
-    let errors = b"gctrace: bad configuration\n";
+    let left = stopped(3, "gctrace: bad configuration\n");
     for words in OUT_OF_RANGE.lines() {
-        assert_run(&rt, rt.alloc(), words, b"new\n", b"", errors, 3)?;
-    }
-    for words in ["gctrace run --generations=0", "gctrace run --generations=5"] {
-        assert_run(&rt, rt.alloc(), words, b"", b"", errors, 3)?;
+        assert_words(&rt, rt.alloc(), words, b"new\n", left)?;
     }
     Ok(())
 }
@@ -126,7 +135,13 @@ gctrace run --generations=1 --cells=box
 #[test]
 fn numbers_in_range(rt: HostRuntime) -> Result<(), Fail> {
     for words in IN_RANGE.lines() {
-        assert_run(&rt, rt.alloc(), words, FIRST_TRACE, FIRST_OUTPUT, b"", 0)?;
+        assert_words(
+            &rt,
+            rt.alloc(),
+            words,
+            FIRST_TRACE.as_bytes(),
+            done(FIRST_OUTPUT),
+        )?;
     }
     Ok(())
 }
@@ -175,14 +190,6 @@ fn help_is_written(rt: HostRuntime) -> Result<(), Fail> {
             (0, true, true),
             "{words}"
         );
-    }
-    Ok(())
-}
-
-#[test]
-fn version(rt: HostRuntime) -> Result<(), Fail> {
-    for words in ["gctrace --version", "gctrace -V"] {
-        assert_run(&rt, rt.alloc(), words, b"", b"gctrace 0.1.0\n", b"", 0)?;
     }
     Ok(())
 }

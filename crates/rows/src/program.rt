@@ -41,21 +41,37 @@ pub(crate) fn ran(alloc: Global, words: &str, input: &[u8]) -> Result<Ended, All
     Ok(ran_by(alloc, words.as_slice(), input))
 }
 
+/// What a run is to leave.
+#[derive(Clone, Copy)]
+pub(crate) struct Left<'a> {
+    pub(crate) status: u8,
+    pub(crate) writes: &'a str,
+    pub(crate) tells: &'a str,
+}
+
+/// Asserts that a run of this name left all that it was to leave.
+fn assert_left(rt: &impl Abort, name: &str, ended: Ended, left: Left<'_>) -> Result<(), Fail> {
+    let (written, told) = (
+        String::from_utf8(ended.output)?,
+        String::from_utf8(ended.errors)?,
+    );
+    assert_eq!(rt; told.as_str(), left.tells, "told by: {name}");
+    assert_eq!(rt; written.as_str(), left.writes, "written by: {name}");
+    assert_eq!(rt; ended.status, left.status, "status of: {name}");
+    Ok(())
+}
+
 /// Runs the program, and asserts all that it leaves.
 pub(crate) fn assert_run(
     rt: &impl Abort,
     alloc: Global,
+    name: &str,
     words: &str,
     input: &[u8],
-    output: &[u8],
-    errors: &[u8],
-    status: u8,
+    left: Left<'_>,
 ) -> Result<(), Fail> {
     let ended = ran(alloc, words, input)?;
-    assert_eq!(rt; ended.errors.as_slice(), errors, "told by: {words}");
-    assert_eq!(rt; ended.output.as_slice(), output, "written by: {words}");
-    assert_eq!(rt; ended.status, status, "status of: {words}");
-    Ok(())
+    assert_left(rt, name, ended, left)
 }
 
 /// Asserts that a run ends well and writes a long text, which a failure doesn't show.
@@ -72,13 +88,10 @@ pub(crate) fn assert_output(
     Ok(())
 }
 
-/// The words of a run with one generation.
-pub(crate) const ONE_GENERATION: &str = "gctrace run --generations 1";
-
 /// One object is kept and one freed.
-pub(crate) const FIRST_TRACE: &[u8] = b"new a 0 0 1\nnew b 0 0 0\ndrop b\ncollect 0\ncensus\n";
+pub(crate) const FIRST_TRACE: &str = "new a 0 0 1\nnew b 0 0 0\ndrop b\ncollect 0\ncensus\n";
 
-pub(crate) const FIRST_OUTPUT: &[u8] = b"collected 0: 1 kept, 1 freed
+pub(crate) const FIRST_OUTPUT: &str = "collected 0: 1 kept, 1 freed
 gen 0 step 0: 1 objects 2 words
 large: 0 objects 0 words
 roots: 1

@@ -5,6 +5,7 @@ use crate::program::{FIRST_OUTPUT, FIRST_TRACE};
 use heap_text::Counted;
 use std::alloc::Global;
 use std::process::Abort;
+use std::test::Fail;
 use trace_driver::{CountedReader, main_with};
 
 /// What fails in turn.
@@ -29,20 +30,20 @@ struct Ended {
 const MANY: u64 = 1000;
 
 /// What a run reads whose fault is told of.
-const FAULTY_TRACE: &[u8] = b"drop x\n";
+const FAULTY_TRACE: &str = "drop x\n";
 
 /// What it tells.
-const FAULT: &[u8] = b"gctrace: line 1: unknown name\n";
+const FAULT: &str = "gctrace: line 1: unknown name\n";
 
 /// Reads what is tried for this part, and fails after so many reads where reads do.
 fn reader_of(part: Part, calls: u64) -> PieceReader<'static> {
-    let (bytes, left) = match part {
+    let (text, left) = match part {
         Part::Read => (FIRST_TRACE, calls),
         Part::Write(_) => (FIRST_TRACE, MANY),
         Part::Tell => (FAULTY_TRACE, MANY),
     };
     PieceReader {
-        bytes,
+        bytes: text.as_bytes(),
         piece: 7,
         left,
     }
@@ -99,73 +100,72 @@ fn ran(alloc: Global, part: Part, calls: u64) -> Ended {
 }
 
 /// Asserts that a run tells of its failed call, after a front of what it writes.
-fn assert_failed(rt: &impl Abort, part: Part, ended: &Ended) {
-    let (output, errors) = (ended.output.as_slice(), ended.errors.as_slice());
+fn assert_failed(rt: &impl Abort, part: Part, ended: &Ended) -> Result<(), Fail> {
+    let written = str::from_utf8(ended.output.as_slice())?;
+    let told = str::from_utf8(ended.errors.as_slice())?;
     assert_eq!(rt; ended.failed, 1);
     match part {
         Part::Read => {
-            assert_eq!(rt;
-                (ended.status, errors),
-                (4, b"gctrace: read failed\n".as_slice())
+            assert_eq!(rt; (ended.status, told), (4, "gctrace: read failed\n"));
+            assert!(rt;
+                is_front_in_lines(written.as_bytes(), FIRST_OUTPUT.as_bytes()),
+                "{written}"
             );
-            assert!(rt; is_front_in_lines(output, FIRST_OUTPUT));
         }
         Part::Write(_) => {
-            assert_eq!(rt;
-                (ended.status, errors),
-                (4, b"gctrace: write failed\n".as_slice())
-            );
-            assert!(rt; FIRST_OUTPUT.starts_with(output));
+            assert_eq!(rt; (ended.status, told), (4, "gctrace: write failed\n"));
+            assert!(rt; FIRST_OUTPUT.starts_with(written), "{written}");
         }
         Part::Tell => {
-            assert_eq!(rt; (ended.status, output), (2, b"".as_slice()));
-            assert!(rt; FAULT.starts_with(errors));
+            assert_eq!(rt; (ended.status, written), (2, ""));
+            assert!(rt; FAULT.starts_with(told), "{told}");
         }
     }
+    Ok(())
 }
 
 /// Asserts that a run in which no call failed leaves all.
-fn assert_whole(rt: &impl Abort, part: Part, ended: &Ended) {
-    let left = (
-        ended.status,
-        ended.output.as_slice(),
-        ended.errors.as_slice(),
-    );
+fn assert_whole(rt: &impl Abort, part: Part, ended: &Ended) -> Result<(), Fail> {
+    let written = str::from_utf8(ended.output.as_slice())?;
+    let told = str::from_utf8(ended.errors.as_slice())?;
     let whole = match part {
-        Part::Read | Part::Write(_) => (0, FIRST_OUTPUT, b"".as_slice()),
-        Part::Tell => (2, b"".as_slice(), FAULT),
+        Part::Read | Part::Write(_) => (0, FIRST_OUTPUT, ""),
+        Part::Tell => (2, "", FAULT),
     };
-    assert_eq!(rt; left, whole);
+    assert_eq!(rt; (ended.status, written, told), whole);
+    Ok(())
 }
 
 /// Lets each call of this part fail in turn, and says how many there are.
-fn fail_each(rt: &impl Abort, alloc: Global, part: Part) -> u64 {
+fn fail_each(rt: &impl Abort, alloc: Global, part: Part) -> Result<u64, Fail> {
     for calls in 0..MANY {
         let ended = ran(alloc, part, calls);
         if ended.failed == 0 {
-            assert_whole(rt, part, &ended);
-            return calls;
+            assert_whole(rt, part, &ended)?;
+            return Ok(calls);
         }
-        assert_failed(rt, part, &ended);
+        assert_failed(rt, part, &ended)?;
     }
-    MANY
+    Ok(MANY)
 }
 
 #[test]
-fn each_read_fails(rt: HostRuntime) {
+fn each_read_fails(rt: HostRuntime) -> Result<(), Fail> {
     // Seven reads for 48 bytes, and one that shows the end.
-    assert_eq!(rt; fail_each(&rt, rt.alloc(), Part::Read), 8);
+    assert_eq!(rt; fail_each(&rt, rt.alloc(), Part::Read)?, 8);
+    Ok(())
 }
 
 #[test]
-fn each_write_fails(rt: HostRuntime) {
+fn each_write_fails(rt: HostRuntime) -> Result<(), Fail> {
     // A write takes at most seven of 109 bytes, and of a fault's 30.
     for (part, least) in [
         (Part::Write(Failure::Error), 16),
         (Part::Write(Failure::TakesNothing), 16),
         (Part::Tell, 5),
     ] {
-        let calls = fail_each(&rt, rt.alloc(), part);
-        assert!(rt; least <= calls && calls < MANY);
+        let calls = fail_each(&rt, rt.alloc(), part)?;
+        assert!(rt; least <= calls && calls < MANY, "{calls}");
     }
+    Ok(())
 }

@@ -11,7 +11,7 @@
 //! -- tells
 //! what it tells of a fault
 //! ```
-use crate::program::ran;
+use crate::program::{Left, assert_run};
 use crate::{
     automatic, automatic_replays, faults, field_faults, generations, large, pointers, replays,
     worked,
@@ -20,29 +20,20 @@ use std::alloc::Global;
 use std::process::Abort;
 use std::test::Fail;
 
-/// A row but its streams.
+/// A row: its name, the words of a command line, what it reads and what it leaves.
 #[derive(Clone, Copy)]
 struct Row {
     name: &'static str,
     words: &'static str,
-    status: &'static str,
-    streams: Streams,
-}
-
-/// What a row reads, and what it writes to each of the two streams.
-#[derive(Clone, Copy)]
-struct Streams {
     reads: &'static str,
-    writes: &'static str,
-    tells: &'static str,
+    left: Left<'static>,
 }
 
-/// The streams of a text, if it has the form of them.
-fn streams_of(text: &'static str) -> Option<Streams> {
-    let (reads, rest) = text.split_once("-- writes\n")?;
-    let (writes, tells) = rest.split_once("-- tells\n")?;
-    Some(Streams {
-        reads,
+/// What a run leaves, of the text of its status and that of its streams, if they have the form of them.
+fn left_of(status: &str, streams: &'static str) -> Option<Left<'static>> {
+    let (writes, tells) = streams.split_once("-- tells\n")?;
+    Some(Left {
+        status: status.parse().ok()?,
         writes,
         tells,
     })
@@ -50,44 +41,37 @@ fn streams_of(text: &'static str) -> Option<Streams> {
 
 /// The row of a text, if it has the form of one.
 fn row_of(text: &'static str) -> Option<Row> {
-    let (head, streams) = text.split_once("\n-- reads\n")?;
+    let (head, body) = text.split_once("\n-- reads\n")?;
     let (name, rest) = head.split_once("\n")?;
     let (words, status) = rest.split_once("\nstatus ")?;
-    let streams = streams_of(streams)?;
+    let (reads, streams) = body.split_once("-- writes\n")?;
     Some(Row {
         name,
         words,
-        status,
-        streams,
+        reads,
+        left: left_of(status, streams)?,
     })
 }
 
-/// Asserts that a run leaves what its row says.
-fn assert_row(rt: &impl Abort, alloc: Global, row: Row) -> Result<(), Fail> {
-    let Streams {
-        reads,
-        writes,
-        tells,
-    } = row.streams;
-    let ended = ran(alloc, row.words, reads.as_bytes())?;
-    let status = format!(in alloc; "{}", ended.status)?;
-    let (written, told) = (
-        String::from_utf8(ended.output)?,
-        String::from_utf8(ended.errors)?,
-    );
-    assert_eq!(rt; told.as_str(), tells, "told by: {}", row.name);
-    assert_eq!(rt; written.as_str(), writes, "written by: {}", row.name);
-    assert_eq!(rt; status.as_str(), row.status, "status of: {}", row.name);
-    Ok(())
+/// Asserts that the run of a row leaves what it says.
+fn assert_row(rt: &impl Abort, alloc: Global, text: &'static str) -> Result<(), Fail> {
+    match row_of(text) {
+        Some(row) => assert_run(
+            rt,
+            alloc,
+            row.name,
+            row.words,
+            row.reads.as_bytes(),
+            row.left,
+        ),
+        None => Err(Fail::new(text)),
+    }
 }
 
-/// Asserts that each run leaves what its row says.
+/// Asserts that the run of each row leaves what it says.
 fn assert_rows(rt: &impl Abort, alloc: Global, rows: &'static str) -> Result<(), Fail> {
     for text in rows.split("== ").skip(1) {
-        match row_of(text) {
-            Some(row) => assert_row(rt, alloc, row)?,
-            None => assert!(rt; false, "no row: {text}"),
-        }
+        assert_row(rt, alloc, text)?;
     }
     Ok(())
 }
