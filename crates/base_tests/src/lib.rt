@@ -1,4 +1,4 @@
-//! Tests of words, blocks, large objects, sets of numbers and of places, and the pool, by public calls.
+//! Tests of words, blocks, large objects, sets of numbers and of places, the pool, and the plain program, by public calls.
 #![tactic(auto)]
 
 #[cfg(test)]

@@ -1,3 +1,3 @@
--- MachineTests.
+-- What the proofs of these tests share.
 
 mod Unscanned

@@ -1,4 +1,4 @@
-//! Tests of a collection by several workers, by public calls.
+//! Tests of one worker's part of a collection, and of several workers, by public calls.
 #![tactic(auto)]
 
 #[cfg(test)]

@@ -1,3 +1,3 @@
--- Rows.
+-- Fronts of a text, for outputs that were cut short.
 
 pub mod Fronts

@@ -1,3 +1,4 @@
+//! Boxed cells on one thread.
 ghost use Rattle.std.specs.Prelude.{◌≡◌, ◌<◌, IfOk, length};
 ghost use Rattle.forwarding.specs.Noted.{IsPassOf, IsApart};
 

@@ -1,3 +1,4 @@
+//! Boxed cells that two and four threads race for.
 ghost use Rattle.std.specs.Prelude.{◌≡◌, ◌<◌, IfOk, length};
 ghost use Rattle.std.specs.Thread.{IsSync};
 ghost use Rattle.forwarding.specs.Noted.{IsPassOf};

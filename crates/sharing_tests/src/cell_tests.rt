@@ -1,3 +1,4 @@
+//! Cells of each kind on one thread, and a caller that serves them all.
 ghost use Rattle.std.specs.Prelude.{◌≡◌, ◌<◌, length, IfOk};
 ghost use Rattle.forwarding.specs.Plain.{IsFit, Differ};
 

@@ -1,3 +1,4 @@
+//! Draws from a free list, on one thread and on eight.
 ghost use Rattle.std.specs.Prelude.{◌≡◌, ◌<◌, ◌≤◌, ◌++◌, ◌∷◌, [], ℕ, length, vec_len, IfOk};
 ghost use Rattle.std.specs.List.{All};
 ghost use Rattle.block_pool.specs.ClaimsValue.{IsSeatOf};

@@ -1,3 +1,4 @@
+//! The count of idle seats, on one thread.
 ghost use Rattle.std.specs.Prelude.{◌≡◌, true, false, IfOk};
 ghost use Rattle.idle_count.specs.IdleValue.{IsSeatOf};
 

@@ -1,3 +1,4 @@
+//! The count of idle seats, with threads that rest and wake.
 ghost use Rattle.std.specs.Prelude.{◌≡◌, true, false, IfOk, length, vec_len};
 ghost use Rattle.std.specs.List.{All};
 ghost use Rattle.idle_count.specs.IdleValue.{IsSeatOf};

@@ -1,4 +1,4 @@
-//! Tests of what threads share, by the public calls of cells, claims, idle count and verdict, on one thread and on several.
+//! Tests of what threads share, by the public calls of cells, claims, queues, idle count and verdict, on one thread and on several.
 #![tactic(auto)]
 
 #[cfg(test)]

@@ -1,3 +1,4 @@
+//! The verdict, on one thread.
 ghost use Rattle.std.specs.Prelude.{◌≡◌, IfOk};
 
 use idle_count::{Cause, Verdict, VerdictSeat};

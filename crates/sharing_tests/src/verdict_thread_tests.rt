@@ -1,3 +1,4 @@
+//! The verdict, which threads raise.
 ghost use Rattle.std.specs.Prelude.{◌≡◌, IfOk, vec_len};
 ghost use Rattle.std.specs.List.{All};
 

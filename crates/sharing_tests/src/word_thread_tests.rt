@@ -1,3 +1,4 @@
+//! Word cells that four threads race for.
 ghost use Rattle.std.specs.Prelude.{◌≡◌, ◌<◌, ◌≤◌, IfOk, All, length, vec_len};
 
 use forwarding::{Forwards, Outcome, SettleError, WordCells, WordPass};

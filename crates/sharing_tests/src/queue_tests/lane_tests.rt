@@ -1,3 +1,4 @@
+//! One exporter's queue, on one thread.
 ghost use Rattle.std.specs.Prelude.{◌≡◌, ◌<◌, ◌+◌, Some, IfOk, length};
 
 use block_pool::Block;

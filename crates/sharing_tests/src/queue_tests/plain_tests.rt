@@ -1,3 +1,4 @@
+//! Queues for one thread.
 ghost use Rattle.std.specs.Prelude.{◌≡◌, ◌<◌, ◌≤◌, length, IfOk};
 
 use crate::queue_tests::test_blocks::{

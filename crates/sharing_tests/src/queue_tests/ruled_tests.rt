@@ -1,3 +1,4 @@
+//! The queues that threads share, on one thread.
 ghost use Rattle.std.specs.Prelude.{◌≡◌, ◌<◌, length, IfOk};
 ghost use Rattle.pending_queues.specs.PendingValue.{IsSeatOf};
 

@@ -1,3 +1,4 @@
+//! A count that seats raise and read.
 ghost use Rattle.std.specs.Prelude.{◌≡◌, ◌<◌, IfSome, length};
 ghost use Rattle.std.specs.List.{All};
 
