@@ -155,5 +155,5 @@ case "${1:-}" in
   empty) empty "${2:-20000}" ;;
   large) large "${2:-100001}" "${3:-1000}" ;;
   commands) commands "${2:-100}" ;;
-  *) sed -n '2,14s/^# //p' "$0" >&2; exit 2 ;;
+  *) sed -n '2,15s/^# //p' "$0" >&2; exit 2 ;;
 esac
