@@ -2,15 +2,10 @@
 //! objects. The first object of each has a name and 127 pointers, which lead to the 24 others, to itself and to one other of
 //! the component ten before. The others lead back to it and to the first object of the component ten behind, or, from the last
 //! ten, of that among the first ten which ends alike. So the components whose numbers end alike live and die together.
+use crate::names::name_of;
 use crate::program::assert_output;
 use std::alloc::{AllocError, Global};
 use std::fmt::Write;
-use std::test::Fail;
-
-/// The name of component `k` has this number, so that all are of one length.
-fn name_of(k: u16) -> u64 {
-    1000 + k as u64
-}
 
 /// The component that the others of component `k` lead to.
 fn partner_of(k: u16) -> u16 {
@@ -262,7 +257,7 @@ fn output_of(alloc: Global) -> Result<String, AllocError> {
 }
 
 #[test]
-fn three_collections_at_size(rt: HostRuntime) -> Result<(), Fail> {
+fn three_collections_at_size(rt: HostRuntime) -> Result<(), AllocError> {
     let trace = trace_of(rt.alloc())?;
     let output = output_of(rt.alloc())?;
     let words = "gctrace run --generations=1 --nursery=64";

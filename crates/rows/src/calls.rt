@@ -1,7 +1,7 @@
 //! The calls below the program: a collection's line, runs, and faults as text.
 ghost use Rattle.std.specs.Prelude.{◌≡◌, IfOk};
 
-use crate::program::{FIRST_OUTPUT, FIRST_TRACE};
+use crate::program::{FIRST_OUTPUT, FIRST_TRACE, text_of};
 use heap::{BadConfig, Config, Sizes};
 use heap_text::{Cause, Counted, write_collection};
 use std::alloc::{AllocError, Global};
@@ -11,7 +11,7 @@ use trace_driver::{CountedReader, Fault, RunConfig, run, run_one};
 use trace_text::{Kind, ScheduleKind};
 
 /// One block of 16 words for the nursery, and one more.
-fn two_blocks() -> Result<RunConfig, Fail>
+fn two_blocks() -> Result<RunConfig, BadConfig>
     ensures { IfOk result (λ run. run.workers ≡ 1) }
 {
     let config = Config::new(Sizes {
@@ -22,8 +22,12 @@ fn two_blocks() -> Result<RunConfig, Fail>
         generations: 1,
         steps: 1,
     })?;
-    Ok(RunConfig::new(config, 1)?)
+    RunConfig::new(config, 1)
 }
+
+const TWO_LINES: &str = "collected 3: 18446744073709551615 kept, 10 freed
+collected 0: 1 kept, 0 freed
+";
 
 #[test]
 fn line_of_a_collection_and_a_run(rt: HostRuntime) -> Result<(), Fail> {
@@ -32,43 +36,40 @@ fn line_of_a_collection_and_a_run(rt: HostRuntime) -> Result<(), Fail> {
         failed_writes: 0,
     };
     write_collection(Cause::Command, 3, u64::MAX, 10, &mut writer)?;
+    let config = two_blocks()?;
     let mut reader = CountedReader {
         inner: b"new a 0 0 0\ncollect 0\n".as_slice(),
         failed_reads: 0,
     };
-    let result = run_one(rt.alloc(), &mut reader, &mut writer, two_blocks()?);
-    assert_eq!(rt; result, Ok(()));
-    assert_eq!(rt;
-        writer.inner.as_slice(),
-        b"collected 3: 18446744073709551615 kept, 10 freed\ncollected 0: 1 kept, 0 freed\n".as_slice()
-    );
+    let result = run_one(rt.alloc(), &mut reader, &mut writer, config);
+    let written = text_of(writer.inner.as_slice());
+    assert_eq!(rt; (result, written), (Ok(()), TWO_LINES));
     Ok(())
 }
 
-/// Four blocks of 64 words for the nursery, and twelve more.
-fn sixteen_blocks() -> Result<Config, BadConfig> {
-    Config::new(Sizes {
+/// So many workers of four blocks of 64 words for the nursery, and of twelve more.
+fn sixteen_blocks(workers: u64) -> Result<RunConfig, BadConfig>
+    ensures { IfOk result (λ run. run.workers ≡ workers) }
+{
+    let config = Config::new(Sizes {
         block_words: 64,
         blocks: 16,
         mutators: 1,
         nursery_blocks: 4,
         generations: 1,
         steps: 2,
-    })
+    })?;
+    RunConfig::new(config, workers)
 }
 
 #[test]
-fn most_workers(rt: HostRuntime) -> Result<(), Fail> {
-    assert_eq!(rt;
-        RunConfig::new(sixteen_blocks()?, 17).err(),
-        Some(BadConfig)
-    );
-    Ok(())
+fn most_workers(rt: HostRuntime) {
+    assert_eq!(rt; sixteen_blocks(17).err(), Some(BadConfig));
 }
 
 #[test]
 fn run_without_words(rt: HostRuntime) -> Result<(), Fail> {
-    let config = RunConfig::new(sixteen_blocks()?, 1)?;
+    let config = sixteen_blocks(1)?;
     let mut reader = CountedReader {
         inner: FIRST_TRACE.as_bytes(),
         failed_reads: 0,
@@ -78,8 +79,8 @@ fn run_without_words(rt: HostRuntime) -> Result<(), Fail> {
         failed_writes: 0,
     };
     let result = run(rt.alloc(), &mut reader, &mut writer, config);
-    assert_eq!(rt; result, Ok(()));
-    assert_eq!(rt; writer.inner.as_slice(), FIRST_OUTPUT.as_bytes());
+    let written = text_of(writer.inner.as_slice());
+    assert_eq!(rt; (result, written), (Ok(()), FIRST_OUTPUT));
     Ok(())
 }
 
@@ -91,9 +92,9 @@ fn assert_told(
     told: &str,
     status: u8,
 ) -> Result<(), AllocError> {
+    assert_eq!(rt; fault.status(), status, "{told}");
     let text = format!(in alloc; "{fault}")?;
     assert_eq!(rt; text.as_str(), told);
-    assert_eq!(rt; fault.status(), status, "{told}");
     Ok(())
 }
 

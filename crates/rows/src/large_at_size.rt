@@ -1,13 +1,8 @@
 //! A trace of 200 large objects with names, each of which leads to 20 small ones, in blocks of 64 words, and what it prints.
+use crate::names::name_of;
 use crate::program::assert_output;
 use std::alloc::{AllocError, Global};
 use std::fmt::Write;
-use std::test::Fail;
-
-/// The name of large object `k` has this number, so that all are of one length.
-fn name_of(k: u16) -> u64 {
-    1000 + k as u64
-}
 
 /// What stands in the first word of a small object.
 fn mark_of(k: u16, other: u16) -> u64 {
@@ -130,7 +125,7 @@ fn heap_of(alloc: Global) -> Result<String, AllocError> {
 }
 
 #[test]
-fn two_hundred_large_objects(rt: HostRuntime) -> Result<(), Fail> {
+fn two_hundred_large_objects(rt: HostRuntime) -> Result<(), AllocError> {
     let trace = trace_of(rt.alloc())?;
     let output = heap_of(rt.alloc())?;
     let words = "gctrace run --block-words 64 --nursery 64";

@@ -26,6 +26,8 @@ mod large_at_size;
 #[cfg(test)]
 mod lines;
 #[cfg(test)]
+mod names;
+#[cfg(test)]
 mod odd;
 #[cfg(test)]
 mod pieces;

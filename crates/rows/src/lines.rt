@@ -1,4 +1,5 @@
 //! Lines of traces and of schedules, and what parsing says of each.
+use crate::program::text_of;
 use std::alloc::{AllocError, Global};
 use std::fmt::Write;
 use std::process::Abort;
@@ -103,10 +104,6 @@ enum Form {
     Schedule,
 }
 
-fn name_of(name: &[u8]) -> &str {
-    str::from_utf8(name).unwrap_or("no text")
-}
-
 /// A command with its parts.
 fn push_command(text: &mut String, command: Command<'_>) -> Result<(), AllocError> {
     match command {
@@ -116,7 +113,7 @@ fn push_command(text: &mut String, command: Command<'_>) -> Result<(), AllocErro
             pointers,
             plain,
         } => {
-            let name = name_of(name);
+            let name = text_of(name);
             write!(
                 text,
                 "new {name}: mutator {mutator}, pointers {pointers}, plain {plain}"
@@ -127,11 +124,11 @@ fn push_command(text: &mut String, command: Command<'_>) -> Result<(), AllocErro
             field,
             target,
         } => {
-            let (name, target) = (name_of(name), target.map(name_of));
+            let (name, target) = (text_of(name), target.map(text_of));
             write!(text, "set {name}: field {field}, target {target:?}")
         }
         Command::Put { name, field, value } => {
-            let name = name_of(name);
+            let name = text_of(name);
             write!(text, "put {name}: field {field}, value {value}")
         }
         Command::Get {
@@ -139,11 +136,11 @@ fn push_command(text: &mut String, command: Command<'_>) -> Result<(), AllocErro
             name,
             field,
         } => {
-            let (new_name, name) = (name_of(new_name), name_of(name));
+            let (new_name, name) = (text_of(new_name), text_of(name));
             write!(text, "get {new_name}: name {name}, field {field}")
         }
         Command::Drop { name } => {
-            let name = name_of(name);
+            let name = text_of(name);
             write!(text, "drop {name}")
         }
         Command::Collect { generation } => write!(text, "collect: generation {generation}"),

@@ -1,8 +1,7 @@
 //! Worked runs that no text of rows holds: lines with other ends, or none, and many words for one trace.
 use crate::program::{FIRST_OUTPUT, FIRST_TRACE, Left, assert_run, ran};
-use std::alloc::Global;
+use std::alloc::{AllocError, Global};
 use std::process::Abort;
-use std::test::Fail;
 
 /// A run that ends well.
 fn done(writes: &'static str) -> Left<'static> {
@@ -31,12 +30,12 @@ fn assert_words(
     words: &str,
     input: &[u8],
     left: Left<'_>,
-) -> Result<(), Fail> {
+) -> Result<(), AllocError> {
     assert_run(rt, alloc, words, words, input, left)
 }
 
 #[test]
-fn line_ends(rt: HostRuntime) -> Result<(), Fail> {
+fn line_ends(rt: HostRuntime) -> Result<(), AllocError> {
     for (words, input, left) in [
         (
             "gctrace run --generations 1 --block-words 64",
@@ -60,7 +59,7 @@ fn line_ends(rt: HostRuntime) -> Result<(), Fail> {
 }
 
 #[test]
-fn lines_without_an_end(rt: HostRuntime) -> Result<(), Fail> {
+fn lines_without_an_end(rt: HostRuntime) -> Result<(), AllocError> {
     let first = stopped(2, "gctrace: line 1: unfinished line\n");
     let second = stopped(2, "gctrace: line 2: unfinished line\n");
     for (words, input, left) in [
@@ -79,7 +78,7 @@ fn lines_without_an_end(rt: HostRuntime) -> Result<(), Fail> {
 }
 
 #[test]
-fn long_lines(rt: HostRuntime) -> Result<(), Fail> {
+fn long_lines(rt: HostRuntime) -> Result<(), AllocError> {
     let too_long = stopped(2, "gctrace: line 1: line too long\n");
     let mut line = [b'#'; 4098];
     assert_words(&rt, rt.alloc(), ONE_GENERATION, &line, too_long)?;
@@ -109,7 +108,7 @@ gctrace run --generations=1 --threads=2
 ";
 
 #[test]
-fn numbers_out_of_range(rt: HostRuntime) -> Result<(), Fail> {
+fn numbers_out_of_range(rt: HostRuntime) -> Result<(), AllocError> {
     let left = stopped(3, "gctrace: bad configuration\n");
     for words in OUT_OF_RANGE.lines() {
         assert_words(&rt, rt.alloc(), words, b"new\n", left)?;
@@ -133,7 +132,7 @@ gctrace run --generations=1 --cells=box
 ";
 
 #[test]
-fn numbers_in_range(rt: HostRuntime) -> Result<(), Fail> {
+fn numbers_in_range(rt: HostRuntime) -> Result<(), AllocError> {
     for words in IN_RANGE.lines() {
         assert_words(
             &rt,
@@ -142,6 +141,27 @@ fn numbers_in_range(rt: HostRuntime) -> Result<(), Fail> {
             FIRST_TRACE.as_bytes(),
             done(FIRST_OUTPUT),
         )?;
+    }
+    Ok(())
+}
+
+/// The status of a run, and whether it writes and tells nothing.
+type End = (u8, bool, bool);
+
+fn end_of(alloc: Global, words: &str) -> Result<End, AllocError> {
+    let ended = ran(alloc, words, b"new\n")?;
+    Ok((
+        ended.status,
+        ended.output.is_empty(),
+        ended.errors.is_empty(),
+    ))
+}
+
+/// Asserts that the run of each of these command lines ends so.
+fn assert_ends(rt: &impl Abort, alloc: Global, lines: &str, wanted: End) -> Result<(), AllocError> {
+    for words in lines.lines() {
+        let end = end_of(alloc, words)?;
+        assert_eq!(rt; end, wanted, "{words}");
     }
     Ok(())
 }
@@ -159,20 +179,6 @@ gctrace run --steps
 gctrace run trace
 ";
 
-#[test]
-fn mistakes_in_the_words(rt: HostRuntime) -> Result<(), Fail> {
-    for words in MISTAKES.lines() {
-        let ended = ran(rt.alloc(), words, b"new\n")?;
-        let is_told = !ended.errors.is_empty();
-        assert_eq!(rt;
-            (ended.status, ended.output.is_empty(), is_told),
-            (3, true, true),
-            "{words}"
-        );
-    }
-    Ok(())
-}
-
 /// Command lines that ask for help.
 const HELP: &str = "gctrace --help
 gctrace help replay
@@ -181,15 +187,7 @@ gctrace run --steps 3 --help --blocks 9
 ";
 
 #[test]
-fn help_is_written(rt: HostRuntime) -> Result<(), Fail> {
-    for words in HELP.lines() {
-        let ended = ran(rt.alloc(), words, b"new\n")?;
-        let is_written = !ended.output.is_empty();
-        assert_eq!(rt;
-            (ended.status, is_written, ended.errors.is_empty()),
-            (0, true, true),
-            "{words}"
-        );
-    }
-    Ok(())
+fn mistakes_and_help(rt: HostRuntime) -> Result<(), AllocError> {
+    assert_ends(&rt, rt.alloc(), MISTAKES, (3, true, false))?;
+    assert_ends(&rt, rt.alloc(), HELP, (0, false, true))
 }

@@ -2,7 +2,6 @@
 use heap_text::Counted;
 use std::alloc::{AllocError, Global};
 use std::process::Abort;
-use std::test::Fail;
 use trace_driver::{CountedReader, main_with};
 
 /// What a run of the program leaves.
@@ -49,16 +48,20 @@ pub(crate) struct Left<'a> {
     pub(crate) tells: &'a str,
 }
 
+/// The text of these bytes, for what a failure tells.
+pub(crate) fn text_of(bytes: &[u8]) -> &str {
+    str::from_utf8(bytes).unwrap_or("no text")
+}
+
 /// Asserts that a run of this name left all that it was to leave.
-fn assert_left(rt: &impl Abort, name: &str, ended: Ended, left: Left<'_>) -> Result<(), Fail> {
+fn assert_left(rt: &impl Abort, name: &str, ended: &Ended, left: Left<'_>) {
     let (written, told) = (
-        String::from_utf8(ended.output)?,
-        String::from_utf8(ended.errors)?,
+        text_of(ended.output.as_slice()),
+        text_of(ended.errors.as_slice()),
     );
-    assert_eq!(rt; told.as_str(), left.tells, "told by: {name}");
-    assert_eq!(rt; written.as_str(), left.writes, "written by: {name}");
+    assert_eq!(rt; told, left.tells, "told by: {name}");
+    assert_eq!(rt; written, left.writes, "written by: {name}");
     assert_eq!(rt; ended.status, left.status, "status of: {name}");
-    Ok(())
 }
 
 /// Runs the program, and asserts all that it leaves.
@@ -69,9 +72,15 @@ pub(crate) fn assert_run(
     words: &str,
     input: &[u8],
     left: Left<'_>,
-) -> Result<(), Fail> {
+) -> Result<(), AllocError> {
     let ended = ran(alloc, words, input)?;
-    assert_left(rt, name, ended, left)
+    assert_left(rt, name, &ended, left);
+    Ok(())
+}
+
+/// Whether a run ended well and wrote this.
+fn is_written(ended: &Ended, output: &str) -> bool {
+    ended.status == 0 && ended.errors.is_empty() && ended.output.as_slice() == output.as_bytes()
 }
 
 /// Asserts that a run ends well and writes a long text, which a failure doesn't show.
@@ -81,10 +90,13 @@ pub(crate) fn assert_output(
     words: &str,
     input: &str,
     output: &str,
-) -> Result<(), Fail> {
+) -> Result<(), AllocError> {
     let ended = ran(alloc, words, input.as_bytes())?;
-    assert_eq!(rt; (ended.status, ended.errors.is_empty()), (0, true));
-    assert!(rt; ended.output.as_slice() == output.as_bytes());
+    assert!(rt;
+        is_written(&ended, output),
+        "{words}: {}",
+        text_of(ended.errors.as_slice())
+    );
     Ok(())
 }
 

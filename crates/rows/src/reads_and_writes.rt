@@ -1,15 +1,14 @@
 //! Runs in which each read, each write and each write of a fault's line fails in turn.
 use crate::is_front_in_lines;
 use crate::pieces::{Failure, PieceReader, PieceWriter};
-use crate::program::{FIRST_OUTPUT, FIRST_TRACE};
+use crate::program::{FIRST_OUTPUT, FIRST_TRACE, text_of};
 use heap_text::Counted;
 use std::alloc::Global;
 use std::process::Abort;
-use std::test::Fail;
 use trace_driver::{CountedReader, main_with};
 
 /// What fails in turn.
-#[derive(Clone, Copy)]
+#[derive(Clone, Copy, Debug)]
 enum Part {
     Read,
     Write(Failure),
@@ -99,73 +98,78 @@ fn ran(alloc: Global, part: Part, calls: u64) -> Ended {
     }
 }
 
-/// Asserts that a run tells of its failed call, after a front of what it writes.
-fn assert_failed(rt: &impl Abort, part: Part, ended: &Ended) -> Result<(), Fail> {
-    let written = str::from_utf8(ended.output.as_slice())?;
-    let told = str::from_utf8(ended.errors.as_slice())?;
-    assert_eq!(rt; ended.failed, 1);
+/// Whether a run tells of its failed call, after a front of what it writes.
+fn is_failed(part: Part, ended: &Ended) -> bool {
+    let (output, told) = (ended.output.as_slice(), text_of(ended.errors.as_slice()));
     match part {
         Part::Read => {
-            assert_eq!(rt; (ended.status, told), (4, "gctrace: read failed\n"));
-            assert!(rt;
-                is_front_in_lines(written.as_bytes(), FIRST_OUTPUT.as_bytes()),
-                "{written}"
-            );
+            ended.status == 4
+                && told == "gctrace: read failed\n"
+                && is_front_in_lines(output, FIRST_OUTPUT.as_bytes())
         }
         Part::Write(_) => {
-            assert_eq!(rt; (ended.status, told), (4, "gctrace: write failed\n"));
-            assert!(rt; FIRST_OUTPUT.starts_with(written), "{written}");
+            ended.status == 4
+                && told == "gctrace: write failed\n"
+                && FIRST_OUTPUT.as_bytes().starts_with(output)
         }
-        Part::Tell => {
-            assert_eq!(rt; (ended.status, written), (2, ""));
-            assert!(rt; FAULT.starts_with(told), "{told}");
-        }
+        Part::Tell => ended.status == 2 && output.is_empty() && FAULT.starts_with(told),
     }
-    Ok(())
 }
 
-/// Asserts that a run in which no call failed leaves all.
-fn assert_whole(rt: &impl Abort, part: Part, ended: &Ended) -> Result<(), Fail> {
-    let written = str::from_utf8(ended.output.as_slice())?;
-    let told = str::from_utf8(ended.errors.as_slice())?;
-    let whole = match part {
+/// Whether a run in which no call failed leaves all.
+fn is_whole(part: Part, ended: &Ended) -> bool {
+    let (status, output, errors) = match part {
         Part::Read | Part::Write(_) => (0, FIRST_OUTPUT, ""),
         Part::Tell => (2, "", FAULT),
     };
-    assert_eq!(rt; (ended.status, written, told), whole);
-    Ok(())
+    ended.status == status
+        && ended.output.as_slice() == output.as_bytes()
+        && ended.errors.as_slice() == errors.as_bytes()
+}
+
+/// Whether a run leaves what it is to leave.
+fn is_as_told(part: Part, ended: &Ended) -> bool {
+    match ended.failed {
+        0 => is_whole(part, ended),
+        1 => is_failed(part, ended),
+        _ => false,
+    }
+}
+
+/// Asserts that a run leaves what it is to leave, and says whether a call failed.
+fn assert_ended(rt: &impl Abort, part: Part, ended: &Ended) -> bool {
+    let written = text_of(ended.output.as_slice());
+    let told = text_of(ended.errors.as_slice());
+    assert!(rt; is_as_told(part, ended), "{part:?} failed: {written}{told}");
+    ended.failed > 0
 }
 
 /// Lets each call of this part fail in turn, and says how many there are.
-fn fail_each(rt: &impl Abort, alloc: Global, part: Part) -> Result<u64, Fail> {
+fn fail_each(rt: &impl Abort, alloc: Global, part: Part) -> u64 {
     for calls in 0..MANY {
         let ended = ran(alloc, part, calls);
-        if ended.failed == 0 {
-            assert_whole(rt, part, &ended)?;
-            return Ok(calls);
+        if !assert_ended(rt, part, &ended) {
+            return calls;
         }
-        assert_failed(rt, part, &ended)?;
     }
-    Ok(MANY)
+    MANY
 }
 
 #[test]
-fn each_read_fails(rt: HostRuntime) -> Result<(), Fail> {
+fn each_read_fails(rt: HostRuntime) {
     // Seven reads for 48 bytes, and one that shows the end.
-    assert_eq!(rt; fail_each(&rt, rt.alloc(), Part::Read)?, 8);
-    Ok(())
+    assert_eq!(rt; fail_each(&rt, rt.alloc(), Part::Read), 8);
 }
 
 #[test]
-fn each_write_fails(rt: HostRuntime) -> Result<(), Fail> {
+fn each_write_fails(rt: HostRuntime) {
     // A write takes at most seven of 109 bytes, and of a fault's 30.
     for (part, least) in [
         (Part::Write(Failure::Error), 16),
         (Part::Write(Failure::TakesNothing), 16),
         (Part::Tell, 5),
     ] {
-        let calls = fail_each(&rt, rt.alloc(), part)?;
-        assert!(rt; least <= calls && calls < MANY, "{calls}");
+        let calls = fail_each(&rt, rt.alloc(), part);
+        assert!(rt; least <= calls && calls < MANY, "{part:?} failed: {calls}");
     }
-    Ok(())
 }

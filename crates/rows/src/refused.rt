@@ -1,8 +1,6 @@
 //! Runs and replays of which each request for memory, or each draw of a block, is refused in turn.
-ghost use Rattle.std.specs.Prelude.{◌≡◌, IfOk};
-
 use crate::pieces::PieceReader;
-use heap::{Config, Sizes};
+use heap::{BadConfig, Config, Sizes};
 use heap_text::Counted;
 use refusing::Refusing;
 use std::alloc::{AllocError, Global};
@@ -41,31 +39,45 @@ const MANY: u64 = 2000;
 /// More lines than a trace has.
 const ALL_LINES: u128 = 100;
 
-fn input_of(alloc: Global, trace: &str) -> Result<String, AllocError> {
-    let mut input = String::new(alloc);
+fn push_line(text: &mut String, line: &str) -> Result<(), AllocError> {
+    text.push_str(line)?;
+    text.push_str("\n")
+}
+
+fn push_input(input: &mut String, trace: &str) -> Result<(), AllocError> {
     for line in trace.lines() {
         if !line.starts_with("> ") {
-            input.push_str(line)?;
-            input.push_str("\n")?;
+            push_line(input, line)?;
         }
     }
-    Ok(input)
+    Ok(())
 }
 
 /// What the lines before this one print. Lines are counted from 1.
-fn output_before(alloc: Global, trace: &str, number: u128) -> Result<String, AllocError> {
-    let (mut output, mut last) = (String::new(alloc), 0_u128);
+fn push_output(output: &mut String, trace: &str, number: u128) -> Result<(), AllocError> {
+    let mut last = 0_u128;
     for line in trace.lines() {
         match line.strip_prefix("> ") {
-            Some(printed) if last < number => {
-                output.push_str(printed)?;
-                output.push_str("\n")?;
-            }
+            Some(printed) if last < number => push_line(output, printed)?,
             Some(_) => {}
             None => last = last.saturating_add(1),
         }
     }
+    Ok(())
+}
+
+fn output_before(alloc: Global, trace: &str, number: u128) -> Result<String, AllocError> {
+    let mut output = String::new(alloc);
+    push_output(&mut output, trace, number)?;
     Ok(output)
+}
+
+/// Whether a line has an automatic collection, by what is printed before it and with it.
+fn is_automatic(before: &str, with_it: &str) -> bool {
+    match with_it.strip_prefix(before) {
+        Some(own) => own.starts_with("auto "),
+        None => false,
+    }
 }
 
 /// Whether an output that a refusal cut short is that of the lines before the refused one, and with it what the line's own
@@ -73,11 +85,8 @@ fn output_before(alloc: Global, trace: &str, number: u128) -> Result<String, All
 fn is_cut_off(alloc: Global, trace: &str, number: u128, output: &[u8]) -> Result<bool, AllocError> {
     let before = output_before(alloc, trace, number)?;
     let with_it = output_before(alloc, trace, number.saturating_add(1))?;
-    let is_automatic = match with_it.as_str().strip_prefix(before.as_str()) {
-        Some(own) => own.starts_with("auto "),
-        None => false,
-    };
-    Ok(output == before.as_bytes() || is_automatic && output == with_it.as_bytes())
+    let is_collected = is_automatic(before.as_str(), with_it.as_str());
+    Ok(output == before.as_bytes() || is_collected && output == with_it.as_bytes())
 }
 
 /// What a run or a replay leaves in which something was refused.
@@ -89,10 +98,12 @@ struct Ended {
     returned: u64,
 }
 
-fn one_worker(config: Config) -> Result<RunConfig, Fail>
-    ensures { IfOk result (λ run. run.workers ≡ 1) }
-{
-    Ok(RunConfig::new(config, 1)?)
+/// A heap of so many blocks.
+fn config_of(trial: &Trial, blocks: u64) -> Result<Config, BadConfig> {
+    Config::new(Sizes {
+        blocks,
+        ..trial.sizes
+    })
 }
 
 /// A run or a replay in a heap of so many blocks, in which this request is refused.
@@ -102,12 +113,9 @@ fn carried_out(
     input: &str,
     blocks: u64,
     refused: u64,
-) -> Result<Ended, Fail> {
-    let config = Config::new(Sizes {
-        blocks,
-        ..trial.sizes
-    })?;
-    let (alone, both) = (one_worker(config)?, RunConfig::new(config, 2)?);
+) -> Result<Ended, BadConfig> {
+    let config = config_of(trial, blocks)?;
+    let (alone, both) = (RunConfig::new(config, 1)?, RunConfig::new(config, 2)?);
     let refusing = Refusing::new(alloc, refused);
     let mut reader = CountedReader {
         inner: PieceReader {
@@ -140,7 +148,7 @@ fn carried_out_at(
     input: &str,
     wanted: Wanted,
     number: u64,
-) -> Result<Ended, Fail> {
+) -> Result<Ended, BadConfig> {
     match wanted {
         Wanted::Memory => carried_out(alloc, trial, input, trial.sizes.blocks, number),
         Wanted::Blocks => carried_out(alloc, trial, input, number, MANY),
@@ -208,7 +216,8 @@ pub(crate) fn assert_each_refused(
     wanted: Wanted,
     least: u64,
 ) -> Result<(), Fail> {
-    let input = input_of(alloc, trial.trace)?;
+    let mut input = String::new(alloc);
+    push_input(&mut input, trial.trace)?;
     for number in first_of(wanted)..MANY {
         let ended = carried_out_at(alloc, trial, input.as_str(), wanted, number)?;
         if ended.result.is_ok() {

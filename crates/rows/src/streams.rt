@@ -2,15 +2,10 @@
 //! cell for each pointer of each table, by two mutators in turn, and another object that leads to the cell and is dropped with
 //! it. Each cell leads back to its table, which alone leads to it, until the next round puts another cell in its place. All
 //! objects have 16 words, so a nursery of 64 words is full of four, and each fourth cell finds it full.
+use crate::names::name_of;
 use crate::program::assert_output;
 use std::alloc::{AllocError, Global};
 use std::fmt::Write;
-use std::test::Fail;
-
-/// The name of table `k` has this number, so that all are of one length.
-fn name_of(k: u16) -> u64 {
-    1000 + k as u64
-}
 
 fn table_of(cell: u16) -> u16 {
     cell / 7
@@ -76,10 +71,15 @@ fn trace_of(alloc: Global) -> Result<String, AllocError> {
     Ok(text)
 }
 
+/// The line of an automatic collection.
+fn push_line(text: &mut String, kept: u16, freed: u16) -> Result<(), AllocError> {
+    writeln!(text, "auto 0: {kept} kept, {freed} freed")
+}
+
 /// The lines of so many automatic collections.
 fn push_automatic(text: &mut String, count: u16, kept: u16, freed: u16) -> Result<(), AllocError> {
     for _collection in 0..count {
-        writeln!(text, "auto 0: {kept} kept, {freed} freed")?;
+        push_line(text, kept, freed)?;
     }
     Ok(())
 }
@@ -239,7 +239,7 @@ fn output_of(alloc: Global) -> Result<String, AllocError> {
 }
 
 #[test]
-fn three_rounds_of_cells(rt: HostRuntime) -> Result<(), Fail> {
+fn three_rounds_of_cells(rt: HostRuntime) -> Result<(), AllocError> {
     let trace = trace_of(rt.alloc())?;
     let output = output_of(rt.alloc())?;
     let words = "gctrace run --block-words=64 --nursery=1 --mutators=2 --generations=3";
@@ -255,13 +255,18 @@ fn replayed_trace(alloc: Global) -> Result<String, AllocError> {
     Ok(text)
 }
 
-/// The lines of automatic collections by two workers, which have alternate slots and so half of the objects each.
+/// The lines of a worker that has half of the objects, as the two have alternate slots.
+fn push_worker(text: &mut String, worker: u8, kept: u16) -> Result<(), AllocError> {
+    let half = kept / 2;
+    writeln!(text, "worker {worker}: {half} won, {half} scanned")
+}
+
+/// The lines of automatic collections by two workers.
 fn push_shared(text: &mut String, count: u16, kept: u16, freed: u16) -> Result<(), AllocError> {
     for _collection in 0..count {
-        let half = kept / 2;
-        writeln!(text, "auto 0: {kept} kept, {freed} freed")?;
-        writeln!(text, "worker 0: {half} won, {half} scanned")?;
-        writeln!(text, "worker 1: {half} won, {half} scanned")?;
+        push_line(text, kept, freed)?;
+        push_worker(text, 0, kept)?;
+        push_worker(text, 1, kept)?;
     }
     Ok(())
 }
@@ -291,7 +296,7 @@ remembered: 1
 ";
 
 #[test]
-fn a_round_of_cells_by_two_workers(rt: HostRuntime) -> Result<(), Fail> {
+fn a_round_of_cells_by_two_workers(rt: HostRuntime) -> Result<(), AllocError> {
     let trace = replayed_trace(rt.alloc())?;
     let output = replayed_output(rt.alloc())?;
     let words =

@@ -55,17 +55,12 @@ fn row_of(text: &'static str) -> Option<Row> {
 
 /// Asserts that the run of a row leaves what it says.
 fn assert_row(rt: &impl Abort, alloc: Global, text: &'static str) -> Result<(), Fail> {
-    match row_of(text) {
-        Some(row) => assert_run(
-            rt,
-            alloc,
-            row.name,
-            row.words,
-            row.reads.as_bytes(),
-            row.left,
-        ),
-        None => Err(Fail::new(text)),
-    }
+    let Some(row) = row_of(text) else {
+        return Err(Fail::new(text));
+    };
+    let (name, words, reads) = (row.name, row.words, row.reads.as_bytes());
+    assert_run(rt, alloc, name, words, reads, row.left)?;
+    Ok(())
 }
 
 /// Asserts that the run of each row leaves what it says.

@@ -3,7 +3,6 @@
 use crate::program::assert_output;
 use std::alloc::{AllocError, Global};
 use std::fmt::Write;
-use std::test::Fail;
 
 /// How many objects the list has.
 const COUNT: u64 = 3000;
@@ -159,7 +158,7 @@ fn output_of(alloc: Global) -> Result<String, AllocError> {
 }
 
 #[test]
-fn list_is_walked(rt: HostRuntime) -> Result<(), Fail> {
+fn list_is_walked(rt: HostRuntime) -> Result<(), AllocError> {
     let trace = trace_of(rt.alloc())?;
     let output = output_of(rt.alloc())?;
     let words = "gctrace run --nursery=64";
