@@ -82,6 +82,14 @@ fn push_drops(text: &mut String, digit: u16) -> Result<(), AllocError> {
     Ok(())
 }
 
+/// The same for the digits from this one to before that one.
+fn push_all_drops(text: &mut String, from: u16, to: u16) -> Result<(), AllocError> {
+    for digit in from..to {
+        push_drops(text, digit)?;
+    }
+    Ok(())
+}
+
 /// All objects are made. They are too many for the nursery, so some move before the others are made.
 fn push_making(text: &mut String) -> Result<(), AllocError> {
     push_first_objects(text)?;
@@ -95,13 +103,9 @@ fn push_making(text: &mut String) -> Result<(), AllocError> {
 /// Three collections, with a part dropped before the second and the third.
 fn push_collections(text: &mut String) -> Result<(), AllocError> {
     writeln!(text, "collect 0\nheap")?;
-    for digit in 0..3 {
-        push_drops(text, digit)?;
-    }
+    push_all_drops(text, 0, 3)?;
     writeln!(text, "collect 0\nheap")?;
-    for digit in 3..5 {
-        push_drops(text, digit)?;
-    }
+    push_all_drops(text, 3, 5)?;
     writeln!(text, "collect 0\ncensus\nheap")
 }
 
@@ -205,12 +209,18 @@ fn push_first_lines(text: &mut String, gone: u16) -> Result<(), AllocError> {
     Ok(())
 }
 
+/// The lines of the others of component `k`.
+fn push_others_of(text: &mut String, k: u16, gone: u16) -> Result<(), AllocError> {
+    for other in 0..24 {
+        push_other_line(text, k, other, gone)?;
+    }
+    Ok(())
+}
+
 fn push_other_lines(text: &mut String, gone: u16) -> Result<(), AllocError> {
     for k in 0..200 {
-        for other in 0..24 {
-            if is_named(k, gone) {
-                push_other_line(text, k, other, gone)?;
-            }
+        if is_named(k, gone) {
+            push_others_of(text, k, gone)?;
         }
     }
     Ok(())

@@ -111,16 +111,26 @@ fn push_small_lines(text: &mut String, i: u16, k: u16) -> Result<(), AllocError>
     Ok(())
 }
 
+fn push_large_lines(text: &mut String) -> Result<(), AllocError> {
+    for i in 0..100 {
+        push_large_line(text, i)?;
+    }
+    Ok(())
+}
+
+fn push_all_small_lines(text: &mut String) -> Result<(), AllocError> {
+    for i in 0..100 {
+        push_small_lines(text, i, i * 2 + 1)?;
+    }
+    Ok(())
+}
+
 fn heap_of(alloc: Global) -> Result<String, AllocError> {
     let mut text = String::new(alloc);
     write!(&mut text, "{COUNTS}")?;
     push_roots(&mut text)?;
-    for i in 0..100 {
-        push_large_line(&mut text, i)?;
-    }
-    for i in 0..100 {
-        push_small_lines(&mut text, i, i * 2 + 1)?;
-    }
+    push_large_lines(&mut text)?;
+    push_all_small_lines(&mut text)?;
     Ok(text)
 }
 
