@@ -15,8 +15,8 @@ returns-then-size-block_words g c =
 pub returns : goal.returns
 returns g c =
     let f : Facts c.args.heap.now (place_word c.args.name) (raw_of c.args.found.object) = facts c.args.heap.now (place_word c.args.name) (raw_of c.args.found.object) c.requires.shown in
-    let to = c.destination-to.ensures ∙ ap (λ (k : Config). dest k.shape (c.args.found.at.generation, c.args.found.at.step)) c.config-config.ensures in
-    let number = c.number_of.ensures ∙ ap (λ (k : Config). destination_number k.shape (c.destination-to.result.generation, c.destination-to.result.step)) c.config-config.ensures in
+    let to = c.dest-to.ensures ∙ ap (λ (k : Config). dest k.shape (c.args.found.at.generation, c.args.found.at.step)) c.config-config.ensures in
+    let number = c.dest_number.ensures ∙ ap (λ (k : Config). destination_number k.shape (c.dest-to.result.generation, c.dest-to.result.step)) c.config-config.ensures in
     record {
       small = f.large ∙ le-ltb _ _ (omega (arith, c.if-size-block_words.false, c.size.ensures, c.block_words.ensures.value, ap (λ (k : Config). k.block_words) c.config-config.ensures));
       is_destination = ((c.args.found.at.generation, c.args.found.at.step), to);
