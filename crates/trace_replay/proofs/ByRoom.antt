@@ -20,7 +20,7 @@ use Rattle.heap_text.specs.ReportText.{workers_text}
 use Rattle.trace_session.specs.Stepped.{Writes}
 use Rattle.trace_session.specs.Made as made_by
 use Rattle.trace_session.specs.Stands.{StandsFor}
-use Rattle.trace_session.proofs.trace_step.StandsCollected.{stands_collected, kept_same, freed_same}
+use Rattle.trace_session.proofs.StandsCollected.{stands_collected, kept_same, freed_same}
 use Rattle.trace_replay.specs.Brought.{ComesToCommit}
 use Rattle.trace_replay.specs.Replays.{MakesRoom}
 use Rattle.trace_replay.proofs.BySchedule.{is_collected}

@@ -39,7 +39,7 @@ use Rattle.trace_session.specs.Sound.{IsSoundCommand}
 use Rattle.trace_session.specs.Stepped.{AtEach}
 use Rattle.trace_session.specs.Made as made_by
 use Rattle.trace_session.specs.Stands.{StandsFor}
-use Rattle.trace_session.proofs.trace_step.StandsCollected.{stands_collected, kept_same, freed_same}
+use Rattle.trace_session.proofs.StandsCollected.{stands_collected, kept_same, freed_same}
 use Rattle.trace_replay.specs.Runs.{Brings, LinesRun, stay, go}
 use Rattle.trace_replay.specs.Stops.{IsUnreadable, IsRefusedBlocks, IsSoundLine, OfLine, StopsAt, StopsWith}
 use Rattle.trace_replay.specs.Brought.{IsBrought, BringsToCommit}

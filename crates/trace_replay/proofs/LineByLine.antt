@@ -16,7 +16,7 @@ use Rattle.trace_session.specs.Pieces.{HasNoFeed, Piece, finished, unfinished, p
 use Rattle.trace_session.specs.Outcome.{line_step}
 use Rattle.trace_session.specs.Stepped.{AtEach, Writes}
 use Rattle.trace_session.proofs.PieceLemmas.{pieces_line, pieces_last}
-use Rattle.trace_session.specs.SessionType.{Session}
+use Rattle.trace_session.specs.declared.session.Session.{Session}
 use Rattle.trace_session.specs.Session.{Stands}
 use Rattle.trace_replay.specs.Replays.{State, state_of, Steps, StepsWithRoom, Replays, stay, step, with_room, collection, CollectsTo, LineReplayed, ReplaysTo, ReplaysAll}
 use Rattle.trace_replay.specs.ReplayStops.{AfterCollect, HasTraceFault, HasScheduleFault, WantsRoom, WantsBlocks, IsLineSoFar, IsSoundAt, Quietly, StopsIn, outside}

@@ -6,7 +6,7 @@ use Rattle.trace_text.specs.Grammar.{entry_of}
 use Rattle.trace_session.specs.CollectsFirst.{LineCollectsFirst, auto_line}
 use Rattle.trace_session.specs.Outcome.{line_step}
 use Rattle.trace_session.specs.Stepped.{AtEach, StepsTo, Writes}
-use Rattle.trace_session.specs.SessionType.{Session}
+use Rattle.trace_session.specs.declared.session.Session.{Session}
 use Rattle.trace_session.specs.Session.{Stands}
 use Rattle.trace_replay.specs.Replays.{state_of, IsNoCollection, MakesRoom, HasMadeRoom, LineReplayed}
 

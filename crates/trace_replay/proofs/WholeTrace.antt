@@ -8,7 +8,7 @@ use Rattle.trace_session.specs.declared.trace_lines.fault.Fault.TheVariants.{Bad
 use Rattle.trace_session.specs.Faults.{MatchEachFault}
 use Rattle.trace_session.specs.Pieces.{Piece, pieces}
 use Rattle.trace_session.specs.Stepped.{AtEach}
-use Rattle.trace_session.specs.SessionType.{Session}
+use Rattle.trace_session.specs.declared.session.Session.{Session}
 use Rattle.trace_session.specs.Session.{Stands}
 use Rattle.trace_replay.specs.Replays.{State, state_of, ReplaysAll, IsReplayed}
 use Rattle.trace_replay.specs.ReplayStops.{HasTraceFault, HasScheduleFault, WantsBlocks, IsSoundAt, Quietly, StopsIn, Stops}

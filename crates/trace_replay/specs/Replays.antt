@@ -19,7 +19,7 @@ use Rattle.trace_session.specs.Pieces.{Piece, finished, pieces}
 use Rattle.trace_session.specs.CollectsFirst.{LineCollectsFirst, auto_line}
 use Rattle.trace_session.specs.Outcome.{line_step, command_step}
 use Rattle.trace_session.specs.Stands.{StandsFor}
-use Rattle.trace_session.specs.SessionType.{Session}
+use Rattle.trace_session.specs.declared.session.Session.{Session}
 use Rattle.trace_replay.specs.Runs.{Finishes, LinesRun}
 
 -- a heap with its named roots, and the store that they stand for
