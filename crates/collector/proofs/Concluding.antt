@@ -29,13 +29,15 @@ use Rattle.workers.proofs.OneMore.{stepped_more, reached_more}
 use Rattle.workers.proofs.AloneSteps.{ended_in_order}
 use Rattle.workers.proofs.RunBrings.{refused_below}
 use Rattle.scavenge.specs.Named.{named}
-use Rattle.one_worker.specs.SerialValue.{SerialValue, WantsDraw, system_of, setting_in, targets_in, destinations_in, lane_of, waiting_in}
-use Rattle.one_worker.specs.IsSerial.{IsReadyToCollect}
-use Rattle.collector.specs.Settling.{IsReportOf, ScansWhatItWon, exports_of, own_deliveries}
-use Rattle.one_worker.proofs.OpenBlocks.{none_open}
-use Rattle.one_worker.proofs.Starts.{targets_live}
+use Rattle.one_worker.specs.SerialValue.{SerialValue, WantsDraw, system_of, setting_in, targets_in, destinations_in, lane_of}
+use Rattle.scavenge.specs.Waiting.{waiting_in}
+use Rattle.scavenge.specs.ReadyToCollect.{IsReadyToCollect}
+use Rattle.collector.specs.Settling.{IsReportOf, ScansWhatItWon, exports_of}
+use Rattle.settling.specs.OwnDeliveries.{own_deliveries}
+use Rattle.scavenge.proofs.OpenBlocks.{none_open}
+use Rattle.scavenge.proofs.Starts.{targets_live}
 use Rattle.one_worker.specs.Stepping.{IsOf, IsDone, IsFullForLook, HasStepped}
-use Rattle.collector.specs.Collects.{is_small_word, won_places, ScansInOrder, RunsAlone, ScansAlone, ScansOnce, CollectsAlone, IsShortOfBlocks}
+use Rattle.settling.specs.Collects.{is_small_word, won_places, ScansInOrder, RunsAlone, ScansAlone, ScansOnce, CollectsAlone, IsShortOfBlocks}
 use Rattle.one_worker.proofs.Going.{reached_of}
 
 pub begins : (v : SerialValue) → system_of v ≡ opening (destinations_in v) 1 (targets_in v) v.heap.free → HasStepped v

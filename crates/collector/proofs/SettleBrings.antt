@@ -1,12 +1,11 @@
 -- A worker that is out of work, with an empty queue, has ended its collection: what it holds may be committed.
-use Rattle.std.proofs.Common.{◌≡◌, ℕ, zero, suc, ◌+◌, ◌<◌, ◌≤◌, Bool, true, false, List, [], ◌∷◌, ◌++◌, length, map, Option, Some, None, refl, sym, ap, subst, ◌∙◌, arith, nat_eq, eqb-true}
-use Rattle.std.specs.Prelude.{All, IsTrue, slice_index, slice_index_or}
+use Rattle.std.proofs.Common.{◌≡◌, ℕ, zero, suc, ◌+◌, ◌<◌, ◌≤◌, true, List, [], ◌∷◌, ◌++◌, length, map, Option, Some, None, refl, sym, ap, ◌∙◌, arith, nat_eq}
+use Rattle.std.specs.Prelude.{All, slice_index, slice_index_or}
 use Rattle.std.specs.Option.{option_map}
 use Rattle.std.specs.Ordering.{nat_cmp}
 use Rattle.std.specs.FinMap.{find}
 use Rattle.model.specs.Live.{Live}
 use Rattle.model.specs.Reached.{has}
-use Rattle.model.proofs.Has.{has_head, has_tail}
 use Rattle.layout.specs.declared.place.Place.{Place}
 use Rattle.layout.specs.Place.{place_word}
 use Rattle.block_pool.specs.BlockValue.{BlockValue}
@@ -28,29 +27,19 @@ use Rattle.workers.proofs.OneMore.{reached_more}
 use Rattle.workers.proofs.RunBrings.{ended_brings}
 use Rattle.workers.proofs.Kept.{kept}
 use Rattle.scavenge.specs.Named.{named, IsWhole}
-use Rattle.one_worker.specs.Brings.{left_blocks}
-use Rattle.one_worker.proofs.Bridge.{settled}
-use Rattle.one_worker.specs.SerialValue.{SerialValue, lane_of, waiting_in, system_of, setting_in, targets_in, destinations_in}
+use Rattle.settling.specs.Brings.{left_blocks}
+use Rattle.settling.proofs.Bridge.{settled}
+use Rattle.one_worker.specs.SerialValue.{SerialValue, lane_of, system_of, setting_in, targets_in, destinations_in}
+use Rattle.scavenge.specs.Waiting.{waiting_in}
 use Rattle.one_worker.specs.IsSerial.{IsSerial}
-use Rattle.one_worker.proofs.Starts.{has_starts, targets_live}
-use Rattle.collector.specs.Settling.{ScansWhatItWon, shown_after}
-use Rattle.collector.proofs.ShownLarge.{places_show}
+use Rattle.scavenge.proofs.Starts.{has_starts, targets_live}
+use Rattle.collector.specs.Settling.{ScansWhatItWon}
+use Rattle.settling.specs.Shown.{shown_after}
+use Rattle.settling.proofs.ShownLarge.{places_show}
 
 append_nil : {A : Type 0} (xs : List A) → xs ++ [] ≡ xs
 append_nil [] = refl
 append_nil (x ∷ xs) = ap (λ ys. x ∷ ys) (append_nil xs)
-
-pub stands_has : (x : ℕ) (xs : List ℕ) → 0 < times x xs → IsTrue (has xs x)
-stands_has x [] l = absurd (omega arith)
-stands_has x (y ∷ ys) l = by_test (nat_eq y x) refl (stands_has x ys)
-  where
-    by_test : (b : Bool) → nat_eq y x ≡ b → (0 < times x ys → has ys x ≡ true) → has (y ∷ ys) x ≡ true
-    by_test true e rest = subst (λ z. has (z ∷ ys) x ≡ true) (sym (eqb-true y x e)) (has_head x ys)
-    by_test false e rest = let z : one_if (nat_eq y x) ≡ 0 = ap one_if e in has_tail y ys x (rest (omega arith))
-
-pub times-places : (place : ℕ) (won : List (ℕ × ℕ)) → times place (map (λ e. e.1) won) ≡ total (λ (q : ℕ × ℕ). one_if (nat_eq q.1 place)) won
-times-places place [] = refl
-times-places place (e ∷ es) = ap (λ n. one_if (nat_eq e.1 place) + n) (times-places place es)
 
 module _ (v : SerialValue) (k : IsSerial v) (r : IsReached (setting_in v) (destinations_in v) 1 (targets_in v) v.heap.free (system_of v)) (out : IsOutOfWork v.workspace.worker) (queue : waiting_in (lane_of v) ≡ []) where
   -- the worker is idle, and has ended

@@ -1,9 +1,9 @@
 -- What the calls that settle a collection rely on, and what they answer together.
-use Rattle.std.proofs.Common.{◌≡◌, ℕ, zero, suc, ◌+◌, ◌<◌, List, [], ◌∷◌, ◌++◌, length, map, Option, Some, None, refl, sym, ap, subst, ◌∙◌, ⊎_elim, arith}
+use Rattle.std.proofs.Common.{◌≡◌, ℕ, suc, ◌+◌, ◌<◌, List, [], ◌∷◌, ◌++◌, length, map, Option, Some, refl, sym, ap, subst, ◌∙◌, ⊎_elim}
 use Rattle.std.proofs.lemmas.Bool.{cases_eq}
 use Rattle.std.proofs.lemmas.List.{append-nil, length-map, map-append}
 use Rattle.std.proofs.lemmas.List.Elements.{All-nil, All-cons}
-use Rattle.std.specs.Prelude.{All, slice_get, slice_index_or}
+use Rattle.std.specs.Prelude.{All, slice_get}
 use Rattle.std.specs.Option.{option_map}
 use Rattle.std.specs.Ordering.{nat_cmp}
 use Rattle.std.specs.FinMap.{find}
@@ -12,15 +12,13 @@ use Rattle.model.specs.Live.{IsYoung}
 use Rattle.model.proofs.LiveLemmas.{Live-young}
 use Rattle.model.proofs.NatMap.{find_same, find_other}
 use Rattle.layout.specs.declared.place.Place.{Place}
-use Rattle.layout.specs.Object.{Raw, raw_size}
 use Rattle.layout.specs.Place.{place_word}
 use Rattle.block_pool.specs.BlockValue.{BlockValue}
 use Rattle.steps.specs.HeapValue.{HeapValue}
 use Rattle.steps.specs.CollectionValue.{CollectionValue, IsOpened, young_names}
 use Rattle.steps.specs.ReportValue.{WorkerLists, all_won, renaming_of}
 use Rattle.steps.specs.SettledValue.{IsSettled}
-use Rattle.forwarding.specs.declared.plain_cells.held.Held.{Held}
-use Rattle.forwarding.specs.Plain.{place_of, place_held}
+use Rattle.forwarding.specs.Plain.{place_of}
 use Rattle.workers.specs.Block.{Block}
 use Rattle.workers.specs.WorkerSteps.{IsOutOfWork}
 use Rattle.workers.specs.Joined.{Each, OnSome, somes, blocks_of}
@@ -28,10 +26,12 @@ use Rattle.workers.specs.Finish.{IsReached}
 use Rattle.scavenge.specs.Named.{named, named_copies, IsWhole}
 use Rattle.scavenge.specs.Fronts.{slot_at}
 use Rattle.scavenge.specs.Shown.{pair_of}
-use Rattle.one_worker.specs.SerialValue.{SerialValue, lane_of, waiting_in, system_of, setting_in, targets_in, destinations_in}
+use Rattle.one_worker.specs.SerialValue.{SerialValue, lane_of, system_of, setting_in, targets_in, destinations_in}
+use Rattle.scavenge.specs.Waiting.{waiting_in}
 use Rattle.one_worker.specs.IsSerial.{IsSerial}
-use Rattle.collector.specs.Settling.{IsReportOf, ScansWhatItWon, exports_of, shown_after}
-use Rattle.collector.proofs.ShownLarge.{shown_in}
+use Rattle.collector.specs.Settling.{IsReportOf, ScansWhatItWon, exports_of}
+use Rattle.settling.specs.Shown.{shown_after}
+use Rattle.settling.proofs.ShownLarge.{shown_in}
 use Rattle.collector.proofs.SettleBrings.{won_live, settles, cells_show, scans_won}
 
 -- what holds of each name that is found holds of each name
@@ -43,21 +43,6 @@ found_all P (w ∷ ws) h =
     (λ (same : name ≡ place_word w.0). h name (place_word w.1) (ap (λ n. find nat_cmp n (map pair_of (w ∷ ws))) same ∙ find_same (place_word w.0) (place_word w.1) (map pair_of ws)))
     (λ ne. h name place (find_other name (place_word w.0) (place_word w.1) (map pair_of ws) ne ∙ is))
     (cases_eq name (place_word w.0))))
-
-pub somes-map : (shape : Shape) (slots : List (Option BlockValue)) → map (named shape) (somes slots) ≡ somes (map (option_map (named shape)) slots)
-somes-map shape [] = refl
-somes-map shape (None ∷ slots) = somes-map shape slots
-somes-map shape (Some b ∷ slots) = ap (λ bs. named shape b ∷ bs) (somes-map shape slots)
-
-pub somes_each : (P : BlockValue → Type 0) (slots : List (Option BlockValue)) (done : List BlockValue) → ((d : ℕ) → OnSome P (slot_at slots d)) → Each P done → Each P (somes slots ++ done)
-somes_each P [] done h k = k
-somes_each P (None ∷ slots) done h k = somes_each P slots done (λ d. h (suc d)) k
-somes_each P (Some b ∷ slots) done h k = (h 0, somes_each P slots done (λ d. h (suc d)) k)
-
-pub held_place : (held : List (Option Held)) (n : ℕ) → slice_index_or (map place_of held) n None ≡ place_held held n
-held_place [] n = refl
-held_place (h ∷ held) zero = refl
-held_place (h ∷ held) (suc n) = held_place held n
 
 -- the worker has nothing left, and these are its heap and its collection
 pub record IsAtEnd (v : SerialValue) (heap : HeapValue) (c : CollectionValue) : Type 0 where
@@ -117,13 +102,6 @@ module _ (v : SerialValue) (k : IsSerial v) (heap : HeapValue) (c : CollectionVa
   -- the report of the worker alone
   pub reports_at_end : (workers : List WorkerLists) (lists : WorkerLists) → workers ≡ lists ∷ [] → renaming_of (young_names heap.graph c.generation) lists.won ≡ v.workspace.worker.won → lists.scanned ≡ v.workspace.worker.scanned → IsReportOf v workers
   reports_at_end workers lists alone won scanned = record { lists = lists; alone = alone; won = renames_at_end lists.won won; scanned = scanned }
-
--- an exported block has as many copies as objects
-pub named_length : (number offset : ℕ) (origins : List ℕ) (raws : List Raw) → length origins ≡ length raws → length (named_copies number offset origins raws) ≡ length raws
-named_length number offset [] [] e = refl
-named_length number offset [] (r ∷ raws) e = absurd (omega (arith, e))
-named_length number offset (o ∷ origins) [] e = absurd (omega (arith, e))
-named_length number offset (o ∷ origins) (r ∷ raws) e = ap suc (named_length number (offset + raw_size r) origins raws (omega (arith, e)))
 
 pub sizes : (shape : Shape) (bs : List BlockValue) → ((i : ℕ) (b : BlockValue) → slice_get bs i ≡ Some b → length b.origins ≡ length b.objects) → map (λ (b : BlockValue). length b.objects) bs ≡ map (λ (b : Block). length b.copies) (map (named shape) bs)
 sizes shape [] noted = refl

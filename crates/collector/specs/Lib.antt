@@ -1,7 +1,3 @@
--- What a collection leaves and reports.
-
--- How a collection by one worker ends.
+-- What a collection by one worker brings to its commit, and why a collection was not carried out.
 pub mod Settling
-pub mod Collects
-pub mod Together
 pub mod Errors

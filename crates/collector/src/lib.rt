@@ -4,8 +4,8 @@
 ghost use Rattle.std.specs.Prelude.{◌≡◌, ◌≢◌, ◌↔◌, ◌≤◌, IfOk, OnErr, Err};
 ghost use Rattle.steps.specs.ReportValue.{all_won};
 ghost use Rattle.steps.specs.SettledValue.{IsSettled};
-ghost use Rattle.one_worker.specs.IsSerial.{IsReadyToCollect};
-ghost use Rattle.collector.specs.Collects.{CollectsAlone, ScansAlone, ScansOnce, IsShortOfBlocks};
+ghost use Rattle.scavenge.specs.ReadyToCollect.{IsReadyToCollect};
+ghost use Rattle.settling.specs.Collects.{CollectsAlone, ScansAlone, ScansOnce, IsShortOfBlocks};
 
 mod serial_settling;
 
@@ -13,7 +13,6 @@ use crate::serial_settling::settle;
 use heap::{Collection, Heap, OpenError, Report, Settled};
 use one_worker::{SerialCollection, run_to_end};
 use scavenge::LookError;
-pub use serial_settling::{in_one_list, numbered, places_in, show_large};
 use std::alloc::{AllocError, Allocator};
 use thiserror::Error;
 

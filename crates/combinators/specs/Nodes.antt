@@ -6,7 +6,7 @@ use Rattle.heap.specs.HeapValue.{HeapValue}
 use Rattle.heap.specs.ReportValue.{WorkerLists}
 use Rattle.heap.specs.Commands.{Allocates, Changes, Stores, rooted_object, pointer_of}
 use Rattle.steps.specs.declared.heap_values.report.Delivery.{Delivery}
-use Rattle.collector.specs.Collects.{CollectsAlone}
+use Rattle.settling.specs.Collects.{CollectsAlone}
 use Rattle.combinators.specs.declared.nodes.Trouble.{Trouble}
 use Rattle.combinators.specs.declared.nodes.Trouble.TheVariants.{HeapFull, NoMemory}
 

@@ -18,3 +18,5 @@ pub mod Read
 pub mod Noting
 pub mod Joining
 pub mod Settling
+-- New passes of shared cells.
+pub mod Fresh

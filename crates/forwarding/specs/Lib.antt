@@ -15,3 +15,5 @@ pub mod Noted
 pub mod Boxed
 pub mod Gathered
 pub mod BoxSettled
+-- Passes of shared cells, by the number of the worker.
+pub mod Passes

@@ -6,6 +6,7 @@ mod cells;
 mod looking;
 mod plain_cells;
 mod settled_pairs;
+mod shared_cells;
 mod word_cells;
 
 pub use box_cells::{BoxCells, BoxPass};
@@ -13,4 +14,5 @@ pub use cells::{Cells, Forwards, Outcome, SettleError};
 pub use looking::look_then_race;
 pub use plain_cells::{PlainCells, PlainPass};
 pub use settled_pairs::settled;
+pub use shared_cells::{Gate, Lent, OpenGate, SharedCells, StepKind};
 pub use word_cells::{WordCells, WordPass};

@@ -12,8 +12,8 @@ use Rattle.steps.specs.ReportValue.{WorkerLists, all_won, renaming_of}
 use Rattle.steps.specs.declared.heap_values.report.Delivery.{Delivery}
 use Rattle.workers.specs.System.{opening}
 use Rattle.workers.specs.Steps.{Run}
-use Rattle.machine.specs.Collects.{setting_at, opening_at}
-use Rattle.machine.specs.Together.{RunsTogether, CollectsTogether}
+use Rattle.settling.specs.Collects.{setting_at, opening_at}
+use Rattle.settling.specs.Together.{RunsTogether, CollectsTogether}
 use Rattle.machine.specs.MachineValue.{MachineValue, HasReached, setting_in}
 use Rattle.machine.specs.Settles.{Settles}
 

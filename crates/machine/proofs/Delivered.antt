@@ -9,20 +9,20 @@ use Rattle.block_pool.specs.BlockValue.{BlockValue}
 use Rattle.pending_queues.specs.declared.exports.deliveries.Delivery.{Delivery as Outcome}
 use Rattle.pending_queues.specs.PlainValue.{PlainLane, outcomes, outcomes_of}
 use Rattle.pending_queues.specs.PlainValue.{PlainValue as PlainQueuesValue}
-use Rattle.workers_in_turn.specs.Handed.{CopiesKeyValue}
+use Rattle.scavenge.specs.Handed.{CopiesKeyValue}
 use Rattle.steps.specs.declared.heap_values.report.Delivery.{Delivery}
 use Rattle.workers.specs.Block.{Block}
 use Rattle.workers.specs.Joined.{Each}
 use Rattle.workers.specs.Lawful.{AllEnded}
 use Rattle.scavenge.specs.Named.{named}
-use Rattle.collector.proofs.SettleWhole.{named_length}
+use Rattle.settling.proofs.Blocks.{named_length}
 use Rattle.workers_in_turn.specs.InterleavedValue.{InterleavedValue, MemberValue, queue_in, exports_in, system_of}
 use Rattle.workers_in_turn.specs.IsInterleaved.{IsInterleaved, HasTaken}
 use Rattle.workers_in_turn.proofs.Places.{get-map}
-use Rattle.collector.specs.Together.{label_of, IsDelivery, AreDelivered}
-use Rattle.machine.specs.Telling.{delivery_of, deliveries_of, all_deliveries}
-use Rattle.machine.proofs.Parted.{Each-append}
-use Rattle.machine.proofs.EndedLists.{each_place}
+use Rattle.settling.specs.Together.{label_of, IsDelivery, AreDelivered}
+use Rattle.settling.specs.Telling.{delivery_of, deliveries_of, all_deliveries}
+use Rattle.settling.proofs.Parted.{Each-append}
+use Rattle.settling.proofs.EndedLists.{each_place}
 use Rattle.machine.proofs.Ended.{nothing_left}
 
 -- the first blocks, as many as there are takers, were taken

@@ -1,6 +1,6 @@
 -- Where all workers ended: what they hold may be committed.
-use Rattle.std.proofs.Common.{◌≡◌, ℕ, ◌<◌, ◌≤◌, List, length, map, Option, Some, None, refl, sym, ap, subst, ◌∙◌, arith}
-use Rattle.std.proofs.lemmas.List.{length-map}
+use Rattle.std.proofs.Common.{◌≡◌, ℕ, ◌<◌, ◌≤◌, List, ◌++◌, ◌∷◌, [], length, map, Option, Some, None, refl, sym, ap, subst, ◌∙◌, arith}
+use Rattle.std.proofs.lemmas.List.{length-map, append-nil}
 use Rattle.std.specs.Prelude.{flat_map, slice_index}
 use Rattle.std.specs.Option.{option_map}
 use Rattle.std.specs.Ordering.{nat_cmp}
@@ -26,19 +26,20 @@ use Rattle.workers.specs.Alone.{RunBrings, AreEmpty}
 use Rattle.workers.proofs.RunBrings.{ended_brings}
 use Rattle.workers.proofs.Reached.{reached_left}
 use Rattle.workers.proofs.Kept.{kept}
-use Rattle.one_worker.specs.Brings.{left_blocks}
-use Rattle.one_worker.proofs.Bridge.{settled}
-use Rattle.workers_in_turn.proofs.Starts.{has_starts, targets_live}
-use Rattle.collector.specs.Settling.{shown_after}
-use Rattle.collector.proofs.ShownLarge.{shown_in, places_show}
-use Rattle.collector.proofs.SettleBrings.{stands_has, times-places}
-use Rattle.collector.proofs.SettleWhole.{held_place}
+use Rattle.settling.specs.Brings.{left_blocks}
+use Rattle.settling.proofs.Bridge.{settled}
+use Rattle.scavenge.proofs.Starts.{has_starts, targets_live}
+use Rattle.settling.specs.Shown.{shown_after}
+use Rattle.settling.proofs.ShownLarge.{shown_in, places_show}
+use Rattle.settling.proofs.Blocks.{stands_has, times-places}
+use Rattle.settling.proofs.Blocks.{held_place}
 use Rattle.workers_in_turn.specs.InterleavedValue.{InterleavedValue, MemberValue, worker_of, system_of, setting_in, targets_in, destinations_in}
 use Rattle.workers_in_turn.specs.IsInterleaved.{IsInterleaved}
 use Rattle.workers_in_turn.proofs.Places.{get-map}
-use Rattle.collector.specs.Collects.{ScansOnce}
-use Rattle.machine.specs.Telling.{IsAtRest, AreBrought}
-use Rattle.machine.proofs.EndedLists.{joined_lists, joined_map, renamed_joined, same_places, parts_won, parts_left, parts_scanned, wins_among, each_name, each_place}
+use Rattle.settling.specs.Collects.{ScansOnce}
+use Rattle.scavenge.specs.Shown.{WorkspaceValue}
+use Rattle.settling.specs.Telling.{IsAtRest, AreBrought}
+use Rattle.settling.proofs.EndedLists.{joined_lists, joined_map, renamed_joined, same_places, parts_won, parts_left, parts_scanned, wins_among, each_name, each_place}
 
 module _ (v : InterleavedValue) (k : IsInterleaved v) (ended : AllEnded (system_of v)) where
   empty : AreEmpty v.heap.graph v.heap.free
@@ -89,7 +90,7 @@ module _ (v : InterleavedValue) (k : IsInterleaved v) (ended : AllEnded (system_
         young = each_name (IsYoung v.heap.graph v.collection.generation) m.workspace.worker.won (λ name l. young name (let a = wins_among name (system_of v).workers t m.workspace.worker (get-map worker_of v.members t m at) in omega (arith, l, a)));
       })
 
-  module _ (reports : List WorkerLists) (blocks : List BlockValue) (b : AreBrought v.heap v.collection v.members reports blocks) where
+  module _ (reports : List WorkerLists) (blocks : List BlockValue) (b : AreBrought v.heap v.collection (map worker_of v.members) reports blocks) where
     renamed_is : renaming_of (young_names v.heap.graph v.collection.generation) (all_won reports) ≡ all_of (λ (w : Worker). w.won)
     renamed_is = renamed_joined (young_names v.heap.graph v.collection.generation) reports ∙ ap joined_lists b.reported.won ∙ sym (joined_map (λ (w : Worker). w.won) (system_of v).workers)
 
@@ -138,13 +139,36 @@ module _ (v : InterleavedValue) (k : IsInterleaved v) (ended : AllEnded (system_
 pub held_count : (v : InterleavedValue) → IsInterleaved v → (held : List (Option Place)) → held ≡ map place_of v.cells.held → length held ≡ v.collection.cells
 held_count v k held are = ap length are ∙ length-map v.cells.held place_of ∙ k.cells.count
 
--- the same, of the heap, the collection and the members that the calls have
-module _ (v : InterleavedValue) (heap : HeapValue) (c : CollectionValue) (members : List MemberValue) (same_heap : heap ≡ v.heap) (same_collection : c ≡ v.collection) (same_members : members ≡ v.members) where
-  pub at_rest_in : IsInterleaved v → AllEnded (system_of v) → Each (λ (m : MemberValue). IsAtRest heap c m.workspace) members
-  at_rest_in k ended =
-      subst (Each (λ (m : MemberValue). IsAtRest heap c m.workspace)) (sym same_members)
-      (subst (λ h. Each (λ (m : MemberValue). IsAtRest h c m.workspace) v.members) (sym same_heap) (subst (λ d. Each (λ (m : MemberValue). IsAtRest v.heap d m.workspace) v.members) (sym same_collection) (at_rest v k ended)))
+-- the members' own parts
+abbrev pub workspace_of : MemberValue → WorkspaceValue
+workspace_of m = m.workspace
 
-  pub brought_in : (reports : List WorkerLists) (blocks : List BlockValue) → AreBrought heap c members reports blocks → AreBrought v.heap v.collection v.members reports blocks
+each_map : (P : WorkspaceValue → Type 0) (ms : List MemberValue) → Each (λ (m : MemberValue). P m.workspace) ms → Each P (map workspace_of ms)
+each_map P [] h = tt
+each_map P (m ∷ ms) h = (h.0, each_map P ms h.1)
+
+workers_are : (ms : List MemberValue) → map (λ (w : WorkspaceValue). w.worker) (map workspace_of ms) ≡ map worker_of ms
+workers_are [] = refl
+workers_are (m ∷ ms) = ap (λ ws. m.workspace.worker ∷ ws) (workers_are ms)
+
+-- once no member is left, all parts are there
+pub all_gone : (ws : List WorkspaceValue) (rest ms : List MemberValue) → length rest ≡ 0 → ws ++ map workspace_of rest ≡ map workspace_of ms → ws ≡ map workspace_of ms
+all_gone ws [] ms none e = sym (append-nil ws) ∙ e
+all_gone ws (m ∷ rest) ms none e = absurd (omega (arith, none))
+
+-- the same, of the heap, the collection and the workers' own parts that the calls have
+module _ (v : InterleavedValue) (heap : HeapValue) (c : CollectionValue) (members : List MemberValue) (same_heap : heap ≡ v.heap) (same_collection : c ≡ v.collection) (same_members : members ≡ v.members) (workspaces : List WorkspaceValue) (are : workspaces ≡ map workspace_of members) where
+  their : workspaces ≡ map workspace_of v.members
+  their = are ∙ ap (map workspace_of) same_members
+
+  pub at_rest_in : IsInterleaved v → AllEnded (system_of v) → Each (IsAtRest heap c) workspaces
+  at_rest_in k ended =
+      subst (λ h. Each (IsAtRest h c) workspaces) (sym same_heap)
+      (subst (λ d. Each (IsAtRest v.heap d) workspaces) (sym same_collection)
+      (subst (Each (IsAtRest v.heap v.collection)) (sym their) (each_map (IsAtRest v.heap v.collection) v.members (at_rest v k ended))))
+
+  pub brought_in : (reports : List WorkerLists) (blocks : List BlockValue) → AreBrought heap c (map (λ (w : WorkspaceValue). w.worker) workspaces) reports blocks → AreBrought v.heap v.collection (map worker_of v.members) reports blocks
   brought_in reports blocks b =
-      subst (λ ms. AreBrought v.heap v.collection ms reports blocks) same_members (subst (λ d. AreBrought v.heap d members reports blocks) same_collection (subst (λ h. AreBrought h c members reports blocks) same_heap b))
+      subst (λ ws. AreBrought v.heap v.collection ws reports blocks) (ap (map (λ (w : WorkspaceValue). w.worker)) their ∙ workers_are v.members)
+      (subst (λ d. AreBrought v.heap d (map (λ (w : WorkspaceValue). w.worker) workspaces) reports blocks) same_collection
+      (subst (λ h. AreBrought h c (map (λ (w : WorkspaceValue). w.worker) workspaces) reports blocks) same_heap b))

@@ -10,8 +10,8 @@ use Rattle.workers.specs.System as system
 use Rattle.workers.specs.Lawful.{IsLawful, IsRefused, IsNext, AllEnded, next_lawful}
 use Rattle.workers.proofs.Reached.{reached_next, reached_none}
 use Rattle.workers.proofs.RunBrings.{refused_below}
-use Rattle.workers_in_turn.specs.IsSerial.{IsReadyToCollect}
-use Rattle.workers_in_turn.proofs.Starts.{targets_live}
+use Rattle.scavenge.specs.ReadyToCollect.{IsReadyToCollect}
+use Rattle.scavenge.proofs.Starts.{targets_live}
 use Rattle.workers_in_turn.specs.declared.event.Event.{Event}
 use Rattle.workers_in_turn.specs.Events.{event_of}
 use Rattle.workers_in_turn.specs.InterleavedValue.{InterleavedValue, Goes, Stays, system_of, destinations_in, targets_in}

@@ -6,7 +6,7 @@ use Rattle.steps.specs.HeapValue.{HeapValue}
 use Rattle.steps.specs.CollectionValue.{CollectionValue}
 use Rattle.heap.proofs.SoundHeap.{heap_empty}
 use Rattle.workers_in_turn.specs.InterleavedValue.{InterleavedValue, setting_in, destinations_in, targets_in, system_of}
-use Rattle.collector.proofs.SettleBrings.{stands_has}
+use Rattle.settling.proofs.Blocks.{stands_has}
 use Rattle.workers.specs.Scans.{ScansInBlocks}
 use Rattle.workers.specs.Taken.{AreTakenInOrder}
 use Rattle.workers.proofs.Scans.{scans_in_order}

@@ -11,7 +11,7 @@ use Rattle.workers.specs.Lawful.{IsLawful, IsRefused, next_lawful}
 use Rattle.workers.specs.Finish.{Stepped}
 use Rattle.machine.specs.declared.step_error.StepError.{StepError}
 use Rattle.machine.specs.declared.step_error.StepError.TheVariants.{NotLawful, HeapFull}
-use Rattle.machine.specs.Collects.{opening_at}
+use Rattle.settling.specs.Collects.{opening_at}
 use Rattle.machine.specs.MachineValue.{MachineValue, setting_in}
 
 -- n workers before the first event of a collection of the generations 0 to g

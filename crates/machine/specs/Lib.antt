@@ -1,9 +1,5 @@
 -- A machine of several workers, event by event.
 
--- How a collection by several workers ends.
-pub use Rattle.collector.specs.Collects
-pub use Rattle.collector.specs.Together
-pub mod Telling
 pub use Rattle.layout.specs.declared.place.Place
 pub use Rattle.block_pool.specs.BlockValue
 pub use Rattle.steps.specs.HeapValue

@@ -10,8 +10,8 @@ use Rattle.workers.specs.Setting.{Setting}
 use Rattle.workers.specs.Worker.{Worker}
 use Rattle.workers.specs.System.{System}
 use Rattle.workers.specs.Finish.{IsReached}
-use Rattle.workers_in_turn.specs.SerialCode.{copies_code, worker_code}
-use Rattle.workers_in_turn.specs.IsSerial.{IsReadyToCollect}
+use Rattle.scavenge.specs.Codes.{copies_code, worker_code}
+use Rattle.scavenge.specs.ReadyToCollect.{IsReadyToCollect}
 use Rattle.workers_in_turn.specs.InterleavedValue.{InterleavedValue, setting_for}
 use Rattle.workers_in_turn.specs.InterleavedValue as interleaved
 

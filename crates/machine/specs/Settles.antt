@@ -6,8 +6,8 @@ use Rattle.steps.specs.CollectionValue.{CollectionValue}
 use Rattle.steps.specs.ReportValue.{WorkerLists, all_won}
 use Rattle.steps.specs.SettledValue.{IsSettled}
 use Rattle.steps.specs.declared.heap_values.report.Delivery.{Delivery}
-use Rattle.machine.specs.Collects.{ScansOnce}
-use Rattle.machine.specs.Together.{Reports}
+use Rattle.settling.specs.Collects.{ScansOnce}
+use Rattle.settling.specs.Together.{Reports}
 use Rattle.workers.specs.Scans.{ScansInBlocks}
 use Rattle.workers.specs.Taken.{AreTakenInOrder}
 use Rattle.machine.specs.MachineValue.{MachineValue}

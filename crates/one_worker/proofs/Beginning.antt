@@ -19,8 +19,10 @@ use Rattle.workers.specs.Worker.{Worker}
 use Rattle.workers.specs.WorkerRun.{WorkerRun, stay, no_history}
 use Rattle.scavenge.specs.Named.{named}
 use Rattle.scavenge.specs.Slots.{cell_of}
-use Rattle.one_worker.specs.SerialValue.{SerialValue, lane_of, waiting_in, positions_below, left_of, system_of, setting_in, targets_in, destinations_in}
-use Rattle.one_worker.specs.IsSerial.{IsSerial, IsReadyToCollect}
+use Rattle.one_worker.specs.SerialValue.{SerialValue, lane_of, positions_below, system_of, setting_in, targets_in, destinations_in}
+use Rattle.scavenge.specs.Waiting.{waiting_in, left_of}
+use Rattle.one_worker.specs.IsSerial.{IsSerial}
+use Rattle.scavenge.specs.ReadyToCollect.{IsReadyToCollect}
 
 none_held : (count number : ℕ) → place_held (replicate count None) number ≡ None
 none_held zero number = refl

@@ -22,7 +22,7 @@ use Rattle.workers.proofs.Reached.{reached_falls, young_covers}
 use Rattle.scavenge.specs.Evacuates.{WantsMore}
 use Rattle.scavenge.specs.Shown.{has_another}
 use Rattle.one_worker.specs.SerialValue.{SerialValue, Goes, Stays, IsLeft, LooksThenRaces, WantsDraw, system_of, setting_in, targets_in, destinations_in}
-use Rattle.one_worker.specs.IsSerial.{IsReadyToCollect}
+use Rattle.scavenge.specs.ReadyToCollect.{IsReadyToCollect}
 use Rattle.one_worker.proofs.Readiness.{room_of}
 use Rattle.one_worker.proofs.Order.{next_look, next_race, next_scan}
 use Rattle.one_worker.specs.Stepping.{IsOf, GoesOn, IsDone, HasStepped, IsLeftToStep, ScansNext, left_to_do}

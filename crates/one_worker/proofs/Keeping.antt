@@ -1,12 +1,9 @@
 -- What holds of a collection by one worker lasts where the worker's own part alone changes.
-use Rattle.std.proofs.Common.{◌≡◌, ℕ, Bool, true, false, cond, List, [], ◌∷◌, ◌++◌, Option, Some, None, Result, Ok, Err, refl, sym, ap, subst, ◌∙◌}
+use Rattle.std.proofs.Common.{◌≡◌, Bool, true, false, Result, Ok, Err, refl, sym, ap, subst, ◌∙◌}
 use Rattle.std.specs.Prelude.{OnOk, OnErr}
-use Rattle.std.specs.Option.{option_and_then}
 use Rattle.std.specs.Ordering.{nat_cmp}
 use Rattle.std.specs.FinMap.{find}
-use Rattle.workers.specs.Block.{Block, has_unscanned, with_front_moved}
-use Rattle.workers.specs.Worker.{Worker, Hand, Nothing, Open, Holding, HoldingLarge, allocation_at, current_object}
-use Rattle.workers.specs.WorkerSteps.{after_own_large, claim_first, after_scan, log_scan, scan_hand, scan_open}
+use Rattle.workers.specs.Worker.{Worker}
 use Rattle.workers.specs.WorkerRun.{WorkerRun, History, Act, after, CanAct, noted, go}
 use Rattle.workers.specs.System.{opening_worker}
 use Rattle.workers.specs.Joined.{Each}
@@ -43,35 +40,6 @@ acted_alone v act new k can is won handed =
       queue = record { key = k.queue.key; lanes = k.queue.lanes; seat = k.queue.seat; taken = k.queue.taken; labels = k.queue.labels; noted = k.queue.noted };
       worked = worked_on v act (after (setting_in v) v.workspace.worker act) k.worked can refl handed;
     })
-
--- what was won is so still
-pub large_won : (w : Worker) → (after_own_large w).won ≡ w.won
-large_won w = go w.large
-  where
-    go : (names : List ℕ) → (claim_first w names).won ≡ w.won
-    go [] = refl
-    go (name ∷ names) = refl
-
-pub scan_won : (w : Worker) → (after_scan w).won ≡ w.won
-scan_won w = hand (log_scan w (current_object w)) w.hand ∙ log (current_object w)
-  where
-    log : (o : Option (ℕ × ℕ)) → (log_scan w o).won ≡ w.won
-    log None = refl
-    log (Some c) = refl
-
-    more : (x : Worker) (block : Block) (b : Bool) → (cond b (record x { hand = Holding block }) (record x { hand = Nothing; done = x.done ++ block ∷ [] })).won ≡ x.won
-    more x block true = refl
-    more x block false = refl
-
-    opened : (x : Worker) (d : ℕ) (o : Option Block) → (scan_open x d o).won ≡ x.won
-    opened x d None = refl
-    opened x d (Some block) = refl
-
-    hand : (x : Worker) (h : Hand) → (scan_hand x h).won ≡ x.won
-    hand x Nothing = refl
-    hand x (Open d) = opened x d (option_and_then (λ b. Some (with_front_moved b)) (allocation_at x d))
-    hand x (Holding block) = more x (with_front_moved block) (has_unscanned (with_front_moved block))
-    hand x (HoldingLarge name) = refl
 
 -- the call succeeded, or changed nothing
 pub either : {X E : Type 0} (v : SerialValue) (r : Result X E) (new next : WorkspaceValue) → IsSerial v → OnOk r (new ≡ next) → OnErr r (new ≡ v.workspace) → (new ≡ next → IsSerial (record v { workspace = new })) → IsSerial (record v { workspace = new })

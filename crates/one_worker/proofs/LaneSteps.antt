@@ -25,11 +25,12 @@ use Rattle.workers.proofs.ReadyRuns.{exports_handed}
 use Rattle.workers.proofs.ReadyLemmas.{handed_alike, handed_labelled}
 use Rattle.scavenge.specs.Named.{named, IsWhole}
 use Rattle.scavenge.specs.Shown.{WorkspaceValue, Begins}
-use Rattle.one_worker.specs.SerialValue.{SerialValue, lane_of, waiting_in, positions_below, system_of, setting_in, targets_in, destinations_in, Goes}
+use Rattle.one_worker.specs.SerialValue.{SerialValue, lane_of, positions_below, system_of, setting_in, targets_in, destinations_in, Goes}
+use Rattle.scavenge.specs.Waiting.{waiting_in}
 use Rattle.one_worker.specs.IsSerial.{IsSerial}
 use Rattle.one_worker.proofs.Keeping.{worked_on}
 use Rattle.one_worker.proofs.Readiness.{start_roomy}
-use Rattle.one_worker.proofs.Starts.{targets_live}
+use Rattle.scavenge.proofs.Starts.{targets_live}
 
 length-map : {A B : Type 0} (f : A → B) (xs : List A) → length (map f xs) ≡ length xs
 length-map f [] = refl
@@ -206,18 +207,6 @@ put_back v new queues seat k n q s =
       queue = record { key = k.queue.key; lanes = k.queue.lanes; seat = k.queue.seat; taken = k.queue.taken; labels = k.queue.labels; noted = k.queue.noted };
       worked = record { history = k.worked.history; run = k.worked.run; taken = k.worked.taken };
     })))
-
--- the block that was handed out is in front again
-pub same_aside : (w : Worker) (shape : Shape) (b : BlockValue) → Begins shape w.aside b → (let x : Worker = record (after_aside w) { aside = named shape b ∷ (after_aside w).aside } in x) ≡ w
-same_aside w shape b first = ap (λ bs. (let x : Worker = record (without_oldest w bs) { aside = named shape b ∷ (without_oldest w bs).aside } in x)) first.is ∙ ap (λ bs. (let x : Worker = record w { aside = bs } in x)) (sym first.is)
-
-pub back_again : (w : WorkspaceValue) (b b' : BlockValue) (mid new : WorkspaceValue) → Begins w.config.shape w.worker.aside b → mid ≡ record w { worker = after_aside w.worker; spare = true } → b' ≡ b
-    → new ≡ record mid { worker = record mid.worker { aside = named mid.config.shape b' ∷ mid.worker.aside }; spare = false } → new ≡ record w { spare = false }
-back_again w b b' mid new first m be n =
-    n
-    ∙ ap (λ (x : WorkspaceValue). (let y : WorkspaceValue = record x { worker = record x.worker { aside = named x.config.shape b' ∷ x.worker.aside }; spare = false } in y)) m
-    ∙ ap (λ x. (let y : WorkspaceValue = record w { worker = record (after_aside w.worker) { aside = named w.config.shape x ∷ (after_aside w.worker).aside }; spare = false } in y)) be
-    ∙ ap (λ x. (let y : WorkspaceValue = record w { worker = x; spare = false } in y)) (same_aside w.worker w.config.shape b first)
 
 -- the block at the front is taken in hand
 module _ (v : SerialValue) (b : BlockValue) (new : WorkspaceValue) (queues : PlainQueuesValue CopiesKeyValue) (seat : ℕ) (k : IsSerial v)

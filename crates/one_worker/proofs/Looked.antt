@@ -22,11 +22,13 @@ use Rattle.workers.specs.System.{System, Look, without_number}
 use Rattle.workers.specs.System as system
 use Rattle.scavenge.specs.Shown.{WorkspaceValue}
 use Rattle.scavenge.specs.Slots.{seen, IsUntouched, HasRoomFor, cell_of, IsTold, Looks, WantsBlock, seat_after}
-use Rattle.one_worker.specs.SerialValue.{SerialValue, Goes, WantsDraw, system_of, setting_in, left_of}
+use Rattle.one_worker.specs.SerialValue.{SerialValue, Goes, WantsDraw, system_of, setting_in}
+use Rattle.scavenge.specs.Waiting.{left_of}
 use Rattle.one_worker.specs.IsSerial.{IsSerial}
-use Rattle.one_worker.proofs.Drawn.{left_contains, left_push}
+use Rattle.scavenge.proofs.Drawn.{left_contains, left_push}
 use Rattle.one_worker.proofs.Readiness.{ready_of}
-use Rattle.one_worker.proofs.Raced.{turned, acted, finish_won}
+use Rattle.one_worker.proofs.Raced.{turned, acted}
+use Rattle.scavenge.proofs.Unchanged.{finish_won}
 
 -- what a look relies on, of the heap and the collection that are passed
 module _ (v : SerialValue) (k : IsSerial v) (heap : HeapValue) (c : CollectionValue) (same_heap : heap ≡ v.heap) (same_collection : c ≡ v.collection) where

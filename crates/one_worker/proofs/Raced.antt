@@ -1,5 +1,5 @@
 -- A race of the worker, as its cells end it, is a race of the system.
-use Rattle.std.proofs.Common.{◌≡◌, ◌≢◌, ℕ, ◌<◌, ◌≤◌, cond, List, [], ◌∷◌, ◌++◌, Option, Some, None, Result, Ok, Err, refl, sym, ap, subst, ◌∙◌, ⊎_elim, length, arith, is_some, true≢false, eq-eqb, ne_eqb}
+use Rattle.std.proofs.Common.{◌≡◌, ◌≢◌, ℕ, ◌<◌, ◌≤◌, cond, List, [], ◌∷◌, ◌++◌, Option, Some, None, Result, Ok, Err, refl, sym, ap, subst, ◌∙◌, ⊎_elim, length, arith, is_some, eq-eqb, ne_eqb}
 use Rattle.std.proofs.lemmas.Bool.{cases_eq, cond-true, cond-false}
 use Rattle.std.specs.Prelude.{IsSome, OnOk, OnErr, slice_index, if◌then◌else◌}
 use Rattle.std.specs.Option.{option_map_or}
@@ -20,8 +20,8 @@ use Rattle.forwarding.specs.Plain.{PlainValue as PlainCellsValue}
 use Rattle.steps.specs.HeapValue.{HeapValue}
 use Rattle.steps.specs.CollectionValue.{CollectionValue, young_names}
 use Rattle.workers.specs.Setting.{is_large_name, old_pointers}
-use Rattle.workers.specs.Worker.{Worker, Proposal, Copied, Claimed, Hand, Nothing, Open, Holding, HoldingLarge}
-use Rattle.workers.specs.WorkerSteps.{write_hand, finish_first, finish_slot, race_of, after_race}
+use Rattle.workers.specs.Worker.{Worker, Proposal, Copied, Claimed}
+use Rattle.workers.specs.WorkerSteps.{race_of, after_race}
 use Rattle.workers.specs.WorkerRun.{Act, Raced, after, CanAct, History, noted, proposed_name, proposed_place}
 use Rattle.workers.specs.System.{System, Race, opening_worker}
 use Rattle.workers.proofs.Acts.{ProposalFit}
@@ -38,10 +38,6 @@ use Rattle.one_worker.specs.SerialValue.{SerialValue, Goes, system_of, setting_i
 use Rattle.one_worker.specs.IsSerial.{IsSerial, AreForwarded}
 use Rattle.one_worker.proofs.Keeping.{AreTaken, worked_on}
 use Rattle.one_worker.proofs.Readiness.{start_roomy, ready_of}
-
-pub some_there : {A : Type 0} (o : Option A) → IsSome o → (x : A) × (o ≡ Some x)
-some_there None e = absurd (true≢false (sym e))
-some_there (Some x) e = (x, refl)
 
 -- what every worker of a run has
 pub sound_of : (v : SerialValue) → IsSerial v → Sound (setting_in v) v.workspace.worker
@@ -94,19 +90,6 @@ find_other (x ∷ es) n place q ne =
     (λ (e : q ≡ x.0). (let t = unsigned_tied q x.0 ∙ eq-eqb q x.0 e in cond-true _ _ _ t ∙ sym (cond-true _ _ _ t)))
     (λ (m : q ≢ x.0). (let t = unsigned_tied q x.0 ∙ ne_eqb q x.0 m in cond-false _ _ _ t ∙ find_other es n place q ne ∙ sym (cond-false _ _ _ t)))
     (cases_eq q x.0)
-
-pub finish_won : (value : Option ℕ) (w : Worker) → (finish_slot value w).won ≡ w.won
-finish_won value w = first w.starts
-  where
-    hand : (h : Hand) → (write_hand value w h).won ≡ w.won
-    hand Nothing = refl
-    hand (Open d) = refl
-    hand (Holding block) = refl
-    hand (HoldingLarge name) = refl
-
-    first : (targets : List ℕ) → (finish_first value w targets).won ≡ w.won
-    first [] = hand w.hand
-    first (target ∷ targets) = refl
 
 -- what is won after a race
 abbrev won_by : List (ℕ × ℕ) → Proposal → Option ℕ → List (ℕ × ℕ)

@@ -6,10 +6,6 @@ use Rattle.layout.specs.Place.{IsLargeAt}
 use Rattle.block_pool.specs.BlockValue.{BlockValue}
 use Rattle.block_pool.specs.ClaimsValue.{IsSeatOf}
 use Rattle.forwarding.specs.Plain.{IsFit, place_held}
-use Rattle.steps.specs.ConfigRange.{IsInRange}
-use Rattle.steps.specs.HeapValue.{HeapValue}
-use Rattle.steps.specs.CollectionValue.{CollectionValue, IsOpened}
-use Rattle.heap.specs.IsHeap.{IsHeap}
 use Rattle.workers.specs.System.{opening_worker}
 use Rattle.workers.specs.WorkerRun.{WorkerRun, History}
 use Rattle.workers.specs.Joined.{Each}
@@ -17,12 +13,6 @@ use Rattle.workers.specs.Ready.{IsHanded}
 use Rattle.scavenge.specs.Slots.{cell_of}
 use Rattle.scavenge.specs.Told.{IsNumberOf}
 use Rattle.one_worker.specs.SerialValue.{SerialValue, lane_of, setting_in, targets_in, destinations_in}
-
--- a collection that was opened on the heap as it is, and what holds of the heap
-pub record IsReadyToCollect (heap : HeapValue) (c : CollectionValue) : Type 0 where
-  pub opened : IsOpened heap c.generation c
-  pub sound : IsHeap heap
-  pub range : IsInRange heap.config
 
 -- the cells hold what was won: that of a large object the worker's claim, any other the place of the copy
 pub record AreForwarded (v : SerialValue) : Type 0 where

@@ -1,8 +1,7 @@
 -- A collection by one worker, as its calls see it, and as a system of workers.
-use Rattle.std.specs.Prelude.{◌≡◌, ℕ, zero, suc, true, false, List, [], ◌∷◌, ◌++◌, map, length, drop, IsSome, refl, ◌≢◌, ◌⊎◌, Some, None}
+use Rattle.std.specs.Prelude.{◌≡◌, ℕ, zero, suc, true, false, List, [], ◌∷◌, ◌++◌, map, length, IsSome, refl, ◌≢◌, ◌⊎◌, Some, None}
 use Rattle.std.specs.Coded.{Coded, code_by, coded×, coded_ℕ}
 use Rattle.model.specs.Destination.{dest_count}
-use Rattle.block_pool.specs.BlockValue.{BlockValue}
 use Rattle.block_pool.specs.ClaimsValue.{ClaimsValue, SeatValue, claims_code, seat_code}
 use Rattle.steps.specs.HeapValue.{HeapValue, heap_code}
 use Rattle.steps.specs.CollectionValue.{CollectionValue, target_of_slot}
@@ -13,13 +12,14 @@ use Rattle.pending_queues.specs.PlainValue.{PlainLane, lane_at}
 use Rattle.pending_queues.specs.PlainValue.{PlainValue as PlainQueuesValue}
 use Rattle.scavenge.specs.Handed.{CopiesKeyValue}
 use Rattle.workers.specs.Setting.{Setting, setting_of}
-use Rattle.workers.specs.System.{System, Event, Look, Race, cell_of, without_number}
+use Rattle.workers.specs.System.{System, Event, Look, Race, cell_of}
 use Rattle.workers.specs.WorkerSteps.{current_slot, cell_wanted, draw_wanted}
 use Rattle.workers.specs.Steps.{Step}
 use Rattle.scavenge.specs.Named.{named}
 use Rattle.scavenge.specs.Shown.{WorkspaceValue}
 use Rattle.scavenge.specs.Evacuates.{WantsMore}
-use Rattle.one_worker.specs.SerialCode.{cells_code, pass_code, queues_code, workspace_code}
+use Rattle.scavenge.specs.Codes.{cells_code, pass_code, queues_code, workspace_code}
+use Rattle.scavenge.specs.Waiting.{waiting_in, left_of}
 
 -- the heap and the collection of it; the cells, and what the worker knows of them; what it draws blocks from, and what it drew; its queue; its own part
 pub record SerialValue : Type 0 where
@@ -46,19 +46,10 @@ serial_code =
 abbrev pub lane_of : SerialValue → PlainLane
 lane_of v = lane_at v.queues 0
 
--- the blocks that nobody took yet
-abbrev pub waiting_in : PlainLane → List BlockValue
-waiting_in lane = drop (length lane.takers) lane.sent
-
 -- the first positions of the worker's own exports
 abbrev pub positions_below : ℕ → List (ℕ × ℕ)
 positions_below zero = []
 positions_below (suc n) = positions_below n ++ (0, n) ∷ []
-
--- what is left of the free blocks when these were drawn
-abbrev pub left_of : List ℕ → List ℕ → List ℕ
-left_of free [] = free
-left_of free (number ∷ numbers) = left_of (without_number number free) numbers
 
 -- the system whose only worker is this one
 abbrev pub system_of : SerialValue → System

@@ -9,7 +9,8 @@ use Rattle.workers.specs.Lawful.{next_alone}
 use Rattle.workers.specs.Finish.{Stepped}
 use Rattle.workers.specs.Measure.{measure, young_names_of}
 use Rattle.scavenge.specs.Shown.{has_another}
-use Rattle.one_worker.specs.SerialValue.{SerialValue, Goes, IsLeft, WantsDraw, lane_of, waiting_in, setting_in, system_of, targets_in, destinations_in}
+use Rattle.one_worker.specs.SerialValue.{SerialValue, Goes, IsLeft, WantsDraw, lane_of, setting_in, system_of, targets_in, destinations_in}
+use Rattle.scavenge.specs.Waiting.{waiting_in}
 
 -- the collection is one of this heap
 pub record IsOf (heap : HeapValue) (c : CollectionValue) (v : SerialValue) : Type 0 where

@@ -9,10 +9,8 @@ mod racing;
 mod readers;
 mod serial;
 mod serial_steps;
-mod settling;
 mod taking;
 
 pub use parts::SerialParts;
 pub use serial::SerialCollection;
 pub use serial_steps::run_to_end;
-pub use settling::parts_settle;

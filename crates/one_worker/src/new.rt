@@ -2,7 +2,7 @@
 ghost use Rattle.std.specs.Prelude.{◌≡◌, IfOk};
 ghost use Rattle.workers.specs.System.{opening};
 ghost use Rattle.one_worker.specs.SerialValue.{system_of, destinations_in, targets_in};
-ghost use Rattle.one_worker.specs.IsSerial.{IsReadyToCollect};
+ghost use Rattle.scavenge.specs.ReadyToCollect.{IsReadyToCollect};
 
 use crate::serial::SerialCollection;
 use block_pool::Claims;

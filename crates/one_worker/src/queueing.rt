@@ -2,7 +2,8 @@
 ghost use Rattle.std.specs.Prelude.{◌≡◌, ◌≢◌, ◌↔◌, [], IsTrue, OnOk, OnErr};
 ghost use Rattle.workers.specs.WorkerSteps.{IsFree};
 ghost use Rattle.workers.specs.System.{Export, Take};
-ghost use Rattle.one_worker.specs.SerialValue.{Goes, Stays, lane_of, waiting_in};
+ghost use Rattle.one_worker.specs.SerialValue.{Goes, Stays, lane_of};
+ghost use Rattle.scavenge.specs.Waiting.{waiting_in};
 
 use crate::serial::SerialCollection;
 use std::alloc::{AllocError, Allocator};

@@ -1,5 +1,13 @@
 -- Lemmas of the steps of one worker.
 
+-- What a worker may rely on: where it begins, its destinations, the blocks that it has open, what it won.
+pub mod Starts
+pub mod Destinations
+pub mod OpenBlocks
+pub mod Unchanged
+pub mod Drawn
+pub mod AllDrawn
+pub mod PutBack
 -- Lemmas on the blocks and slots of a worker.
 pub mod Fields
 mod Winning

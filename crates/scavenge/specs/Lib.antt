@@ -8,5 +8,9 @@ pub mod Shown
 -- What queues hand over in a collection.
 pub mod Handed
 pub mod Told
+-- When a collection may begin, and the parts of a worker as data.
+pub mod ReadyToCollect
+pub mod Codes
+pub mod Waiting
 pub mod Slots
 pub mod Evacuates

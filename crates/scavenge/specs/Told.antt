@@ -16,6 +16,10 @@ pub record IsNumberOf (heap : HeapValue) (c : CollectionValue) (name number : �
   pub in_range : number < c.cells
   pub is : slice_index (young_names heap.graph c.generation) number ≡ name
 
+-- what was known is known still
+abbrev pub StillKnows : (ℕ → Option Place) → (ℕ → Option Place) → Type 0
+StillKnows old new = (number : ℕ) (place : Place) → old number ≡ Some place → new number ≡ Some place
+
 -- a look told the pass this of the name, and the cells give it so
 pub record Tells (heap : HeapValue) (c : CollectionValue) (gives : ℕ → Option Place → Type 0) (old new : ℕ → Option Place) (name : ℕ) (shown : Option Place) : Type 0 where
   pub number : ℕ

@@ -7,6 +7,7 @@ ghost use Rattle.heap.specs.NamesArePlaces.{NamesArePlaces};
 ghost use Rattle.workers.specs.WorkerSteps.{current_slot};
 ghost use Rattle.scavenge.specs.Shown.{CanFinish};
 ghost use Rattle.scavenge.specs.Slots.{seen, IsUntouched, Looks};
+ghost use Rattle.scavenge.specs.Told.{StillKnows};
 ghost use Rattle.scavenge.specs.Evacuates.{IsLeft, LooksAndRaces};
 ghost use Rattle.scavenge.specs.declared.evacuating.Evacuated.TheVariants.{Left, NoSlot, Looked, Raced};
 
@@ -61,6 +62,7 @@ pub fn evacuate<A: Allocator + Clone, C: Cells>(
     ensures limit { C.limit cells.new ≡ C.limit cells.old }
     ensures cells { result ≢ Raced → cells.new ≡ cells.old }
     ensures won { result ≢ Raced → C.won pass.new ≡ C.won pass.old }
+    ensures lasts { result ≢ Raced → StillKnows (C.known pass.old) (C.known pass.new) }
     ensures left { result ≡ Left → workspace.new ≡ workspace.old }
     ensures left_why { result ≡ Left → IsLeft heap.now collection.now (C.look_gives cells.old) workspace.old.worker }
     ensures none { result ≡ NoSlot → workspace.new ≡ workspace.old }

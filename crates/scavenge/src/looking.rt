@@ -13,6 +13,7 @@ ghost use Rattle.heap.specs.Words.{IsShownAs};
 ghost use Rattle.workers.specs.Setting.{is_large_name};
 ghost use Rattle.workers.specs.WorkerSteps.{current_slot};
 ghost use Rattle.scavenge.specs.Shown.{CanFinish};
+ghost use Rattle.scavenge.specs.Told.{StillKnows};
 ghost use Rattle.scavenge.specs.Slots.{seen, objects_of, IsUntouched, HasRoomFor, Looks, WantsBlock};
 
 use crate::proposing::propose;
@@ -115,6 +116,7 @@ pub fn look<A: Allocator + Clone, C: Cells>(
     ensures apart { (other : C.Pass) → C.apart pass.old other → C.apart pass.new other }
     ensures apart_back { (other : C.Pass) → C.apart other pass.old → C.apart other pass.new }
     ensures won { C.won pass.new ≡ C.won pass.old }
+    ensures lasts { StillKnows (C.known pass.old) (C.known pass.new) }
     ensures seat { IsSeatOf claims.now.source seat.new }
     ensures fresh { (n : ℕ) → seat.new.drawn ≡ seat.old.drawn ++ n ∷ [] → Contains claims.now.source.free n × ¬ Contains seat.old.drawn n }
     ensures none { (result ≡ Ok false) ↔ (current_slot (seen heap.now collection.now) workspace.old.worker ≡ None) }

@@ -14,7 +14,7 @@ fn two_passes(alloc: Global, count: u32) -> Result<(BoxCells, BoxPass, BoxPass),
     ensures passes { IfOk result (λ r. IsPassOf r.0 r.1 × IsPassOf r.0 r.2) }
     ensures apart { IfOk result (λ r. IsApart r.1 r.2) }
 {
-    let (cells, mut passes) = BoxCells::new(alloc, count, 2)?;
+    let (cells, mut passes) = BoxCells::new(alloc, alloc, count, 2)?;
     let (Some(one), Some(zero)) = (passes.pop(), passes.pop()) else {
         return Err(Fail::from("two passes were asked for"));
     };

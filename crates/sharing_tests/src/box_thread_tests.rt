@@ -107,7 +107,7 @@ fn four_passes(alloc: Global) -> Result<(BoxCells, (BoxPass, BoxPass, BoxPass, B
     ensures passes { IfOk result (λ r. IsPassOf r.0 r.1.0 × IsPassOf r.0 r.1.1 × IsPassOf r.0 r.1.2 × IsPassOf r.0 r.1.3) }
     ensures numbers { IfOk result (λ r. (r.1.0.number ≡ 0) × (r.1.1.number ≡ 1) × (r.1.2.number ≡ 2) × (r.1.3.number ≡ 3)) }
 {
-    let (cells, mut passes) = BoxCells::new(alloc, 1000, 4)?;
+    let (cells, mut passes) = BoxCells::new(alloc, alloc, 1000, 4)?;
     let (Some(fourth), Some(third)) = (passes.pop(), passes.pop()) else {
         return Err(Fail::from("four passes were asked for"));
     };

@@ -14,8 +14,8 @@ use Rattle.steps.specs.CollectedHeap.{CollectedHeap}
 use Rattle.steps.specs.ReportValue.{WorkerLists, all_won, renaming_of}
 use Rattle.steps.specs.declared.heap_values.report.Delivery.{Delivery}
 use Rattle.workers.proofs.OneMore.{stepped_run}
-use Rattle.trace_replay.specs.Collects.{Collects, setting_at}
-use Rattle.trace_replay.specs.Together.{CollectsTogether}
+use Rattle.settling.specs.Collects.{Collects, setting_at}
+use Rattle.settling.specs.Together.{CollectsTogether}
 use Rattle.heap_text.specs.ReportText.{workers_text}
 use Rattle.trace_session.specs.Stepped.{Writes}
 use Rattle.trace_session.specs.Made as made_by

@@ -21,8 +21,8 @@ use Rattle.workers.specs.Setting.{Setting}
 use Rattle.workers.specs.System.{System, Event as Happens}
 use Rattle.workers.specs.Steps as steps
 use Rattle.workers.proofs.OneMore.{stepped_run}
-use Rattle.trace_replay.specs.Collects.{Collects, setting_at, opening_at}
-use Rattle.trace_replay.specs.Together.{CollectsTogether}
+use Rattle.settling.specs.Collects.{Collects, setting_at, opening_at}
+use Rattle.settling.specs.Together.{CollectsTogether}
 use Rattle.trace_replay.specs.Events.{IsShortOfBlocks}
 use Rattle.heap_text.specs.ReportText.{report_text}
 use Rattle.heap_text.specs.declared.cause.Cause.TheVariants.{Command}

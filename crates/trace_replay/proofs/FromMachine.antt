@@ -12,8 +12,8 @@ use Rattle.workers.specs.Setting.{Setting, setting_of}
 use Rattle.workers.specs.System.{System}
 use Rattle.workers.specs.Lawful.{AllEnded}
 use Rattle.machine.specs.InterleavedValue.{setting_for}
-use Rattle.machine.specs.Collects.{ScansOnce, setting_at, opening_at}
-use Rattle.machine.specs.Together.{Reports}
+use Rattle.settling.specs.Collects.{ScansOnce, setting_at, opening_at}
+use Rattle.settling.specs.Together.{Reports}
 use Rattle.trace_text.specs.declared.schedule.ScheduleKind.TheVariants.{NotEnded}
 use Rattle.trace_text.specs.declared.schedule.ScheduleLine.TheVariants.{Commit}
 use Rattle.trace_session.specs.declared.trace_lines.fault.Fault.{Fault}

@@ -8,8 +8,8 @@ use Rattle.steps.specs.ReportValue.{WorkerLists, all_won}
 use Rattle.steps.specs.SettledValue.{IsSettled}
 use Rattle.steps.specs.declared.heap_values.report.Delivery.{Delivery}
 use Rattle.workers.specs.System.{System}
-use Rattle.machine.specs.Collects.{ScansOnce, setting_at, opening_at}
-use Rattle.machine.specs.Together.{Reports}
+use Rattle.settling.specs.Collects.{ScansOnce, setting_at, opening_at}
+use Rattle.settling.specs.Together.{Reports}
 use Rattle.trace_replay.specs.Runs.{Finishes, IsSchedule}
 
 -- of a collection of the generations 0 to g, by workers that stand so at its end: it may be committed, and the lists and deliveries are theirs

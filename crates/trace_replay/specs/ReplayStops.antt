@@ -5,7 +5,7 @@ use Rattle.model.specs.Config.{Config}
 use Rattle.model.specs.Store.{empty_store}
 use Rattle.model.specs.Commands.{Collect}
 use Rattle.model.specs.declared.kind.Kind.{Kind}
-use Rattle.trace_replay.specs.Collects.{setting_at, opening_at}
+use Rattle.settling.specs.Collects.{setting_at, opening_at}
 use Rattle.trace_replay.specs.Events.{IsShortOfBlocks}
 use Rattle.trace_text.specs.Grammar.{entry_of}
 use Rattle.trace_text.specs.declared.schedule.ScheduleKind.{ScheduleKind}

@@ -9,8 +9,8 @@ use Rattle.steps.specs.HeapValue.{HeapValue}
 use Rattle.steps.specs.ReportValue.{WorkerLists}
 use Rattle.steps.specs.declared.heap_values.report.Delivery.{Delivery}
 use Rattle.workers.specs.System.{System}
-use Rattle.trace_replay.specs.Collects.{Collects, setting_at, opening_at}
-use Rattle.trace_replay.specs.Together.{Reports}
+use Rattle.settling.specs.Collects.{Collects, setting_at, opening_at}
+use Rattle.settling.specs.Together.{Reports}
 use Rattle.heap_text.specs.ReportText.{workers_text}
 use Rattle.trace_text.specs.Grammar.{entry_of}
 use Rattle.trace_text.specs.ScheduleGrammar.{schedule_line_of}

@@ -13,7 +13,7 @@ use Rattle.heap.specs.HeapValue.{HeapValue}
 use Rattle.heap.specs.Commands.{heap_census}
 use Rattle.heap.specs.ReportValue.{WorkerLists}
 use Rattle.steps.specs.declared.heap_values.report.Delivery.{Delivery}
-use Rattle.collector.specs.Collects.{CollectsAlone, IsShortOfBlocks}
+use Rattle.settling.specs.Collects.{CollectsAlone, IsShortOfBlocks}
 use Rattle.trace_session.specs.CollectsFirst.{auto_line}
 use Rattle.trace_session.specs.Outcome.{command_step}
 use Rattle.trace_session.specs.Sound.{IsSoundCommand}

@@ -6,7 +6,7 @@ use Rattle.model.specs.Store.{Store, full_rooms, collected, kept_count, freed_co
 use Rattle.heap.specs.HeapValue.{HeapValue}
 use Rattle.heap.specs.CollectionValue.{young_names}
 use Rattle.heap.specs.ReportValue.{WorkerLists, all_won, renaming_of}
-use Rattle.collector.specs.Collects.{Collects}
+use Rattle.settling.specs.Collects.{Collects}
 use Rattle.trace_session.specs.Made.{MadeByCalls}
 use Rattle.trace_session.specs.Stands.{StandsFor}
 use Rattle.trace_session.proofs.PlacedCollected.{placed_collected, named_collected, place'}

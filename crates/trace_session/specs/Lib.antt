@@ -14,8 +14,6 @@ pub mod Attempts
 pub mod FaultText
 pub mod Reading
 -- What it means that a heap and its named roots stand for a store.
-pub use Rattle.collector.specs.Collects
-pub use Rattle.collector.specs.Together
 pub mod Made
 pub mod Stands
 pub mod Session

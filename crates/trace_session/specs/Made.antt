@@ -6,8 +6,8 @@ use Rattle.heap.specs.HeapValue.{HeapValue, empty_heap}
 use Rattle.heap.specs.Commands.{Allocates, AddsRoot, Changes, IsValue, Stores, pointer_of}
 use Rattle.heap.specs.ReportValue.{WorkerLists}
 use Rattle.steps.specs.declared.heap_values.report.Delivery.{Delivery}
-use Rattle.collector.specs.Collects.{CollectsAlone}
-use Rattle.collector.specs.Together.{CollectsTogether}
+use Rattle.settling.specs.Collects.{CollectsAlone}
+use Rattle.settling.specs.Together.{CollectsTogether}
 
 -- from a heap with no object on, one call after another, each collection by one worker or by several together
 pub data MadeByCalls : HeapValue → Type 0 where

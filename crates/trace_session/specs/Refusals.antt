@@ -6,7 +6,7 @@ use Rattle.model.specs.Store.{Store}
 use Rattle.model.specs.Commands.{Command, New, Collect, is_large_size}
 use Rattle.heap.specs.HeapValue.{HeapValue}
 use Rattle.heap.specs.Commands.{wanted_blocks}
-use Rattle.trace_session.specs.Collects.{IsShortOfBlocks}
+use Rattle.settling.specs.Collects.{IsShortOfBlocks}
 use Rattle.trace_text.specs.Grammar.{entry_of}
 use Rattle.trace_session.specs.Sound.{IsSoundTraceLine, IsSoundCommand}
 use Rattle.trace_session.specs.CollectsFirst.{CollectsFirst, LineCollectsFirst}

@@ -215,6 +215,11 @@ module _ (setting : Setting) (f : ℕ → Option ℕ) (parts : List Part) (j : J
           let r : Picked (λ (q : Part). times k q.history.drawn) (HasRun setting) parts = pick (λ (q : Part). times k q.history.drawn) (HasRun setting) parts j.runs (omega arith) in
           by_drawer r.i r.x r.there r.counts
 
+-- whatever parts joined workers brought, in each block that holds no large object the places were won by one worker, and scanned in order by it and at most one other
+pub parts_scan_in_block : (setting : Setting) (f : ℕ → Option ℕ) (parts : List Part) → Joined setting f parts → setting.block_words ≤ 65536 → AreFresh setting parts → ((t : ℕ) (p : Part) → slice_get parts t ≡ Some p → TurnRun setting t p) → 0 < length parts
+    → (k : ℕ) → ((n : ℕ) → is_large_name setting n ≡ true → in_block k n ≡ false) → ScansInBlock k (map (λ (p : Part). p.final) parts)
+parts_scan_in_block setting f parts j small_blocks fresh turns some k no_large = scans_in_block setting f parts j small_blocks fresh turns some k no_large
+
 -- the parts of a run, by runs in turn
 module _ (setting : Setting) (d n : ℕ) (slots free : List ℕ) where
   all_stay : (v t m : ℕ) → Each (λ (p : Part). TurnRun setting v p) (open_parts d n slots t m)

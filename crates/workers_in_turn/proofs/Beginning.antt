@@ -23,8 +23,8 @@ use Rattle.workers.specs.WorkerRun.{WorkerRun, stay, no_history}
 use Rattle.workers.specs.System.{System, opening, opening_worker, opening_workers}
 use Rattle.workers.proofs.Progress.{count-false}
 use Rattle.scavenge.specs.Slots.{cell_of, seen}
-use Rattle.one_worker.specs.SerialValue.{left_of}
-use Rattle.one_worker.specs.IsSerial.{IsReadyToCollect}
+use Rattle.scavenge.specs.Waiting.{left_of}
+use Rattle.scavenge.specs.ReadyToCollect.{IsReadyToCollect}
 use Rattle.workers_in_turn.specs.InterleavedValue.{InterleavedValue, MemberValue, queue_in, exports_in, forwarded_in, forwarded_at, worker_of, system_of, setting_for, targets_in, destinations_in}
 use Rattle.workers_in_turn.specs.IsInterleaved.{IsInterleaved, IsMember, IsFirst, AreFirst, IsLane, begins}
 use Rattle.workers_in_turn.proofs.Places.{length-map}

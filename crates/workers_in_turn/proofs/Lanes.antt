@@ -19,9 +19,9 @@ use Rattle.workers.proofs.ReadyRuns.{exports_handed}
 use Rattle.workers.proofs.ReadyLemmas.{handed_alike, handed_labelled}
 use Rattle.scavenge.specs.Named.{named, IsWhole}
 use Rattle.scavenge.specs.Shown.{Begins}
-use Rattle.one_worker.specs.SerialValue.{waiting_in}
-use Rattle.one_worker.specs.IsSerial.{IsReadyToCollect}
-use Rattle.one_worker.proofs.Starts.{targets_live}
+use Rattle.scavenge.specs.Waiting.{waiting_in}
+use Rattle.scavenge.specs.ReadyToCollect.{IsReadyToCollect}
+use Rattle.scavenge.proofs.Starts.{targets_live}
 use Rattle.workers_in_turn.specs.InterleavedValue.{MemberValue, queue_in, exports_in, setting_for}
 use Rattle.workers_in_turn.specs.IsInterleaved.{IsMember, IsLane, AreQueued, begins}
 use Rattle.workers_in_turn.proofs.Places.{get-there, get-within, set-each, length-set, length-map, index-or}

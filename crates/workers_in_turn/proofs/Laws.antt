@@ -14,7 +14,7 @@ use Rattle.steps.specs.HeapValue.{HeapValue}
 use Rattle.steps.specs.NamesArePlaces.{NamesArePlaces}
 use Rattle.heap.proofs.SoundHeap.{heap_closed, heap_places}
 use Rattle.scavenge.specs.Slots.{objects_of, IsUntouched}
-use Rattle.one_worker.proofs.OpenBlocks.{none_there, open_there}
+use Rattle.scavenge.proofs.OpenBlocks.{none_there, open_there}
 use Rattle.scavenge.specs.Named.{named}
 use Rattle.workers_in_turn.specs.InterleavedValue.{InterleavedValue, MemberValue, worker_of, queue_in, system_of, setting_in}
 use Rattle.workers_in_turn.specs.IsInterleaved.{IsInterleaved}

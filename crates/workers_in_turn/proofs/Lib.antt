@@ -1,5 +1,4 @@
 -- Lemmas of a collection by several workers.
-pub use Rattle.one_worker.proofs.Starts
 pub mod Places
 pub mod Members
 pub mod Alone

@@ -25,8 +25,8 @@ use Rattle.scavenge.specs.Shown.{WorkspaceValue}
 use Rattle.scavenge.specs.declared.looking.LookError.{LookError}
 use Rattle.scavenge.specs.declared.looking.LookError.TheVariants.{HeapFull, NoMemory}
 use Rattle.scavenge.specs.Slots.{seen, IsUntouched, HasRoomFor, cell_of, IsTold, Looks, WantsBlock, seat_after}
-use Rattle.one_worker.specs.SerialValue.{left_of}
-use Rattle.one_worker.proofs.Drawn.{left_contains, left_push}
+use Rattle.scavenge.specs.Waiting.{left_of}
+use Rattle.scavenge.proofs.Drawn.{left_contains, left_push}
 use Rattle.workers_in_turn.specs.InterleavedValue.{InterleavedValue, MemberValue, worker_of, Goes, Stays, WantsDraw, system_of, setting_in, forwarded_in, forwarded_at}
 use Rattle.workers_in_turn.specs.IsInterleaved.{IsInterleaved, AreForwarded, HasReached}
 use Rattle.workers_in_turn.proofs.Places.{get-map, set-again}

@@ -17,7 +17,7 @@ use Rattle.workers.specs.Lawful.{IsLawful, MayAct}
 use Rattle.workers.specs.Joined.{Each}
 use Rattle.workers.specs.Ready.{IsHanded}
 use Rattle.scavenge.specs.Shown.{WorkspaceValue}
-use Rattle.one_worker.specs.SerialValue.{left_of}
+use Rattle.scavenge.specs.Waiting.{left_of}
 use Rattle.workers_in_turn.specs.InterleavedValue.{InterleavedValue, MemberValue, Goes, Stays, worker_of, queue_in, exports_in, forwarded_in, system_of, setting_for, setting_in}
 use Rattle.workers_in_turn.specs.IsInterleaved.{IsInterleaved, IsMember, HasWorked, AreForwarded, AreDrawn, AreQueued, HasReached}
 use Rattle.workers_in_turn.proofs.Places.{found, set-each, length-set, map-set, map-set_same, index-or, set-again}

@@ -29,7 +29,7 @@ use Rattle.workers.proofs.SystemParts.{find-new}
 use Rattle.scavenge.specs.Shown.{WorkspaceValue, lost_to, IsBid, name_of}
 use Rattle.scavenge.specs.Slots.{cell_of}
 use Rattle.scavenge.specs.Told.{Races, IsNumberOf, lost_of}
-use Rattle.one_worker.proofs.Raced.{some_there}
+use Rattle.scavenge.proofs.Unchanged.{some_there}
 use Rattle.workers_in_turn.specs.InterleavedValue.{InterleavedValue, MemberValue, Goes, system_of, setting_in, forwarded_at, forwarded_in}
 use Rattle.workers_in_turn.specs.IsInterleaved.{IsInterleaved}
 use Rattle.workers_in_turn.proofs.Takers.{takers_same}

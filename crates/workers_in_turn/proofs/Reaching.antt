@@ -11,7 +11,7 @@ use Rattle.workers.specs.Steps.{Run, stay}
 use Rattle.workers.specs.Total.{times}
 use Rattle.workers.specs.Finish.{IsReached}
 use Rattle.workers.proofs.OneMore.{reached_more}
-use Rattle.one_worker.specs.IsSerial.{IsReadyToCollect}
+use Rattle.scavenge.specs.ReadyToCollect.{IsReadyToCollect}
 use Rattle.workers_in_turn.specs.InterleavedValue.{InterleavedValue, Goes, Stays, setting_for, setting_in, destinations_in, targets_in, system_of}
 use Rattle.workers_in_turn.specs.IsInterleaved.{HasReached}
 use Rattle.workers_in_turn.proofs.Readiness.{room_of}

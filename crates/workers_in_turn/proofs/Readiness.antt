@@ -18,9 +18,9 @@ use Rattle.workers.proofs.ReadyLemmas.{few_fields}
 use Rattle.workers.proofs.Kept.{collected-young}
 use Rattle.workers.proofs.SystemFalls.{Sound, run_sound}
 use Rattle.scavenge.specs.Shown.{name_of}
-use Rattle.one_worker.specs.IsSerial.{IsReadyToCollect}
-use Rattle.one_worker.proofs.Readiness.{destination_below}
-use Rattle.one_worker.proofs.Raced.{some_there}
+use Rattle.scavenge.specs.ReadyToCollect.{IsReadyToCollect}
+use Rattle.scavenge.proofs.Destinations.{destination_below}
+use Rattle.scavenge.proofs.Unchanged.{some_there}
 use Rattle.workers_in_turn.specs.InterleavedValue.{MemberValue, setting_for}
 use Rattle.workers_in_turn.specs.IsInterleaved.{IsMember, begins}
 

@@ -22,8 +22,8 @@ use Rattle.workers.specs.Steps.{Step, IsAwake}
 use Rattle.scavenge.specs.Named.{named}
 use Rattle.scavenge.specs.Shown.{WorkspaceValue}
 use Rattle.scavenge.specs.Slots.{seen}
-use Rattle.one_worker.specs.SerialCode.{cells_code, pass_code, queues_code, workspace_code}
-use Rattle.one_worker.specs.SerialValue.{waiting_in, left_of}
+use Rattle.scavenge.specs.Codes.{cells_code, pass_code, queues_code, workspace_code}
+use Rattle.scavenge.specs.Waiting.{waiting_in, left_of}
 
 -- one worker: its seat at the queues, its own part, what it took (exporter and position), and whether it is idle and has ended
 pub record MemberValue : Type 0 where

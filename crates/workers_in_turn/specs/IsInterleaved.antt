@@ -21,7 +21,7 @@ use Rattle.workers.specs.Ready.{IsHanded}
 use Rattle.workers.specs.Finish.{IsReached}
 use Rattle.scavenge.specs.Slots.{seen, cell_of}
 use Rattle.scavenge.specs.Told.{IsNumberOf}
-use Rattle.one_worker.specs.IsSerial.{IsReadyToCollect}
+use Rattle.scavenge.specs.ReadyToCollect.{IsReadyToCollect}
 use Rattle.workers_in_turn.specs.InterleavedValue.{InterleavedValue, MemberValue, forwarded_in, setting_for, setting_in, destinations_in, targets_in, system_of}
 
 -- the cells hold what was won: that of a large object a claim, any other the place of the copy

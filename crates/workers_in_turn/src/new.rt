@@ -2,7 +2,7 @@
 ghost use Rattle.std.specs.Prelude.{◌≡◌, ◌<◌, ◌≤◌, IfOk};
 ghost use Rattle.std.specs.List.{range_with_len};
 ghost use Rattle.workers.specs.System.{opening};
-ghost use Rattle.one_worker.specs.IsSerial.{IsReadyToCollect};
+ghost use Rattle.scavenge.specs.ReadyToCollect.{IsReadyToCollect};
 ghost use Rattle.workers_in_turn.specs.InterleavedValue.{system_of, destinations_in, targets_in};
 ghost use Rattle.workers_in_turn.specs.IsInterleaved.{AreFirst};
 

@@ -2,7 +2,7 @@ use Rattle.std.proofs.Common.{◌≡◌, refl, sym, ap, subst, ◌∙◌, arith}
 use Rattle.model.specs.Config.{Config}
 use Rattle.steps.specs.CollectionValue.{CollectionValue}
 use Rattle.steps.specs.ReportValue.{WorkerLists}
-use Rattle.collector.specs.Collects.{ScansAlone, ScansOnce}
+use Rattle.settling.specs.Collects.{ScansAlone, ScansOnce}
 use Rattle.collector.proofs.Concluding.{collects}
 use Rattle.collector.proofs.collect_one.Goals as goal
 

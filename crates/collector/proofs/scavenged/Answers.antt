@@ -1,7 +1,7 @@
 use Rattle.std.proofs.Common.{◌≡◌, Err, sym, ap, subst, ◌∙◌}
 use Rattle.steps.specs.HeapValue.{HeapValue}
 use Rattle.steps.specs.CollectionValue.{CollectionValue}
-use Rattle.collector.specs.Collects.{ScansAlone, ScansOnce}
+use Rattle.settling.specs.Collects.{ScansAlone, ScansOnce}
 use Rattle.one_worker.proofs.Going.{reached_of}
 use Rattle.collector.proofs.Concluding.{begins, ready_in, short_of, scans, scans_once}
 use Rattle.collector.proofs.scavenged.Goals as goal

@@ -11,7 +11,7 @@ use crate::box_cells::bid::Bid;
 use crate::cells::Outcome;
 use layout::Place;
 use once_cell::race::{Note, OnceBox};
-use std::alloc::{AllocError, Global};
+use std::alloc::{AllocError, Allocator, Global};
 use std::marker::Model;
 
 /// One box for each name, which is empty, or set for good to a place.
@@ -111,13 +111,14 @@ impl BoxCells {
         })
     }
 
-    /// Empty cells for the names below `count`, and as many passes as are asked for, with room for each name. An error
-    /// says that memory ran out.
-    pub fn new(
+    /// Empty cells for the names below `count`, and as many passes as are asked for, with room for each name, in a list of
+    /// another allocator. An error says that memory ran out.
+    pub fn new<B: Allocator>(
         alloc: Global,
+        lists: B,
         count: u32,
         passes: usize,
-    ) -> Result<(BoxCells, Vec<BoxPass>), AllocError>
+    ) -> Result<(BoxCells, Vec<BoxPass, B>), AllocError>
         ensures cells { IfOk result (λ r. length r.0 ≡ count) }
         ensures passes { IfOk result (λ r. r.1.items ≡ new_passes r.0 passes) }
         ensures many { IfOk result (λ r. length r.1.items ≡ passes) }
@@ -128,7 +129,7 @@ impl BoxCells {
             cells: empty_cells(alloc, count)?,
             alloc,
         };
-        let mut made = Vec::with_capacity(alloc, passes)?;
+        let mut made = Vec::with_capacity(lists, passes)?;
         for number in 0..passes {
             made.push_reserved(cells.new_pass(number)?);
         }

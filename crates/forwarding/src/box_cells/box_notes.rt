@@ -9,7 +9,7 @@ use crate::box_cells::bid::Bid;
 use crate::box_cells::box_cells::BoxPass;
 use layout::Place;
 use once_cell::race::Note;
-use std::alloc::{AllocError, Global};
+use std::alloc::{AllocError, Allocator};
 
 // What is known by a note or by another of the same cell. The two agree.
 fn join(
@@ -97,7 +97,7 @@ impl BoxPass {
     }
 
     // The place that the pass knows for each name.
-    pub(crate) fn places(&self, alloc: Global) -> Result<Vec<Option<Place>>, AllocError>
+    pub(crate) fn places<B: Allocator>(&self, alloc: B) -> Result<Vec<Option<Place>, B>, AllocError>
         ensures { IfOk result (λ v. v.items ≡ map place_of self.now.known) }
     {
         let mut places = Vec::with_capacity(alloc, self.known.len())?;

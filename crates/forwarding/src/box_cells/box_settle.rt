@@ -10,7 +10,7 @@ ghost use Rattle.forwarding.specs.declared.cells.forwards.SettleError.TheVariant
 
 use crate::box_cells::box_cells::{BoxCells, BoxPass};
 use crate::cells::{Forwards, SettleError};
-use std::alloc::Global;
+use std::alloc::Allocator;
 
 // One pass, which knows nothing, learns what all others know.
 fn gather(all: &mut BoxPass, passes: &mut [BoxPass])
@@ -47,7 +47,11 @@ impl BoxCells {
     /// The place of each name that was won. It takes the passes that `new` gave with these cells, each once: each name
     /// that has a place was won once, by one pass, and what the passes know is what they won. `Unsettled` says that a
     /// pass knows a place that no pass won; the passes agree nevertheless, and no name was won twice. `NoMemory` says that memory ran out.
-    pub fn settle(self, alloc: Global, mut passes: Vec<BoxPass>) -> Result<Forwards, SettleError>
+    pub fn settle<B: Allocator>(
+        self,
+        alloc: B,
+        mut passes: Vec<BoxPass, B>,
+    ) -> Result<Forwards<B>, SettleError>
         requires passes { All (IsPassOf self) passes.items }
         requires apart { AllPairs IsApart passes.items }
         ensures settled { IfOk result (λ f. IsSettled known_at won_by passes.items (length self) (λ name. slice_index_or f name None)) }

@@ -36,9 +36,9 @@ fn deal<A: Allocator>(
 }
 
 /// All that the passes know and have won, in one seat.
-fn gather<A: Allocator>(
+fn gather<A: Allocator, B: Allocator>(
     table: &Table<(), Mind, Plan, Rule, A>,
-    mut passes: Vec<WordPass, A>,
+    mut passes: Vec<WordPass, B>,
 ) -> Seat<(), Mind>
     requires some { 0 < vec_len passes }
     requires words { 0 < table.now.shared.table_id.words }
@@ -60,11 +60,11 @@ fn gather<A: Allocator>(
 }
 
 /// The places of the first words.
-fn read_places<A: Allocator>(
+fn read_places<A: Allocator, B: Allocator>(
     closed: &Closed<(), A>,
     count: u32,
-    mut places: Vec<Option<Place>, A>,
-) -> Vec<Option<Place>, A>
+    mut places: Vec<Option<Place>, B>,
+) -> Vec<Option<Place>, B>
     requires words { (count ≤ slots_len closed.now.words) × (length (slots_items closed.now.words) ≡ slots_len closed.now.words) × IsFull closed.now.words }
     requires room { (places.items ≡ []) × (count ≤ vec_capacity places) }
     ensures many { length result.items ≡ count }
@@ -101,7 +101,11 @@ impl<A: Allocator> WordCells<A> {
     /// The place of each name that was won. It takes the passes that `new` gave with these cells, each once: each name
     /// that has a place was won once, by one pass, and what the passes know is what they won. `NoMemory` says that
     /// memory ran out; `Unsettled` never comes.
-    pub fn settle(self, alloc: A, passes: Vec<WordPass, A>) -> Result<Forwards<A>, SettleError>
+    pub fn settle<B: Allocator>(
+        self,
+        alloc: B,
+        passes: Vec<WordPass, B>,
+    ) -> Result<Forwards<B>, SettleError>
         requires passes { All (λ p. p.id ≡ self.id) passes.items }
         requires all { length passes.items ≡ self.passes }
         ensures settled { IfOk result (λ f. IsSettled (λ p. known_in p.known) (λ p. p.won) passes.items self.count (λ name. slice_index_or f name None)) }

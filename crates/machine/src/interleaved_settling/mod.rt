@@ -1,7 +1,6 @@
 //! How a collection by several workers ends.
 mod settle_error;
 mod settled;
-mod told;
 
 pub use settle_error::SettleError;
 pub use settled::settle;

@@ -1,7 +1,7 @@
 //! One event after another.
 ghost use Rattle.std.specs.Prelude.{◌≡◌, ◌<◌, ◌≤◌, ◌⊎◌, true, false, Ok, Err, OnOk, OnErr};
 ghost use Rattle.one_worker.specs.SerialValue.{Stays};
-ghost use Rattle.one_worker.specs.IsSerial.{IsReadyToCollect};
+ghost use Rattle.scavenge.specs.ReadyToCollect.{IsReadyToCollect};
 ghost use Rattle.one_worker.specs.Stepping.{IsOf, IsDone, IsFullForLook, IsLeftToStep, ScansNext, ScavengesAndSteps, HasStepped, left_to_do};
 
 use crate::SerialCollection;

@@ -1,7 +1,7 @@
 //! What a schedule brings to a commit.
 ghost use Rattle.std.specs.Prelude.{◌≡◌, ◌+◌, ◌^◌, ◌<◌, ◌≤◌, ◌⊎◌, length, MatchOption, IfOk, IfErr};
 ghost use Rattle.trace_session.specs.Faults.{MatchEachFault};
-ghost use Rattle.machine.specs.Collects.{setting_at, opening_at};
+ghost use Rattle.settling.specs.Collects.{setting_at, opening_at};
 ghost use Rattle.machine.specs.Events.{IsShortOfBlocks};
 ghost use Rattle.trace_replay.specs.Brought.{BringsToCommit};
 ghost use Rattle.trace_replay.specs.Stops.{IsRefusedBlocks, IsSoundLine, IsUnreadable, OfLine, StopsAt, StopsWith};

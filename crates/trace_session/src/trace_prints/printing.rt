@@ -2,7 +2,7 @@
 ghost use Rattle.std.specs.Prelude.{◌≡◌, ◌+◌, ◌-◌, ◌^◌, ◌<◌, ◌≤◌, Some, Err, OnOk, IfErr, is_some};
 ghost use Rattle.std.specs.Io.KnownBytes.{Appends};
 ghost use Rattle.std.specs.List.{list_all};
-ghost use Rattle.collector.specs.Collects.{IsShortOfBlocks};
+ghost use Rattle.settling.specs.Collects.{IsShortOfBlocks};
 ghost use Rattle.model.specs.Graph.{root_at};
 ghost use Rattle.model.specs.Store.{collected};
 ghost use Rattle.model.specs.Commands as meant;

@@ -1,8 +1,8 @@
 use Rattle.std.proofs.Common.{◌≡◌, ℕ, min, None, map, get_or, sym, ap, ◌∙◌, arith, rules}
 use Rattle.std.proofs.lemmas.List.{length-map, get_or-map}
 use Rattle.pending_queues.specs.declared.exports.deliveries.Delivery.{Delivery}
-use Rattle.collector.specs.Settling.{delivery_of}
-use Rattle.collector.proofs.SettleLists.{delivered_more, delivered_all, saturated}
+use Rattle.settling.specs.OwnDeliveries.{own_delivery}
+use Rattle.settling.proofs.SettleLists.{delivered_more, delivered_all, saturated}
 use Rattle.collector.proofs.serial_settling.settled.delivered.Goals as goal
 
 pub loop-export-preserved : goal.loop-export-preserved
@@ -19,7 +19,7 @@ loop-export-preserved g c =
           (omega (arith, length-map c.args.exports.now (λ e. e.objects), c.loop-export-test.true))
           (ap (λ p. record { exporter = 0; position = p; objects = c.unwrap_or.result; taker = 0 }) position
           ∙ ap (λ o. record { exporter = 0; position = c.loop-export.export-index; objects = o; taker = 0 }) objects
-          ∙ ap (λ n. delivery_of (c.loop-export.export-index, n)) (sym (get_or-map (λ e. e.objects) c.args.exports.now c.loop-export.export-index none 0 c.loop-export-test.true)))
+          ∙ ap (λ n. own_delivery (c.loop-export.export-index, n)) (sym (get_or-map (λ e. e.objects) c.args.exports.now c.loop-export.export-index none 0 c.loop-export-test.true)))
           c.loop-export.invariant.told);
     }
 

@@ -14,8 +14,9 @@ use Rattle.workers.specs.Joined.{Each, OnSome}
 use Rattle.scavenge.specs.Named.{named, IsWhole}
 use Rattle.scavenge.specs.Fronts.{slot_at}
 use Rattle.scavenge.specs.Shown.{WorkspaceValue, pair_of}
-use Rattle.collector.specs.Settling.{deliveries_of, shown_after}
-use Rattle.collector.proofs.ShownLarge.{shown_in, written_back}
+use Rattle.settling.specs.OwnDeliveries.{deliveries_of_sizes}
+use Rattle.settling.specs.Shown.{shown_after}
+use Rattle.settling.proofs.ShownLarge.{shown_in, written_back}
 use Rattle.collector.proofs.SettleWhole.{opened_at_end, young_at_end, settled_at_end, held_count, reports_at_end, scans_at_end, sizes_at_end, all_won-alone}
 use Rattle.collector.proofs.serial_settling.settled.settle.Goals as goal
 
@@ -89,7 +90,7 @@ returns-clause-lists g c =
     (c.into_parts-allocation.ensures.scanned ∙ ap (λ (w : WorkspaceValue). w.worker.scanned) same)
 
 pub returns-clause-deliveries : goal.returns-clause-deliveries
-returns-clause-deliveries g c = c.in_ok-deliveries.ensures ∙ ap (λ q. deliveries_of (map (λ (b : BlockValue). length b.objects) (lane_at q 0).sent)) c.into_parts-cells.ensures.queues ∙ ap deliveries_of (sizes_at_end c.args.serial c.into_parts-cells.ensures.serial)
+returns-clause-deliveries g c = c.in_ok-deliveries.ensures ∙ ap (λ q. deliveries_of_sizes (map (λ (b : BlockValue). length b.objects) (lane_at q 0).sent)) c.into_parts-cells.ensures.queues ∙ ap deliveries_of_sizes (sizes_at_end c.args.serial c.into_parts-cells.ensures.serial)
 
 pub returns-clause-once : goal.returns-clause-once
 returns-clause-once g c =

@@ -9,17 +9,17 @@ use Rattle.forwarding.specs.Plain.{PlainValue as PlainCellsValue}
 use Rattle.pending_queues.specs.PlainValue.{outcomes_of}
 use Rattle.pending_queues.specs.PlainValue.{PlainValue as PlainQueuesValue}
 use Rattle.workers_in_turn.specs.InterleavedValue.{system_of}
-use Rattle.collector.specs.Together.{AreDelivered}
-use Rattle.machine.specs.Telling.{all_deliveries}
+use Rattle.settling.specs.Together.{AreDelivered}
+use Rattle.settling.specs.Telling.{all_deliveries}
 use Rattle.machine.proofs.Ended.{at_rest_in, brought_in, held_count, settles, scans_once, nothing_left}
-use Rattle.collector.specs.Settling.{shown_after}
-use Rattle.collector.proofs.ShownLarge.{shown_in, written_back}
-use Rattle.workers_in_turn.specs.Handed.{CopiesKeyValue}
+use Rattle.settling.specs.Shown.{shown_after}
+use Rattle.settling.proofs.ShownLarge.{shown_in, written_back}
+use Rattle.scavenge.specs.Handed.{CopiesKeyValue}
 use Rattle.machine.proofs.Delivered.{told_is, each_taken, delivered}
 use Rattle.machine.proofs.interleaved_settling.settled.gathered.Goals as goal
 
 pub brought-requires-clause-rest : goal.brought-requires-clause-rest
-brought-requires-clause-rest g c = at_rest_in c.args.workers c.args.heap.now c.args.collection c.into_parts-cells.result.members.items c.requires.heap c.requires.collection c.into_parts-cells.ensures.members c.into_parts-cells.ensures.interleaved c.requires.ended
+brought-requires-clause-rest g c = at_rest_in c.args.workers c.args.heap.now c.args.collection c.into_parts-cells.result.members.items c.requires.heap c.requires.collection c.into_parts-cells.ensures.members c.in_ok-workspaces.workspaces.items c.in_ok-workspaces.ensures c.into_parts-cells.ensures.interleaved c.requires.ended
 
 pub all_delivered-requires-clause-many : goal.all_delivered-requires-clause-many
 all_delivered-requires-clause-many g c =
@@ -39,7 +39,7 @@ show_all-requires g c =
     ∙ held_count c.args.workers c.into_parts-cells.ensures.interleaved c.in_ok-places.places.items (c.in_ok-places.ensures ∙ ap (λ (k : PlainCellsValue). map place_of k.held) c.into_parts-cells.ensures.cells) in
     subst (λ rs. All (λ (e : ℕ × ℕ). e.0 < length c.deref_mut.result.now) (all_won rs)) (sym c.deref.ensures.value)
     (subst (λ n. All (λ (e : ℕ × ℕ). e.0 < n) (all_won c.in_ok-reports.reports.items)) (sym count)
-    (brought_in c.args.workers c.args.heap.now c.args.collection c.into_parts-cells.result.members.items c.requires.heap c.requires.collection c.into_parts-cells.ensures.members c.in_ok-reports.reports.items c.in_ok-reports.blocks.items c.in_ok-reports.ensures).numbers)
+    (brought_in c.args.workers c.args.heap.now c.args.collection c.into_parts-cells.result.members.items c.requires.heap c.requires.collection c.into_parts-cells.ensures.members c.in_ok-workspaces.workspaces.items c.in_ok-workspaces.ensures c.in_ok-reports.reports.items c.in_ok-reports.blocks.items c.in_ok-reports.ensures).numbers)
 
 pub returns-clause-settled : goal.returns-clause-settled
 returns-clause-settled g c =
@@ -50,20 +50,20 @@ returns-clause-settled g c =
     subst (λ ps. IsSettled c.args.workers.heap c.args.collection ps c.in_ok-reports.blocks.items (all_won c.in_ok-reports.reports.items)) (sym (written_back c.show_all.new.places c.in_ok-places.places.items c.in_ok-places.places.len all count))
     (subst (λ d. IsSettled c.args.workers.heap d c.show_all.new.places c.in_ok-reports.blocks.items (all_won c.in_ok-reports.reports.items)) (sym c.requires.collection)
     (settles c.args.workers c.into_parts-cells.ensures.interleaved c.requires.ended c.in_ok-reports.reports.items c.in_ok-reports.blocks.items
-    (brought_in c.args.workers c.args.heap.now c.args.collection c.into_parts-cells.result.members.items c.requires.heap c.requires.collection c.into_parts-cells.ensures.members c.in_ok-reports.reports.items c.in_ok-reports.blocks.items c.in_ok-reports.ensures)
+    (brought_in c.args.workers c.args.heap.now c.args.collection c.into_parts-cells.result.members.items c.requires.heap c.requires.collection c.into_parts-cells.ensures.members c.in_ok-workspaces.workspaces.items c.in_ok-workspaces.ensures c.in_ok-reports.reports.items c.in_ok-reports.blocks.items c.in_ok-reports.ensures)
     c.in_ok-places.places.items c.show_all.new.places (c.in_ok-places.ensures ∙ ap (λ (k : PlainCellsValue). map place_of k.held) c.into_parts-cells.ensures.cells) count shown))
 
 pub returns-clause-once : goal.returns-clause-once
 returns-clause-once g c =
     scans_once c.args.workers c.into_parts-cells.ensures.interleaved c.requires.ended c.in_ok-reports.reports.items c.in_ok-reports.blocks.items
-    (brought_in c.args.workers c.args.heap.now c.args.collection c.into_parts-cells.result.members.items c.requires.heap c.requires.collection c.into_parts-cells.ensures.members c.in_ok-reports.reports.items c.in_ok-reports.blocks.items c.in_ok-reports.ensures)
+    (brought_in c.args.workers c.args.heap.now c.args.collection c.into_parts-cells.result.members.items c.requires.heap c.requires.collection c.into_parts-cells.ensures.members c.in_ok-workspaces.workspaces.items c.in_ok-workspaces.ensures c.in_ok-reports.reports.items c.in_ok-reports.blocks.items c.in_ok-reports.ensures)
 
 pub returns-clause-reports : goal.returns-clause-reports
 returns-clause-reports g c =
     record {
       ended = c.requires.ended;
       left = nothing_left c.args.workers c.into_parts-cells.ensures.interleaved c.requires.ended;
-      lists = (brought_in c.args.workers c.args.heap.now c.args.collection c.into_parts-cells.result.members.items c.requires.heap c.requires.collection c.into_parts-cells.ensures.members c.in_ok-reports.reports.items c.in_ok-reports.blocks.items c.in_ok-reports.ensures).reported;
+      lists = (brought_in c.args.workers c.args.heap.now c.args.collection c.into_parts-cells.result.members.items c.requires.heap c.requires.collection c.into_parts-cells.ensures.members c.in_ok-workspaces.workspaces.items c.in_ok-workspaces.ensures c.in_ok-reports.reports.items c.in_ok-reports.blocks.items c.in_ok-reports.ensures).reported;
       delivered = subst (AreDelivered (system_of c.args.workers)) (sym (c.in_ok-deliveries.ensures ∙ ap all_deliveries (told_is c.args.workers c.into_parts-cells.result.queues c.in_ok-told.told c.into_parts-cells.ensures.queues (c.in_ok-told.ensures ∙ ap (λ (q : PlainQueuesValue CopiesKeyValue). map outcomes_of q.lanes) c.queues.view_is))))
           (delivered c.args.workers c.into_parts-cells.ensures.interleaved c.requires.ended);
     }

@@ -1,7 +1,8 @@
 use Rattle.std.proofs.Common.{◌≡◌, true, List, [], ◌∷◌, ◌++◌, sym, ap, subst, ◌∙◌}
 use Rattle.block_pool.specs.ClaimsValue.{SeatValue}
-use Rattle.one_worker.specs.SerialValue.{SerialValue, left_of}
-use Rattle.one_worker.proofs.AllDrawn.{counted}
+use Rattle.one_worker.specs.SerialValue.{SerialValue}
+use Rattle.scavenge.specs.Waiting.{left_of}
+use Rattle.scavenge.proofs.AllDrawn.{counted}
 use Rattle.one_worker.proofs.serial.SerialCollection.count_drawn.Goals as goal
 
 pub returns : goal.returns

@@ -3,7 +3,8 @@ use Rattle.pending_queues.specs.PlainValue.{lane_at, next_of}
 use Rattle.scavenge.specs.Handed.{IsHandedFor}
 use Rattle.scavenge.specs.Shown.{Begins}
 use Rattle.one_worker.specs.SerialValue.{SerialValue}
-use Rattle.one_worker.proofs.LaneSteps.{exported, handed_for, aside_handed, put_back, back_again}
+use Rattle.one_worker.proofs.LaneSteps.{exported, handed_for, aside_handed, put_back}
+use Rattle.scavenge.proofs.PutBack.{back_again}
 use Rattle.one_worker.proofs.serial.SerialCollection.export.Goals as goal
 
 pub export-requires-clause-fact : goal.export-requires-clause-fact

@@ -1,6 +1,7 @@
 use Rattle.std.proofs.Common.{◌≢◌, [], subst}
 use Rattle.std.specs.Prelude.{IsTrue}
-use Rattle.one_worker.specs.SerialValue.{SerialValue, lane_of, waiting_in}
+use Rattle.one_worker.specs.SerialValue.{SerialValue, lane_of}
+use Rattle.scavenge.specs.Waiting.{waiting_in}
 use Rattle.one_worker.proofs.LaneSteps.{some_waits, waiting_some}
 use Rattle.one_worker.proofs.serial.SerialCollection.has_queued.Goals as goal
 

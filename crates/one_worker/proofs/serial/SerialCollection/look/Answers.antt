@@ -6,7 +6,8 @@ use Rattle.workers.specs.System.{Look}
 use Rattle.one_worker.specs.SerialValue.{SerialValue, Goes, WantsDraw, setting_in}
 use Rattle.one_worker.proofs.Raced.{few_of}
 use Rattle.one_worker.proofs.Looked.{closed_of, places_of, untouched_of, rooms_of, wants_draw, look_goes, look_keeps, can_look, some_slot, none_here}
-use Rattle.one_worker.proofs.Readiness.{ready_of, numbers_below}
+use Rattle.one_worker.proofs.Readiness.{ready_of}
+use Rattle.scavenge.proofs.Destinations.{numbers_below}
 use Rattle.one_worker.proofs.serial.SerialCollection.look.Goals as goal
 
 pub look-requires-clause-closed : goal.look-requires-clause-closed

@@ -1,7 +1,7 @@
 use Rattle.std.proofs.Common.{◌≡◌, ◌+◌, length, Some, refl, sym, ap, ◌∙◌, arith}
 use Rattle.workers.specs.WorkerSteps.{has_open_work}
 use Rattle.one_worker.specs.SerialValue.{SerialValue}
-use Rattle.one_worker.proofs.OpenBlocks.{first_open, none_open}
+use Rattle.scavenge.proofs.OpenBlocks.{first_open, none_open}
 use Rattle.one_worker.proofs.serial.SerialCollection.lowest_open.Goals as goal
 
 pub returns-then-has_open : goal.returns-then-has_open

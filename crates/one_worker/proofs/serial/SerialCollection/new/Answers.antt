@@ -4,7 +4,7 @@ use Rattle.steps.specs.CollectionValue.{CollectionValue}
 use Rattle.scavenge.specs.Handed.{CopiesKeyValue}
 use Rattle.forwarding.specs.Plain.{empty_cells}
 use Rattle.pending_queues.specs.PlainValue.{new_pending}
-use Rattle.one_worker.specs.IsSerial.{IsReadyToCollect}
+use Rattle.scavenge.specs.ReadyToCollect.{IsReadyToCollect}
 use Rattle.one_worker.specs.SerialValue.{SerialValue}
 use Rattle.one_worker.proofs.Beginning.{key_of, first_of, begun, first_system}
 use Rattle.one_worker.proofs.serial.SerialCollection.new.Goals as goal

@@ -2,7 +2,8 @@ use Rattle.std.proofs.Common.{◌≢◌, [], sym, subst}
 use Rattle.workers.specs.WorkerSteps.{IsFree}
 use Rattle.workers.specs.WorkerRun.{OwnedLarge}
 use Rattle.one_worker.specs.SerialValue.{SerialValue}
-use Rattle.one_worker.proofs.Keeping.{acted_alone, large_won}
+use Rattle.one_worker.proofs.Keeping.{acted_alone}
+use Rattle.scavenge.proofs.Unchanged.{large_won}
 use Rattle.one_worker.proofs.serial.SerialCollection.own_large.Goals as goal
 
 pub invariant_of-self : goal.invariant_of-self

@@ -2,7 +2,8 @@ use Rattle.std.proofs.Common.{sym, subst}
 use Rattle.workers.specs.WorkerSteps.{CanScan, after_scan}
 use Rattle.workers.specs.WorkerRun.{Scanned}
 use Rattle.one_worker.specs.SerialValue.{SerialValue, setting_in}
-use Rattle.one_worker.proofs.Keeping.{acted_alone, scan_won, either}
+use Rattle.one_worker.proofs.Keeping.{acted_alone, either}
+use Rattle.scavenge.proofs.Unchanged.{scan_won}
 use Rattle.one_worker.proofs.Readiness.{ready_of}
 use Rattle.one_worker.proofs.serial.SerialCollection.scan.Goals as goal
 

@@ -4,7 +4,8 @@ use Rattle.workers.specs.System.{Take}
 use Rattle.std.specs.Prelude.{IfSome}
 use Rattle.pending_queues.specs.PlainValue.{after_take}
 use Rattle.scavenge.specs.Handed.{IsHandedFor}
-use Rattle.one_worker.specs.SerialValue.{SerialValue, Goes, lane_of, waiting_in}
+use Rattle.one_worker.specs.SerialValue.{SerialValue, Goes, lane_of}
+use Rattle.scavenge.specs.Waiting.{waiting_in}
 use Rattle.one_worker.proofs.LaneSteps.{took, none_waits}
 use Rattle.one_worker.proofs.serial.SerialCollection.take.Goals as goal
 

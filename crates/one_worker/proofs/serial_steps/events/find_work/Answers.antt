@@ -1,7 +1,8 @@
 use Rattle.std.proofs.Common.{◌≡◌, [], refl, sym, ap, ◌∙◌, arith}
 use Rattle.workers.specs.WorkerSteps.{has_open_work}
-use Rattle.one_worker.specs.SerialValue.{lane_of, waiting_in, setting_in}
-use Rattle.one_worker.proofs.OpenBlocks.{open_there, none_there}
+use Rattle.one_worker.specs.SerialValue.{lane_of, setting_in}
+use Rattle.scavenge.specs.Waiting.{waiting_in}
+use Rattle.scavenge.proofs.OpenBlocks.{open_there, none_there}
 use Rattle.one_worker.proofs.Order.{nothing_left, empty_of}
 use Rattle.one_worker.proofs.serial_steps.events.find_work.Goals as goal
 

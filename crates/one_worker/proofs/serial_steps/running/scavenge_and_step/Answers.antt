@@ -1,7 +1,7 @@
 use Rattle.std.proofs.Common.{subst, inr, arith}
 use Rattle.std.proofs.lemmas.Result.{IfOk-at_ok, on_err_weaker}
 use Rattle.steps.specs.HeapValue.{HeapValue}
-use Rattle.one_worker.specs.IsSerial.{IsReadyToCollect}
+use Rattle.scavenge.specs.ReadyToCollect.{IsReadyToCollect}
 use Rattle.one_worker.specs.Stepping.{IsLeftToStep}
 use Rattle.one_worker.proofs.Going.{less_left, stepped_on, left_to_step_still}
 use Rattle.one_worker.proofs.serial_steps.running.scavenge_and_step.Goals as goal

@@ -1,6 +1,6 @@
 use Rattle.std.proofs.Common.{sym, subst, ◌∙◌, ⊎_elim, true≢false}
 use Rattle.steps.specs.HeapValue.{HeapValue}
-use Rattle.one_worker.specs.IsSerial.{IsReadyToCollect}
+use Rattle.scavenge.specs.ReadyToCollect.{IsReadyToCollect}
 use Rattle.one_worker.proofs.Order.{none_of}
 use Rattle.one_worker.proofs.Going.{went_look, went_twice, went_still_scan, none_more, stepped_or, none_behind, scan_refused}
 use Rattle.one_worker.proofs.serial_steps.running.scavenge_one.Goals as goal

@@ -4,7 +4,7 @@ use Rattle.trace_text.specs.Grammar.{entry_of}
 use Rattle.trace_session.specs.declared.trace_lines.attempt.Attempt.TheVariants.{Done, NurseryFull}
 use Rattle.trace_session.specs.declared.trace_lines.fault.Fault.TheVariants.{HeapFull}
 use Rattle.trace_session.specs.CollectsFirst.{auto_line}
-use Rattle.trace_session.specs.Collects.{IsShortOfBlocks}
+use Rattle.settling.specs.Collects.{IsShortOfBlocks}
 use Rattle.trace_session.specs.Refusals.{MayBeFull, IsFullForLine}
 use Rattle.trace_session.specs.Session.{Stands}
 use Rattle.trace_session.proofs.Twice.{told, tells_full, wants_blocks, first_fault, room_fault, done_twice, no_full_twice, second_fault}

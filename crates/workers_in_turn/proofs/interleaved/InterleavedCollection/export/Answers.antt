@@ -6,7 +6,7 @@ use Rattle.workers_in_turn.specs.InterleavedValue.{InterleavedValue}
 use Rattle.workers_in_turn.proofs.Members.{lawful_as, goes_as, stays_as, behind, is_in}
 use Rattle.workers_in_turn.proofs.Lanes.{handed_for}
 use Rattle.workers_in_turn.proofs.Handing.{has_lane, export_does, put_back}
-use Rattle.one_worker.proofs.LaneSteps.{back_again}
+use Rattle.scavenge.proofs.PutBack.{back_again}
 use Rattle.workers_in_turn.proofs.interleaved.InterleavedCollection.export.Goals as goal
 
 pub export-requires-clause-seat : goal.export-requires-clause-seat

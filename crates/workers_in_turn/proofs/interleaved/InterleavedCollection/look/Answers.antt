@@ -3,9 +3,9 @@ use Rattle.block_pool.specs.ClaimsValue.{SeatValue}
 use Rattle.scavenge.specs.Slots.{seen}
 use Rattle.workers.specs.System.{Look}
 use Rattle.workers.specs.Lawful.{IsRefused}
-use Rattle.one_worker.proofs.AllDrawn.{none_left}
+use Rattle.scavenge.proofs.AllDrawn.{none_left}
 use Rattle.workers_in_turn.specs.InterleavedValue.{InterleavedValue, WantsDraw, setting_in, system_of}
-use Rattle.one_worker.proofs.Readiness.{numbers_below}
+use Rattle.scavenge.proofs.Destinations.{numbers_below}
 use Rattle.workers_in_turn.proofs.Members.{lawful_as, goes_as, behind, is_in}
 use Rattle.workers_in_turn.proofs.Readiness.{ready_of, few_of}
 use Rattle.workers_in_turn.proofs.Looked.{closed_of, places_of, config_of, can_of, untouched_of, rooms_of, wants_draw, is_refused, look_does, look_keeps, has_slot, is_there, same_error}

@@ -4,7 +4,7 @@ use Rattle.steps.specs.CollectionValue.{CollectionValue}
 use Rattle.scavenge.specs.Handed.{CopiesKeyValue}
 use Rattle.forwarding.specs.Plain.{empty_cells}
 use Rattle.pending_queues.specs.PlainValue.{new_pending}
-use Rattle.one_worker.specs.IsSerial.{IsReadyToCollect}
+use Rattle.scavenge.specs.ReadyToCollect.{IsReadyToCollect}
 use Rattle.workers_in_turn.specs.InterleavedValue.{InterleavedValue}
 use Rattle.workers_in_turn.specs.IsInterleaved.{AreFirst}
 use Rattle.workers_in_turn.proofs.Beginning.{key_of, begun, first_system}

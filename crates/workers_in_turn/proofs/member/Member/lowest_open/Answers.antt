@@ -1,6 +1,6 @@
 use Rattle.std.proofs.Common.{◌≡◌, ◌+◌, length, Some, refl, sym, ap, ◌∙◌, arith}
 use Rattle.workers.specs.WorkerSteps.{has_open_work}
-use Rattle.one_worker.proofs.OpenBlocks.{first_open, none_open}
+use Rattle.scavenge.proofs.OpenBlocks.{first_open, none_open}
 use Rattle.workers_in_turn.specs.InterleavedValue.{MemberValue}
 use Rattle.workers_in_turn.proofs.member.Member.lowest_open.Goals as goal
 

@@ -8,7 +8,7 @@ use Rattle.forwarding.proofs.Noting.{new_passes-fit, new_passes-apart}
 use Rattle.forwarding.proofs.box_cells.box_cells.BoxCells.new.Goals as goal
 
 pub loop-number-preserved : goal.loop-number-preserved
-loop-number-preserved c =
+loop-number-preserved g c =
     let cells = names_of c.in_ok-empty_cells.field-0.items in
     let more = map-range_with_len_more (new_pass cells) 0 c.loop-number.number c.loop-number.number (omega arith) in
     record {
@@ -19,12 +19,12 @@ loop-number-preserved c =
     }
 
 pub returns-clause-apart : goal.returns-clause-apart
-returns-clause-apart c =
+returns-clause-apart g c =
     subst (λ (ps : List NotedValue). AllPairs IsApart ps) (sym c.loop-number.invariant.made) (new_passes-apart (names_of c.in_ok-empty_cells.field-0.items) c.loop-number.number)
 
 pub returns-clause-fits : goal.returns-clause-fits
-returns-clause-fits c =
+returns-clause-fits g c =
     subst (λ (ps : List NotedValue). All (IsPassOf (names_of c.in_ok-empty_cells.field-0.items)) ps) (sym c.loop-number.invariant.made) (new_passes-fit (names_of c.in_ok-empty_cells.field-0.items) c.loop-number.number)
 
 pub loop-number-init : goal.loop-number-init
-loop-number-init c = search rules
+loop-number-init g c = search rules

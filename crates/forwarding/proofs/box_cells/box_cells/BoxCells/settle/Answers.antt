@@ -15,7 +15,7 @@ same_passes n now old same many =
     ap (λ (ps : List NotedValue). take n (ps ++ drop (length ps) old)) same ∙ (ap (λ (m : ℕ). take m (old ++ drop (length old) old)) (sym many) ∙ take-append_seam old (drop (length old) old))
 
 pub is_each_won-requires : goal.is_each_won-requires
-is_each_won-requires c =
+is_each_won-requires g c =
     let all = c.gather.new.all in
     let g : IsGathered (length c.args.passes.items) c.args.passes.items all.known = subst (λ (ps : List NotedValue). IsGathered (length ps) ps all.known) c.deref_mut.ensures.value c.gather.ensures.gathered in
     let now = c.deref.ensures.value ∙ same_passes c.args.passes.len _ _ (c.gather.ensures.passes ∙ c.deref_mut.ensures.value) (search rules) in
@@ -28,7 +28,7 @@ is_each_won-requires c =
     omega arith
 
 pub returns-then-not-is_each_won-clause-not_won : goal.returns-then-not-is_each_won-clause-not_won
-returns-then-not-is_each_won-clause-not_won c =
+returns-then-not-is_each_won-clause-not_won g c =
     λ is.
     let all = c.gather.new.all in
     let g : IsGathered (length c.args.passes.items) c.args.passes.items all.known = subst (λ (ps : List NotedValue). IsGathered (length ps) ps all.known) c.deref_mut.ensures.value c.gather.ensures.gathered in
@@ -36,13 +36,13 @@ returns-then-not-is_each_won-clause-not_won c =
     not_all all.known c.args.passes.items c.requires.apart g (λ e. let each : IsTrue c.is_each_won.result = c.is_each_won.ensures.1 (e ∙ sym (ap (sum_by win_count) now)) in let not_each = c.if-not-is_each_won.true in absurd (search rules))
 
 pub returns-then-not-is_each_won-clause-agree : goal.returns-then-not-is_each_won-clause-agree
-returns-then-not-is_each_won-clause-agree c =
+returns-then-not-is_each_won-clause-agree g c =
     λ is.
     let all = c.gather.new.all in
     agree all.known c.args.passes.items c.requires.apart (subst (λ (ps : List NotedValue). IsGathered (length ps) ps all.known) c.deref_mut.ensures.value c.gather.ensures.gathered)
 
 pub returns-in-Ok-places-clause-settled : goal.returns-in-Ok-places-clause-settled
-returns-in-Ok-places-clause-settled c =
+returns-in-Ok-places-clause-settled g c =
     let all = c.gather.new.all in
     let g : IsGathered (length c.args.passes.items) c.args.passes.items all.known = subst (λ (ps : List NotedValue). IsGathered (length ps) ps all.known) c.deref_mut.ensures.value c.gather.ensures.gathered in
     let now = c.deref.ensures.value ∙ same_passes c.args.passes.len _ _ (c.gather.ensures.passes ∙ c.deref_mut.ensures.value) (search rules) in
@@ -51,7 +51,7 @@ returns-in-Ok-places-clause-settled c =
     (c.is_each_won.ensures.0 (search rules) ∙ ap (sum_by win_count) now)
 
 pub returns-in-Ok-places-clause-all_won : goal.returns-in-Ok-places-clause-all_won
-returns-in-Ok-places-clause-all_won c =
+returns-in-Ok-places-clause-all_won g c =
     let all = c.gather.new.all in
     let g : IsGathered (length c.args.passes.items) c.args.passes.items all.known = subst (λ (ps : List NotedValue). IsGathered (length ps) ps all.known) c.deref_mut.ensures.value c.gather.ensures.gathered in
     let now = c.deref.ensures.value ∙ same_passes c.args.passes.len _ _ (c.gather.ensures.passes ∙ c.deref_mut.ensures.value) (search rules) in
@@ -59,19 +59,19 @@ returns-in-Ok-places-clause-all_won c =
     (c.is_each_won.ensures.0 (search rules) ∙ ap (sum_by win_count) now)
 
 pub returns-in-Ok-places-clause-agree : goal.returns-in-Ok-places-clause-agree
-returns-in-Ok-places-clause-agree c =
+returns-in-Ok-places-clause-agree g c =
     λ is.
     let all = c.gather.new.all in
     agree all.known c.args.passes.items c.requires.apart (subst (λ (ps : List NotedValue). IsGathered (length ps) ps all.known) c.deref_mut.ensures.value c.gather.ensures.gathered)
 
 pub returns-then-not-is_each_won-clause-won_once : goal.returns-then-not-is_each_won-clause-won_once
-returns-then-not-is_each_won-clause-won_once c =
+returns-then-not-is_each_won-clause-won_once g c =
     λ is.
     let all = c.gather.new.all in
     wins_once all.known c.args.passes.items c.requires.apart (subst (λ (ps : List NotedValue). IsGathered (length ps) ps all.known) c.deref_mut.ensures.value c.gather.ensures.gathered)
 
 pub returns-in-Ok-places-clause-won_once : goal.returns-in-Ok-places-clause-won_once
-returns-in-Ok-places-clause-won_once c =
+returns-in-Ok-places-clause-won_once g c =
     λ is.
     let all = c.gather.new.all in
     wins_once all.known c.args.passes.items c.requires.apart (subst (λ (ps : List NotedValue). IsGathered (length ps) ps all.known) c.deref_mut.ensures.value c.gather.ensures.gathered)

@@ -3,4 +3,4 @@ use Rattle.std.proofs.lemmas.Grind.{common_steps}
 use Rattle.forwarding.proofs.box_cells.box_cells.BoxPass.places.Goals as goal
 
 pub loop-known-preserved : goal.loop-known-preserved
-loop-known-preserved c = grind (arith, common_steps)
+loop-known-preserved g c = grind (arith, common_steps)

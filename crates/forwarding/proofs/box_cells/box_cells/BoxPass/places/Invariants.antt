@@ -4,7 +4,7 @@ use Rattle.forwarding.specs.Noted.{place_of}
 use Rattle.forwarding.proofs.box_cells.box_cells.BoxPass.places.Given as goal
 
 abbrev pub invariant-loop-known : goal.invariant-loop-known
-invariant-loop-known l = record {
+invariant-loop-known g l = record {
   places : l.places.items ≡ map place_of (take l.known-index l.known-items);
   many : length l.places.items ≡ l.known-index;
   room : length l.known-items ≤ vec_capacity l.places;

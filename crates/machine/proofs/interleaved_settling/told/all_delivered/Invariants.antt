@@ -1,6 +1,0 @@
-use Rattle.std.proofs.Common.{◌≡◌}
-use Rattle.machine.proofs.ToldLists.{first_deliveries}
-use Rattle.machine.proofs.interleaved_settling.told.all_delivered.Given as goal
-
-abbrev pub invariant-loop-exporter : goal.invariant-loop-exporter
-invariant-loop-exporter g l = record { told : l.deliveries.items ≡ first_deliveries l.told l.exporter }

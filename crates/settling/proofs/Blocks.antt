@@ -1,0 +1,49 @@
+-- Blocks in one list, places that are held, and counts of places.
+use Rattle.std.proofs.Common.{◌≡◌, ℕ, zero, suc, ◌+◌, ◌<◌, List, [], ◌∷◌, ◌++◌, length, map, Option, Some, None, refl, sym, ap, subst, arith, Bool, true, false, nat_eq, eqb-true}
+use Rattle.std.specs.Prelude.{slice_index_or, IsTrue}
+use Rattle.std.specs.Option.{option_map}
+use Rattle.model.specs.Destination.{Shape}
+use Rattle.layout.specs.Object.{Raw, raw_size}
+use Rattle.block_pool.specs.BlockValue.{BlockValue}
+use Rattle.forwarding.specs.declared.plain_cells.held.Held.{Held}
+use Rattle.forwarding.specs.Plain.{place_of, place_held}
+use Rattle.workers.specs.Joined.{Each, OnSome, somes}
+use Rattle.scavenge.specs.Named.{named, named_copies}
+use Rattle.scavenge.specs.Fronts.{slot_at}
+use Rattle.model.specs.Reached.{has}
+use Rattle.model.proofs.Has.{has_head, has_tail}
+use Rattle.workers.specs.Total.{total, one_if, times}
+
+pub somes-map : (shape : Shape) (slots : List (Option BlockValue)) → map (named shape) (somes slots) ≡ somes (map (option_map (named shape)) slots)
+somes-map shape [] = refl
+somes-map shape (None ∷ slots) = somes-map shape slots
+somes-map shape (Some b ∷ slots) = ap (λ bs. named shape b ∷ bs) (somes-map shape slots)
+
+pub somes_each : (P : BlockValue → Type 0) (slots : List (Option BlockValue)) (done : List BlockValue) → ((d : ℕ) → OnSome P (slot_at slots d)) → Each P done → Each P (somes slots ++ done)
+somes_each P [] done h k = k
+somes_each P (None ∷ slots) done h k = somes_each P slots done (λ d. h (suc d)) k
+somes_each P (Some b ∷ slots) done h k = (h 0, somes_each P slots done (λ d. h (suc d)) k)
+
+pub held_place : (held : List (Option Held)) (n : ℕ) → slice_index_or (map place_of held) n None ≡ place_held held n
+held_place [] n = refl
+held_place (h ∷ held) zero = refl
+held_place (h ∷ held) (suc n) = held_place held n
+
+-- an exported block has as many copies as objects
+pub named_length : (number offset : ℕ) (origins : List ℕ) (raws : List Raw) → length origins ≡ length raws → length (named_copies number offset origins raws) ≡ length raws
+named_length number offset [] [] e = refl
+named_length number offset [] (r ∷ raws) e = absurd (omega (arith, e))
+named_length number offset (o ∷ origins) [] e = absurd (omega (arith, e))
+named_length number offset (o ∷ origins) (r ∷ raws) e = ap suc (named_length number (offset + raw_size r) origins raws (omega (arith, e)))
+
+pub stands_has : (x : ℕ) (xs : List ℕ) → 0 < times x xs → IsTrue (has xs x)
+stands_has x [] l = absurd (omega arith)
+stands_has x (y ∷ ys) l = by_test (nat_eq y x) refl (stands_has x ys)
+  where
+    by_test : (b : Bool) → nat_eq y x ≡ b → (0 < times x ys → has ys x ≡ true) → has (y ∷ ys) x ≡ true
+    by_test true e rest = subst (λ z. has (z ∷ ys) x ≡ true) (sym (eqb-true y x e)) (has_head x ys)
+    by_test false e rest = let z : one_if (nat_eq y x) ≡ 0 = ap one_if e in has_tail y ys x (rest (omega arith))
+
+pub times-places : (place : ℕ) (won : List (ℕ × ℕ)) → times place (map (λ e. e.1) won) ≡ total (λ (q : ℕ × ℕ). one_if (nat_eq q.1 place)) won
+times-places place [] = refl
+times-places place (e ∷ es) = ap (λ n. one_if (nat_eq e.1 place) + n) (times-places place es)

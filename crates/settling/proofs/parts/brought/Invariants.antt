@@ -1,0 +1,5 @@
+use Rattle.settling.proofs.Parted.{BroughtSoFar}
+use Rattle.settling.proofs.parts.brought.Given as goal
+
+abbrev pub invariant-loop-workspace : goal.invariant-loop-workspace
+invariant-loop-workspace g l = record { brought : BroughtSoFar l.heap l.collection l.fn.workspaces.items l.workspace-iterator.rest.items l.reports.items l.blocks.items }

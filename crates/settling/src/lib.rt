@@ -1,0 +1,12 @@
+//! What the workers of a collection bring to its commit, and what a collection leaves and reports.
+#![tactic(auto)]
+
+mod law;
+mod parts;
+mod places;
+mod told;
+
+pub use law::parts_settle;
+pub use parts::{brought, in_one_list, numbered};
+pub use places::{places_in, show_all, show_large};
+pub use told::all_delivered;

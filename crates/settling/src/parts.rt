@@ -1,0 +1,101 @@
+//! Workers' parts as reports and blocks.
+ghost use Rattle.std.specs.Prelude.{◌≡◌, ◌<◌, ◌++◌, All, IfOk, map};
+ghost use Rattle.layout.specs.Place.{place_word};
+ghost use Rattle.model.specs.Live.{IsYoung};
+ghost use Rattle.steps.specs.CollectionValue.{IsOpened, young_names};
+ghost use Rattle.steps.specs.ReportValue.{renaming_of};
+ghost use Rattle.steps.specs.ReportView.{won_value};
+ghost use Rattle.workers.specs.Joined.{Each, somes};
+ghost use Rattle.scavenge.specs.Shown.{pair_of};
+ghost use Rattle.settling.specs.Telling.{IsAtRest, IsPartOf, AreBrought};
+
+use block_pool::Block;
+use heap::{Collection, Heap, Won, WorkerReport};
+use layout::Place;
+use scavenge::{Parts, Workspace};
+use std::alloc::{AllocError, Allocator};
+
+/// What was won, by number.
+pub fn numbered<A: Allocator + Clone>(
+    alloc: A,
+    heap: &Heap<A>,
+    collection: &Collection<A>,
+    won: &[(Place, Place)],
+) -> Result<Vec<Won, A>, AllocError>
+    requires opened { IsOpened heap.now collection.now.generation collection.now }
+    requires young { All (λ e. IsYoung heap.now.graph collection.now.generation (place_word e.0)) won.now }
+    ensures numbers { IfOk result (λ v. All (λ e. e.0 < collection.now.cells) (map won_value v.items)) }
+    ensures renaming { IfOk result (λ v. renaming_of (young_names heap.now.graph collection.now.generation) (map won_value v.items) ≡ map pair_of won.now) }
+{
+    let mut numbered = Vec::with_capacity(alloc, won.len())?;
+    for pair in won {
+        let number = heap.number_of(collection, pair.0);
+        numbered.push_reserved(Won {
+            number,
+            place: pair.1,
+        });
+    }
+    Ok(numbered)
+}
+
+/// The blocks in one list: those for the destinations, and then those that are done.
+pub fn in_one_list<A: Allocator>(
+    alloc: A,
+    allocation: Vec<Option<Block<A>>, A>,
+    mut done: Vec<Block<A>, A>,
+) -> Result<Vec<Block<A>, A>, AllocError>
+    ensures { IfOk result (λ v. v.items ≡ somes allocation.items ++ done.items) }
+{
+    let mut blocks = Vec::new(alloc);
+    for slot in allocation {
+        if let Some(block) = slot {
+            blocks.push(block)?;
+        }
+    }
+    blocks.append(&mut done)?;
+    Ok(blocks)
+}
+
+/// One worker's report, and the blocks that it leaves.
+fn part_of<A: Allocator + Clone>(
+    alloc: A,
+    heap: &Heap<A>,
+    collection: &Collection<A>,
+    workspace: Workspace<A>,
+) -> Result<(WorkerReport<A>, Vec<Block<A>, A>), AllocError>
+    requires opened { IsOpened heap.now collection.now.generation collection.now }
+    requires rest { IsAtRest heap.now collection.now workspace }
+    ensures { IfOk result (λ r. IsPartOf heap.now collection.now workspace.worker r.0 r.1.items) }
+{
+    let Parts {
+        allocation,
+        done,
+        large: _,
+        won,
+        scanned,
+    } = workspace.into_parts();
+    let won = numbered(alloc.clone()?, heap, collection, &won)?;
+    let blocks = in_one_list(alloc, allocation, done)?;
+    Ok((WorkerReport::new(won, scanned), blocks))
+}
+
+/// The workers' reports, and the blocks that they leave, one worker after another. An error says that memory ran out.
+pub fn brought<A: Allocator + Clone>(
+    alloc: A,
+    heap: &Heap<A>,
+    collection: &Collection<A>,
+    workspaces: Vec<Workspace<A>, A>,
+) -> Result<(Vec<WorkerReport<A>, A>, Vec<Block<A>, A>), AllocError>
+    requires opened { IsOpened heap.now collection.now.generation collection.now }
+    requires rest { Each (IsAtRest heap.now collection.now) workspaces.items }
+    ensures { IfOk result (λ r. AreBrought heap.now collection.now (map (λ w. w.worker) workspaces.items) r.0.items r.1.items) }
+{
+    let mut reports = Vec::new(alloc.clone()?);
+    let mut blocks = Vec::new(alloc.clone()?);
+    for workspace in workspaces {
+        let (report, mut left) = part_of(alloc.clone()?, heap, collection, workspace)?;
+        reports.push(report)?;
+        blocks.append(&mut left)?;
+    }
+    Ok((reports, blocks))
+}

@@ -1,0 +1,53 @@
+-- What a worker brings back is what its thread promised.
+use Rattle.std.proofs.Common.{◌≡◌, ℕ, true, None, List, Option, sym, ap, subst, ◌∙◌}
+use Rattle.layout.specs.declared.place.Place.{Place}
+use Rattle.block_pool.specs.ClaimsValue.{ClaimsValue, SeatValue, IsSeatOf}
+use Rattle.steps.specs.HeapValue.{HeapValue}
+use Rattle.steps.specs.CollectionValue.{CollectionValue}
+use Rattle.pending_queues.specs.PendingValue.{Source}
+use Rattle.pending_queues.specs.PendingValue.{SeatValue as QueueSeatValue}
+use Rattle.pending_queues.specs.PendingValue.{IsSeatOf as IsQueueSeat}
+use Rattle.scavenge.specs.Handed.{CopiesKeyValue}
+use Rattle.workers.specs.WorkerSteps.{draw_wanted}
+use Rattle.scavenge.specs.Shown.{WorkspaceValue}
+use Rattle.scavenge.specs.declared.looking.LookError.TheVariants.{HeapFull}
+use Rattle.workers_in_threads.specs.declared.sharing_worker.resting.Outcome.{Outcome}
+use Rattle.workers_in_threads.specs.declared.sharing_worker.resting.Outcome.TheVariants.{Ended, Refused}
+use Rattle.workers_in_threads.specs.SharingValue.{SharingValue, setting_for}
+use Rattle.workers_in_threads.specs.IsSharing.{IsSharing, HasWorked}
+use Rattle.workers_in_threads.specs.Sharing.{IsSame, IsDone, IsRefusedBlock}
+use Rattle.workers_in_threads.specs.Kits.{IsBroughtBack}
+
+module _ {C P A : Type 0} {fits : C → P → Type 0} {limit : C → ℕ} {known : P → ℕ → Option Place} {won : P → List (ℕ × Place)} {at_home : C → P → Type 0} (is_pass : ℕ → P → Type 0)
+    (heap : HeapValue) (c : CollectionValue) (claims : ClaimsValue) (queues : Source A CopiesKeyValue) (n t : ℕ) (old new : SharingValue C P A) (k : IsSharing fits limit known won new) (same : IsSame at_home old new)
+    (heap_is : old.heap ≡ heap) (collection_is : old.collection ≡ c) (claims_are : old.claims ≡ claims) (queues_are : old.queues ≡ queues) (workers_are : old.workers ≡ n) (number_is : old.seat.index ≡ t) where
+  worked : HasWorked heap c n t (known new.pass) (won new.pass) new.draws new.seat new.workspace.worker
+  worked =
+      subst (λ h. HasWorked h c n t (known new.pass) (won new.pass) new.draws new.seat new.workspace.worker) (same.heap ∙ heap_is)
+      (subst (λ d. HasWorked new.heap d n t (known new.pass) (won new.pass) new.draws new.seat new.workspace.worker) (same.collection ∙ collection_is)
+      (subst (λ m. HasWorked new.heap new.collection m t (known new.pass) (won new.pass) new.draws new.seat new.workspace.worker) (same.workers ∙ workers_are)
+      (subst (λ i. HasWorked new.heap new.collection new.workers i (known new.pass) (won new.pass) new.draws new.seat new.workspace.worker) (same.number ∙ number_is) k.worked)))
+
+  wants : draw_wanted (setting_for new.heap new.collection new.workers) new.workspace.worker None ≡ true → draw_wanted (setting_for heap c n) new.workspace.worker None ≡ true
+  wants w =
+      subst (λ h. draw_wanted (setting_for h c n) new.workspace.worker None ≡ true) (same.heap ∙ heap_is)
+      (subst (λ d. draw_wanted (setting_for new.heap d n) new.workspace.worker None ≡ true) (same.collection ∙ collection_is)
+      (subst (λ m. draw_wanted (setting_for new.heap new.collection m) new.workspace.worker None ≡ true) (same.workers ∙ workers_are) w))
+
+  pub brings : (outcome : Outcome) (pass : P) (draws : SeatValue) (seat : QueueSeatValue A CopiesKeyValue) (workspace : WorkspaceValue) → pass ≡ new.pass → draws ≡ new.draws → seat ≡ new.seat → workspace ≡ new.workspace
+      → is_pass t new.pass → (outcome ≡ Ended → IsDone new) → (outcome ≡ Refused HeapFull → IsRefusedBlock new)
+      → IsBroughtBack is_pass known won heap c claims queues n t (record { outcome = outcome; pass = pass; draws = draws; seat = seat; workspace = workspace })
+  brings outcome pass draws seat workspace p d s w mine ended full =
+      subst (λ x. IsBroughtBack is_pass known won heap c claims queues n t (record { outcome = outcome; pass = x; draws = draws; seat = seat; workspace = workspace })) (sym p)
+      (subst (λ x. IsBroughtBack is_pass known won heap c claims queues n t (record { outcome = outcome; pass = new.pass; draws = x; seat = seat; workspace = workspace })) (sym d)
+      (subst (λ x. IsBroughtBack is_pass known won heap c claims queues n t (record { outcome = outcome; pass = new.pass; draws = new.draws; seat = x; workspace = workspace })) (sym s)
+      (subst (λ x. IsBroughtBack is_pass known won heap c claims queues n t (record { outcome = outcome; pass = new.pass; draws = new.draws; seat = new.seat; workspace = x })) (sym w)
+      (record {
+        pass = mine;
+        draws = subst (λ (x : ClaimsValue). IsSeatOf x.source new.draws) (same.claims ∙ claims_are) k.draws;
+        seat = subst (λ q. IsQueueSeat q new.seat) (same.queues ∙ queues_are) k.seat;
+        thread = record { index = same.number ∙ number_is; config = k.config ∙ ap (λ (h : HeapValue). h.config) (same.heap ∙ heap_is); worked = worked };
+        ended = λ e. record { out = (ended e).out; cleared = (ended e).cleared };
+        wanted = λ e. wants (full e).wanted;
+        out = λ e. (full e).out;
+      }))))

@@ -1,0 +1,140 @@
+//! How a worker rests until all do, and how its thread runs.
+ghost use Rattle.std.specs.Prelude.{◌≡◌, true, false, IsTrue};
+ghost use Rattle.idle_count.specs.IdleValue.{IsSeatOf, HasEnded};
+ghost use Rattle.scavenge.specs.declared.looking.LookError.TheVariants.{HeapFull};
+ghost use Rattle.workers_in_threads.specs.Sharing.{IsSame, IsRefusedBlock, IsDone};
+ghost use Rattle.workers_in_threads.specs.declared.sharing_worker.resting.Outcome.TheVariants.{Ended, Refused};
+ghost use Rattle.workers_in_threads.specs.declared.sharing_worker.resting.Rested.TheVariants as rested;
+
+use crate::sharing_worker::worker::SharingWorker;
+use crossbeam_utils::Backoff;
+use forwarding::{Cells, Gate, StepKind};
+use idle_count::{Cause, Idle, IdleSeat, Polled, Verdict, VerdictSeat};
+use scavenge::LookError;
+use std::alloc::Allocator;
+use std::sync::Wait;
+
+/// How a rest ended.
+#[derive(Clone, Copy, PartialEq, Eq, Debug)]
+pub enum Rested {
+    /// All workers are idle.
+    Ended,
+    /// It is told to leave.
+    Left,
+    /// Work may be there.
+    Woken,
+}
+
+/// How a worker's thread ended.
+#[derive(Clone, Copy, PartialEq, Eq, Debug)]
+pub enum Outcome {
+    /// All workers were idle, and nothing was left to this one.
+    Ended,
+    /// It was told to leave.
+    Left,
+    /// It couldn't go on.
+    Refused(LookError),
+}
+
+impl<'a, C: Cells, A: Allocator + Clone> SharingWorker<'a, C, A> {
+    /// Whether a block may be in some queue.
+    fn may_take(&mut self) -> bool
+        ensures { self.new ≡ self.old }
+    {
+        for exporter in 0..self.workers() {
+            if self.maybe(exporter) {
+                return true;
+            }
+        }
+        false
+    }
+
+    /// Idle until all are, or work may be there, or it is told to leave.
+    fn rest<R: Wait, G: Gate, B: Allocator>(
+        &mut self,
+        rt: &R,
+        gate: &G,
+        idle: &Idle<B>,
+        rest: &mut IdleSeat,
+        verdict: &Verdict,
+        voice: &mut VerdictSeat,
+    ) -> Rested
+        requires rest { IsSeatOf idle.now rest.old }
+        requires idle { rest.old.idle ≡ true }
+        requires voice { voice.old.name ≡ verdict.now.name }
+        ensures worker { self.new ≡ self.old }
+        ensures rest { IsSeatOf idle.now rest.new }
+        ensures voice { voice.new.name ≡ verdict.now.name }
+        ensures ended { result ≡ rested.Ended → HasEnded rest.new }
+        ensures woken { result ≡ rested.Woken → rest.new.idle ≡ false }
+    {
+        let number = self.number();
+        let backoff = Backoff::new();
+        for _ in rt.forever() {
+            gate.before(number, StepKind::Poll);
+            if idle.poll(rest) == Polled::Ended {
+                return Rested::Ended;
+            }
+            gate.before(number, StepKind::Verdict);
+            if verdict.read(voice).is_some() {
+                return Rested::Left;
+            }
+            if self.may_take() {
+                gate.before(number, StepKind::Wake);
+                if idle.wake(rest) {
+                    return Rested::Woken;
+                }
+            }
+            backoff.snooze();
+        }
+        unreachable!()
+    }
+
+    /// Works and rests in turn until all workers are idle, or it is told to leave, or it can't go on; then it tells the
+    /// others to leave.
+    pub fn run<R: Wait, G: Gate, B: Allocator>(
+        &mut self,
+        rt: &R,
+        alloc: A,
+        gate: &G,
+        idle: &Idle<B>,
+        rest: &mut IdleSeat,
+        verdict: &Verdict,
+        voice: &mut VerdictSeat,
+    ) -> Outcome
+        requires rest { IsSeatOf idle.now rest.old }
+        requires busy { rest.old.idle ≡ false }
+        requires voice { voice.old.name ≡ verdict.now.name }
+        ensures same { IsSame C.at_home self.old self.new }
+        ensures rest { IsSeatOf idle.now rest.new }
+        ensures voice { voice.new.name ≡ verdict.now.name }
+        ensures ended { result ≡ Ended → IsDone self.new × HasEnded rest.new }
+        ensures full { result ≡ Refused HeapFull → IsRefusedBlock self.new }
+    {
+        let number = self.number();
+        for _ in rt.forever() {
+            let Ok(alloc) = alloc.clone() else {
+                gate.before(number, StepKind::Verdict);
+                verdict.raise(voice, Cause::Refused);
+                return Outcome::Refused(LookError::NoMemory);
+            };
+            match self.work(rt, alloc, gate, verdict, voice) {
+                Err(error) => {
+                    gate.before(number, StepKind::Verdict);
+                    verdict.raise(voice, Cause::Refused);
+                    return Outcome::Refused(error);
+                }
+                Ok(false) => return Outcome::Left,
+                Ok(true) => {}
+            }
+            gate.before(number, StepKind::Idle);
+            idle.idle(rest);
+            match self.rest(rt, gate, idle, rest, verdict, voice) {
+                Rested::Ended => return Outcome::Ended,
+                Rested::Left => return Outcome::Left,
+                Rested::Woken => {}
+            }
+        }
+        unreachable!()
+    }
+}
