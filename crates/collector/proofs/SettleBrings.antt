@@ -36,6 +36,7 @@ use Rattle.scavenge.proofs.Starts.{has_starts, targets_live}
 use Rattle.collector.specs.Settling.{ScansWhatItWon}
 use Rattle.settling.specs.Shown.{shown_after}
 use Rattle.settling.proofs.ShownLarge.{places_show}
+use Rattle.settling.proofs.Blocks.{stands_has, times-places}
 
 append_nil : {A : Type 0} (xs : List A) → xs ++ [] ≡ xs
 append_nil [] = refl

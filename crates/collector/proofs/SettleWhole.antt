@@ -33,6 +33,7 @@ use Rattle.collector.specs.Settling.{IsReportOf, ScansWhatItWon, exports_of}
 use Rattle.settling.specs.Shown.{shown_after}
 use Rattle.settling.proofs.ShownLarge.{shown_in}
 use Rattle.collector.proofs.SettleBrings.{won_live, settles, cells_show, scans_won}
+use Rattle.settling.proofs.Blocks.{somes-map, somes_each, held_place, named_length}
 
 -- what holds of each name that is found holds of each name
 pub found_all : (P : ℕ → Type 0) (ws : List (Place × Place)) → ((name place : ℕ) → find nat_cmp name (map pair_of ws) ≡ Some place → P name) → All (λ (e : Place × Place). P (place_word e.0)) ws

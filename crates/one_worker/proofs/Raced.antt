@@ -38,6 +38,7 @@ use Rattle.one_worker.specs.SerialValue.{SerialValue, Goes, system_of, setting_i
 use Rattle.one_worker.specs.IsSerial.{IsSerial, AreForwarded}
 use Rattle.one_worker.proofs.Keeping.{AreTaken, worked_on}
 use Rattle.one_worker.proofs.Readiness.{start_roomy, ready_of}
+use Rattle.scavenge.proofs.Unchanged.{some_there, finish_won}
 
 -- what every worker of a run has
 pub sound_of : (v : SerialValue) → IsSerial v → Sound (setting_in v) v.workspace.worker

@@ -13,6 +13,7 @@ use Rattle.workers.specs.Ready.{IsHanded}
 use Rattle.scavenge.specs.Slots.{cell_of}
 use Rattle.scavenge.specs.Told.{IsNumberOf}
 use Rattle.one_worker.specs.SerialValue.{SerialValue, lane_of, setting_in, targets_in, destinations_in}
+use Rattle.scavenge.specs.ReadyToCollect.{IsReadyToCollect}
 
 -- the cells hold what was won: that of a large object the worker's claim, any other the place of the copy
 pub record AreForwarded (v : SerialValue) : Type 0 where
