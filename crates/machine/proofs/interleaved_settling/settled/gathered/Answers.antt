@@ -21,6 +21,9 @@ use Rattle.machine.proofs.interleaved_settling.settled.gathered.Goals as goal
 pub brought-requires-clause-rest : goal.brought-requires-clause-rest
 brought-requires-clause-rest g c = at_rest_in c.args.workers c.args.heap.now c.args.collection c.into_parts-cells.result.members.items c.requires.heap c.requires.collection c.into_parts-cells.ensures.members c.in_ok-workspaces.workspaces.items c.in_ok-workspaces.ensures c.into_parts-cells.ensures.interleaved c.requires.ended
 
+pub places_in-requires-clause-alone : goal.places_in-requires-clause-alone
+places_in-requires-clause-alone g c = ap (λ (k : PlainCellsValue). k.passes) c.into_parts-cells.ensures.cells ∙ c.into_parts-cells.ensures.interleaved.cells.passes
+
 pub all_delivered-requires-clause-many : goal.all_delivered-requires-clause-many
 all_delivered-requires-clause-many g c =
     let told : length c.in_ok-told.told ≡ length (map outcomes_of c.args.workers.queues.lanes) = ap length (told_is c.args.workers c.into_parts-cells.result.queues c.in_ok-told.told c.into_parts-cells.ensures.queues (c.in_ok-told.ensures ∙ ap (λ (q : PlainQueuesValue CopiesKeyValue). map outcomes_of q.lanes) c.queues.view_is)) in
