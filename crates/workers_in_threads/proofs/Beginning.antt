@@ -11,6 +11,7 @@ use Rattle.workers.specs.WorkerRun.{WorkerRun, stay, no_history}
 use Rattle.scavenge.specs.Named.{named}
 use Rattle.scavenge.specs.ReadyToCollect.{IsReadyToCollect}
 use Rattle.workers_in_threads.specs.SharingValue.{SharingValue, setting_in, begins_as, worker_of, forwarded_in}
+use Rattle.workers_in_threads.specs.Queued.{IsQueued}
 use Rattle.workers_in_threads.specs.IsSharing.{IsSharing, HasWorked}
 
 module _ {C P A : Type 0} (fits : C → P → Type 0) (limit : C → ℕ) (known : P → ℕ → Option Place) (won : P → List (ℕ × Place)) (v : SharingValue C P A) where
@@ -28,6 +29,7 @@ module _ {C P A : Type 0} (fits : C → P → Type 0) (limit : C → ℕ) (known
         seat = record { of = ap (λ (s : QueueSeatValue A CopiesKeyValue). s.source) seat; own = subst (λ n. v.seat.index < n) (sym lanes) member };
         lanes = lanes;
         key = key;
+        queued = subst IsQueued (sym seat) (record { noted = tt; rises = λ u. tt });
         worked =
             subst (HasWorked v.heap v.collection v.workers v.seat.index (known v.pass) (won v.pass) v.draws v.seat) (sym worker)
             (record {

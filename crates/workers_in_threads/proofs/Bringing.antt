@@ -46,7 +46,7 @@ module _ {C P A : Type 0} {fits : C → P → Type 0} {limit : C → ℕ} {known
         pass = mine;
         draws = subst (λ (x : ClaimsValue). IsSeatOf x.source new.draws) (same.claims ∙ claims_are) k.draws;
         seat = subst (λ q. IsQueueSeat q new.seat) (same.queues ∙ queues_are) k.seat;
-        thread = record { index = same.number ∙ number_is; config = k.config ∙ ap (λ (h : HeapValue). h.config) (same.heap ∙ heap_is); worked = worked };
+        thread = record { index = same.number ∙ number_is; config = k.config ∙ ap (λ (h : HeapValue). h.config) (same.heap ∙ heap_is); queued = k.queued; worked = worked };
         ended = λ e. record { out = (ended e).out; cleared = (ended e).cleared };
         wanted = λ e. wants (full e).wanted;
         out = λ e. (full e).out;

@@ -9,22 +9,22 @@ use Rattle.steps.specs.HeapValue.{HeapValue}
 use Rattle.steps.specs.CollectionValue.{CollectionValue}
 use Rattle.pending_queues.specs.Labelled.{labelled}
 use Rattle.pending_queues.specs.PassValue.{position_of, position_on}
-use Rattle.pending_queues.specs.PendingValue.{IsSeatOf, Source, next_export, after_export, after_take, after_none}
-use Rattle.pending_queues.specs.PendingValue.{SeatValue as QueueSeatValue}
+use Rattle.pending_queues.specs.PendingValue.{IsSeatOf, Source, next_export, after_export, after_take, after_none, SeatValue as QueueSeatValue}
 use Rattle.scavenge.specs.Handed.{CopiesKeyValue, IsHandedFor}
 use Rattle.workers.specs.Block.{Block, has_unscanned}
 use Rattle.workers.specs.Worker.{Worker}
-use Rattle.workers.specs.WorkerSteps.{IsFree, after_aside, without_oldest}
-use Rattle.workers.specs.WorkerSteps.{after_take as after_take_of}
+use Rattle.workers.specs.WorkerSteps.{IsFree, after_aside, without_oldest, after_take as after_take_of}
 use Rattle.workers.specs.WorkerRun.{Exported, Took, History, noted, first_alone, go}
 use Rattle.workers.specs.Joined.{Each}
-use Rattle.workers.specs.Ordered.{LeftHere, InTurn}
+use Rattle.workers.specs.Ordered.{LeftHere, InTurn, IsRising}
 use Rattle.workers.specs.Ready.{IsHanded}
 use Rattle.workers.proofs.ReadyLemmas.{handed_alike, handed_labelled}
 use Rattle.scavenge.specs.Named.{named, IsWhole}
 use Rattle.scavenge.specs.Shown.{WorkspaceValue, Begins}
 use Rattle.workers_in_threads.specs.SharingValue.{SharingValue, setting_for, setting_in, worker_of, labelled_from}
 use Rattle.workers_in_threads.specs.IsSharing.{IsSharing, HasWorked}
+use Rattle.workers_in_threads.specs.Queued.{IsQueued, positions_in}
+use Rattle.workers_in_threads.proofs.Rising.{rises_more}
 use Rattle.workers_in_threads.proofs.Readiness.{aside_handed}
 use Rattle.workers_in_threads.proofs.Knowing.{each_more, labelled_more, labelled_length, left_here}
 
@@ -50,9 +50,9 @@ module _ {C P A : Type 0} (fits : C → P → Type 0) (limit : C → ℕ) (known
   abbrev pub handing : QueueSeatValue A CopiesKeyValue → WorkspaceValue → SharingValue C P A
   handing seat new = record v { seat = seat; workspace = new }
 
-  handing_is : (seat : QueueSeatValue A CopiesKeyValue) (new : WorkspaceValue) → IsSeatOf v.queues seat → seat.index ≡ v.seat.index → new.config ≡ v.workspace.config
+  handing_is : (seat : QueueSeatValue A CopiesKeyValue) (new : WorkspaceValue) → IsSeatOf v.queues seat → seat.index ≡ v.seat.index → new.config ≡ v.workspace.config → IsQueued seat
       → HasWorked v.heap v.collection v.workers v.seat.index (known v.pass) (won v.pass) v.draws seat new.worker → IsSharing fits limit known won (handing seat new)
-  handing_is seat new of index config worked =
+  handing_is seat new of index config queued worked =
       record {
         ready = k.ready;
         member = subst (λ i. i < v.workers) (sym index) k.member;
@@ -64,10 +64,11 @@ module _ {C P A : Type 0} (fits : C → P → Type 0) (limit : C → ℕ) (known
         seat = of;
         lanes = k.lanes;
         key = k.key;
+        queued = queued;
         worked = subst (λ i. HasWorked v.heap v.collection v.workers i (known v.pass) (won v.pass) v.draws seat new.worker) (sym index) worked;
       }
 
-  module _ (b : BlockValue) (first : Begins v.workspace.config.shape (worker_of v).aside b) where
+  module _ (b : BlockValue) (first : Begins v.workspace.config.shape (worker_of v).aside b) (is_whole : IsWhole v.workspace.config.shape v.workspace.config.block_words b) where
     oldest : Begins shape (worker_of v).aside b
     oldest = subst (λ c. Begins c.shape (worker_of v).aside b) k.config first
 
@@ -75,11 +76,11 @@ module _ {C P A : Type 0} (fits : C → P → Type 0) (limit : C → ℕ) (known
     some_aside e = let x = sym oldest.is ∙ e in cc
 
     -- the block is as queues hand it over
-    pub handed_for : IsWhole v.workspace.config.shape v.workspace.config.block_words b → IsHandedFor v.queues.key (next_export v.seat b)
-    handed_for whole =
+    pub handed_for : IsHandedFor v.queues.key (next_export v.seat b)
+    handed_for =
         subst (λ (key : CopiesKeyValue). IsHandedFor key (next_export v.seat b)) (sym k.key)
         (record {
-          whole = subst (λ c. IsWhole c.shape c.block_words (next_export v.seat b)) k.config (record { words = whole.words; destination = whole.destination; noted = whole.noted; front = whole.front });
+          whole = subst (λ c. IsWhole c.shape c.block_words (next_export v.seat b)) k.config (record { words = is_whole.words; destination = is_whole.destination; noted = is_whole.noted; front = is_whole.front });
           copies =
               handed_labelled v.heap.graph v.collection.generation v.heap.config.shape v.heap.config.block_words 0 (named shape b) (Some (v.seat.index, length v.seat.sent))
               (handed_alike v.heap.graph v.collection.generation v.heap.config.shape v.heap.config.block_words v.workers 0 (named shape b) handed);
@@ -127,6 +128,7 @@ module _ {C P A : Type 0} (fits : C → P → Type 0) (limit : C → ℕ) (known
     pub exported : (new : WorkspaceValue) (seat : QueueSeatValue A CopiesKeyValue) → IsSeatOf v.queues seat → seat ≡ after_export v.seat b → new.config ≡ v.workspace.config → new.worker ≡ after_aside (worker_of v) → IsSharing fits limit known won (handing seat new)
     exported new seat of s config worker =
         handing_is seat new of (ap (λ (x : QueueSeatValue A CopiesKeyValue). x.index) s) config
+        (subst IsQueued (sym s) (record { noted = each_more (λ (x : BlockValue). length x.origins ≡ length x.objects) v.seat.sent (next_export v.seat b) k.queued.noted is_whole.noted; rises = k.queued.rises }))
         (subst (λ x. HasWorked v.heap v.collection v.workers v.seat.index (known v.pass) (won v.pass) v.draws x new.worker) (sym s)
         (subst (HasWorked v.heap v.collection v.workers v.seat.index (known v.pass) (won v.pass) v.draws (after_export v.seat b)) (sym worker) exported_worked))
 
@@ -134,6 +136,7 @@ module _ {C P A : Type 0} (fits : C → P → Type 0) (limit : C → ℕ) (known
   pub stayed : (new : WorkspaceValue) (seat : QueueSeatValue A CopiesKeyValue) → IsSeatOf v.queues seat → seat.index ≡ v.seat.index → seat.sent ≡ v.seat.sent → seat.taken ≡ v.seat.taken → new.config ≡ v.workspace.config → new.worker ≡ worker_of v → IsSharing fits limit known won (handing seat new)
   stayed new seat of index sent taken config worker =
       handing_is seat new of index config
+      (record { noted = subst (Each (λ (x : BlockValue). length x.origins ≡ length x.objects)) (sym sent) k.queued.noted; rises = λ u. subst (λ bs. IsRising (positions_in u bs)) (sym taken) (k.queued.rises u) })
       (subst (HasWorked v.heap v.collection v.workers v.seat.index (known v.pass) (won v.pass) v.draws seat) (sym worker)
       (record {
         history = k.worked.history;
@@ -148,7 +151,8 @@ module _ {C P A : Type 0} (fits : C → P → Type 0) (limit : C → ℕ) (known
         taken = ap (map (named shape)) taken ∙ k.worked.taken;
       }))
 
-  module _ (free : IsFree (worker_of v)) (exporter : ℕ) (b : BlockValue) (label : b.sent ≡ Some (exporter, position_of b)) (fact : IsHandedFor v.queues.key b) (own : exporter ≡ v.seat.index → slice_get v.seat.sent (position_of b) ≡ Some b) where
+  module _ (free : IsFree (worker_of v)) (exporter : ℕ) (b : BlockValue) (label : b.sent ≡ Some (exporter, position_of b)) (fact : IsHandedFor v.queues.key b) (own : exporter ≡ v.seat.index → slice_get v.seat.sent (position_of b) ≡ Some b)
+      (above : All (λ (t : BlockValue). (p : ℕ) → t.sent ≡ Some (exporter, p) → p < position_of b) v.seat.taken) where
     handed : Handed (named shape b)
     handed =
         handed_alike v.heap.graph v.collection.generation v.heap.config.shape v.heap.config.block_words 0 v.workers (named shape b)
@@ -188,6 +192,7 @@ module _ {C P A : Type 0} (fits : C → P → Type 0) (limit : C → ℕ) (known
     pub took : (new : WorkspaceValue) (seat : QueueSeatValue A CopiesKeyValue) → IsSeatOf v.queues seat → seat ≡ after_take v.seat b → new.config ≡ v.workspace.config → new.worker ≡ after_take_of (worker_of v) (named v.workspace.config.shape b) → IsSharing fits limit known won (handing seat new)
     took new seat of s config worker =
         handing_is seat new of (ap (λ (x : QueueSeatValue A CopiesKeyValue). x.index) s) config
+        (subst IsQueued (sym s) (record { noted = k.queued.noted; rises = rises_more v.seat.taken b exporter (position_of b) label above k.queued.rises }))
         (subst (λ x. HasWorked v.heap v.collection v.workers v.seat.index (known v.pass) (won v.pass) v.draws x new.worker) (sym s)
         (subst (HasWorked v.heap v.collection v.workers v.seat.index (known v.pass) (won v.pass) v.draws (after_take v.seat b)) (sym (worker ∙ ap (λ c. after_take_of (worker_of v) (named c.shape b)) k.config)) took_worked))
 

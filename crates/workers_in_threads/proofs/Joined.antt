@@ -163,12 +163,12 @@ module _ {P A : Type 0} {known : P → ℕ → Option Place} {won : P → List (
   abbrev Seat : Type 0
   Seat = QueueSeatValue A CopiesKeyValue
 
-  delivered_each : Each (λ (r : ThreadValue P A). IsDelivered (seats_of rs) r.seat (slice_index_or all.lists r.seat.index [])) rs
+  pub delivered_each : Each (λ (r : ThreadValue P A). IsDelivered (seats_of rs) r.seat (slice_index_or all.lists r.seat.index [])) rs
   delivered_each =
       each_of_map (λ (r : ThreadValue P A). r.seat) (λ (s : Seat). IsDelivered (seats_of rs) s (slice_index_or all.lists s.index [])) rs
       (all_each (λ (s : Seat). IsDelivered (seats_of rs) s (slice_index_or all.lists s.index [])) (seats_of rs) all.delivered.each)
 
-  labels_each : Each (λ (r : ThreadValue P A). All (IsLabelledBelow (length (seats_of rs))) r.seat.taken) rs
+  pub labels_each : Each (λ (r : ThreadValue P A). All (IsLabelledBelow (length (seats_of rs))) r.seat.taken) rs
   labels_each =
       each_of_map (λ (r : ThreadValue P A). r.seat) (λ (s : Seat). All (IsLabelledBelow (length (seats_of rs))) s.taken) rs
       (all_each (λ (s : Seat). All (IsLabelledBelow (length (seats_of rs))) s.taken) (seats_of rs) all.delivered.labels)
@@ -225,7 +225,7 @@ module _ {P A : Type 0} {known : P → ℕ → Option Place} {won : P → List (
       )
 
   -- each export was taken once
-  deliveries_total : (u i : ℕ) → total (λ (p : Part). deliveries u i p.history.taken) parts ≡ sum_by (λ (s : Seat). times_at u i s.taken) (seats_of rs)
+  pub deliveries_total : (u i : ℕ) → total (λ (p : Part). deliveries u i p.history.taken) parts ≡ sum_by (λ (s : Seat). times_at u i s.taken) (seats_of rs)
   deliveries_total u i =
       total_parts known won heap c n (λ (p : Part). deliveries u i p.history.taken) (λ (r : ThreadValue P A). times_at u i r.seat.taken) (λ t r k. ap (deliveries u i) (sym k.worked.taken) ∙ delivered-is heap.config.shape u i r.seat.taken) 0 rs all.each
       ∙ sym (total-map (λ (r : ThreadValue P A). r.seat) (λ (s : Seat). times_at u i s.taken) rs)
@@ -254,7 +254,7 @@ module _ {P A : Type 0} {known : P → ℕ → Option Place} {won : P → List (
       within (y ∷ ys) zero x e = omega arith
       within (y ∷ ys) (suc i) x e = let l = within ys i x e in omega (arith, l)
 
-  joined : Joined (setting_for heap c n) (placed_in all) parts
+  pub joined : Joined (setting_for heap c n) (placed_in all) parts
   joined =
       record {
         runs = each_part known won heap c n (HasRun (setting_for heap c n)) HasEnded
@@ -288,7 +288,7 @@ module _ {P A : Type 0} {known : P → ℕ → Option Place} {won : P → List (
           (λ (ne : y ≢ x). (let none : one_if (nat_eq y x) ≡ 0 = ap one_if (ne_eqb y x ne) in member x ys h.1 (omega (arith, l, none))))
           (cases_eq y x)
 
-  brought : Brought heap.graph c.generation heap.config.shape heap.config.block_words n (placed_in all) parts
+  pub brought : Brought heap.graph c.generation heap.config.shape heap.config.block_words n (placed_in all) parts
   brought =
       record {
         joined = joined;
@@ -299,7 +299,7 @@ module _ {P A : Type 0} {known : P → ℕ → Option Place} {won : P → List (
         fresh = λ number offset some below. heap_empty heap all.ready.sound number offset (drawn_has number some) below;
       }
 
-  turns : (t : ℕ) (part : Part) → slice_get parts t ≡ Some part → TurnRun (setting_for heap c n) t part
+  pub turns : (t : ℕ) (part : Part) → slice_get parts t ≡ Some part → TurnRun (setting_for heap c n) t part
   turns t part there =
       let r = get-some rs t (let k = parts_length known won heap c n 0 rs all.each in let l = within parts t part there in omega (arith, l, k)) in
       let p = part_first known won heap c n rs all.each t r.0 r.1 in

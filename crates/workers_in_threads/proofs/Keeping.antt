@@ -57,6 +57,7 @@ module _ {C P A : Type 0} (fits : C → P → Type 0) (limit : C → ℕ) (known
         seat = k.seat;
         lanes = k.lanes;
         key = k.key;
+        queued = k.queued;
         worked = worked;
       })
     where
@@ -92,6 +93,7 @@ module _ {C P A : Type 0} (fits : C → P → Type 0) (limit : C → ℕ) (known
         seat = k.seat;
         lanes = k.lanes;
         key = k.key;
+        queued = k.queued;
         worked = subst (HasWorked v.heap v.collection v.workers v.seat.index (known v.pass) (won v.pass) v.draws v.seat) (sym worker) k.worked;
       }
 

@@ -8,6 +8,7 @@ pub mod Knowing
 pub mod Keeping
 pub mod Looked
 pub mod Raced
+pub mod Rising
 pub mod Handing
 pub mod Evacuation
 -- Lemmas on what workers on threads of their own bring together.
@@ -19,6 +20,11 @@ pub mod Settled
 pub mod Refused
 pub mod Bringing
 pub mod Crossing
-pub mod Gathering
+pub mod EachThread
+pub mod Endings
+pub mod Back
+pub mod Told
+pub mod Concluding
+pub mod Taking
 pub mod Places
 pub mod Promised

@@ -97,6 +97,7 @@ module _ {C P A : Type 0} (fits : C → P → Type 0) (limit : C → ℕ) (known
           seat = k.seat;
           lanes = k.lanes;
           key = k.key;
+          queued = k.queued;
           worked = worked;
         }
 

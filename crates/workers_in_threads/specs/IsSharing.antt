@@ -17,6 +17,7 @@ use Rattle.workers.specs.Ready.{IsHanded}
 use Rattle.scavenge.specs.Named.{named}
 use Rattle.scavenge.specs.Told.{IsNumberOf}
 use Rattle.scavenge.specs.ReadyToCollect.{IsReadyToCollect}
+use Rattle.workers_in_threads.specs.Queued.{IsQueued}
 use Rattle.workers_in_threads.specs.SharingValue.{SharingValue, setting_for, begins, stands_at, forwarded_in, labelled_from}
 
 -- the pass knows of that name, by its number, where it stands
@@ -52,4 +53,5 @@ module _ {C P A : Type 0} where
     pub seat : IsQueueSeat v.queues v.seat
     pub lanes : length v.queues.lanes ≡ v.workers
     pub key : v.queues.key ≡ record { heap = v.heap; generation = v.collection.generation }
+    pub queued : IsQueued v.seat
     pub worked : HasWorked v.heap v.collection v.workers v.seat.index (known v.pass) (won v.pass) v.draws v.seat v.workspace.worker

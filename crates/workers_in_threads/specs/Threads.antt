@@ -20,6 +20,7 @@ use Rattle.workers.specs.Kept.{Brought, Kept}
 use Rattle.workers.specs.Ordered.{Ordered, AreHandedOn, GoOn, ScanOwn}
 use Rattle.scavenge.specs.Shown.{WorkspaceValue}
 use Rattle.scavenge.specs.ReadyToCollect.{IsReadyToCollect}
+use Rattle.workers_in_threads.specs.Queued.{IsQueued}
 use Rattle.workers_in_threads.specs.SharingValue.{setting_for, begins, forwarded_in}
 use Rattle.workers_in_threads.specs.IsSharing.{HasWorked}
 
@@ -35,6 +36,7 @@ module _ {P A : Type 0} (known : P → ℕ → Option Place) (won : P → List (
   pub record IsThread (heap : HeapValue) (c : CollectionValue) (n t : ℕ) (r : ThreadValue P A) : Type 0 where
     pub index : r.seat.index ≡ t
     pub config : r.workspace.config ≡ heap.config
+    pub queued : IsQueued r.seat
     pub worked : HasWorked heap c n t (known r.pass) (won r.pass) r.draws r.seat r.workspace.worker
 
   -- they are workers t, t + 1, .. of n

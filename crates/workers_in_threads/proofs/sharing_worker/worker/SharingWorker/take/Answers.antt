@@ -1,4 +1,4 @@
-use Rattle.std.proofs.Common.{◌≡◌, Some, refl, sym, ap, subst, ◌∙◌}
+use Rattle.std.proofs.Common.{◌≡◌, ℕ, ◌<◌, All, Some, refl, sym, ap, subst, ◌∙◌}
 use Rattle.std.specs.Prelude.{IfSome, slice_get}
 use Rattle.std.specs.Option.{MatchOption}
 use Rattle.block_pool.specs.BlockValue.{BlockValue}
@@ -28,4 +28,5 @@ invariant_of-self-in-Some g c =
     (subst (λ o. IfSome o (λ (b : BlockValue). b.sent ≡ Some (c.args.exporter, position_of b))) c.in-Some.is c.in_ok-take.ensures.label)
     (subst (λ o. IfSome o (λ b. IsHandedFor c.self.inside.queues.now.key b)) c.in-Some.is c.in_ok-take.ensures.fact)
     (subst (λ o. IfSome o (λ b. c.args.exporter ≡ c.self.inside.seat.index → slice_get c.self.inside.seat.sent (position_of b) ≡ Some b)) c.in-Some.is c.in_ok-take.ensures.own)
+    (subst (λ o. IfSome o (λ (b : BlockValue). All (λ (t : BlockValue). (p : ℕ) → t.sent ≡ Some (c.args.exporter, p) → p < position_of b) c.self.inside.seat.taken)) c.in-Some.is c.in_ok-take.ensures.rises)
     c.taken.new.self c.take.new.seat c.take.ensures.of e (ap (λ (w : WorkspaceValue). w.config) c.taken.ensures) (ap (λ (w : WorkspaceValue). w.worker) c.taken.ensures)
