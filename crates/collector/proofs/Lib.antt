@@ -3,3 +3,5 @@
 pub mod SettleBrings
 pub mod SettleWhole
 mod Concluding
+-- Collections by threads.
+mod ByThreads

@@ -7,8 +7,10 @@ ghost use Rattle.steps.specs.SettledValue.{IsSettled};
 ghost use Rattle.scavenge.specs.ReadyToCollect.{IsReadyToCollect};
 ghost use Rattle.settling.specs.Collects.{CollectsAlone, ScansAlone, ScansOnce, IsShortOfBlocks};
 
+mod apart;
 mod serial_settling;
 
+pub use crate::apart::{CellKind, ThreadsError, collect};
 use crate::serial_settling::settle;
 use heap::{Collection, Heap, OpenError, Report, Settled};
 use one_worker::{SerialCollection, run_to_end};

@@ -1,0 +1,126 @@
+//! Gates that hold workers until others come.
+use crossbeam_utils::Backoff;
+use forwarding::{Gate, StepKind};
+use std::sync::atomic::{AtomicBool, AtomicU64, Ordering};
+
+/// How many turns a gate holds a worker at most.
+const TURNS: u32 = 10_000;
+
+/// How many yields a turn has.
+const YIELDS: u32 = 1_000;
+
+/// Waits until the flag is up, or for so many turns. Then it lets go, and raises `late`.
+fn wait_for(flag: &AtomicBool, late: &AtomicBool) {
+    let backoff = Backoff::new();
+    for _turn in 0..TURNS {
+        for _yield in 0..YIELDS {
+            if flag.load(Ordering::SeqCst) {
+                return;
+            }
+            backoff.snooze();
+        }
+    }
+    late.store(true, Ordering::SeqCst);
+}
+
+/// Holds each of two workers before its first race until the other one is there too.
+#[derive(Drop)]
+pub(crate) struct Meeting {
+    first: AtomicBool,
+    second: AtomicBool,
+    late: AtomicBool,
+    races: AtomicU64,
+}
+
+impl Meeting {
+    pub(crate) fn new() -> Meeting {
+        Meeting {
+            first: AtomicBool::new(false),
+            second: AtomicBool::new(false),
+            late: AtomicBool::new(false),
+            races: AtomicU64::new(0),
+        }
+    }
+
+    /// Whether both came, neither too late.
+    pub(crate) fn met(&self) -> bool {
+        self.first.load(Ordering::SeqCst)
+            && self.second.load(Ordering::SeqCst)
+            && !self.late.load(Ordering::SeqCst)
+    }
+
+    /// How many races there were.
+    pub(crate) fn races(&self) -> u64 {
+        self.races.load(Ordering::SeqCst)
+    }
+}
+
+impl Gate for Meeting {
+    fn before(&self, worker: u32, step: StepKind) {
+        if step != StepKind::Race {
+            return;
+        }
+        self.races.fetch_add(1, Ordering::SeqCst);
+        if worker == 0 {
+            self.first.store(true, Ordering::SeqCst);
+            wait_for(&self.second, &self.late);
+        } else {
+            self.second.store(true, Ordering::SeqCst);
+            wait_for(&self.first, &self.late);
+        }
+    }
+}
+
+/// Holds worker 0 before its first step after its first export until worker 1 comes to a look.
+#[derive(Drop)]
+pub(crate) struct Handover {
+    exported: AtomicBool,
+    held: AtomicBool,
+    looked: AtomicBool,
+    late: AtomicBool,
+    races: AtomicU64,
+}
+
+impl Handover {
+    pub(crate) fn new() -> Handover {
+        Handover {
+            exported: AtomicBool::new(false),
+            held: AtomicBool::new(false),
+            looked: AtomicBool::new(false),
+            late: AtomicBool::new(false),
+            races: AtomicU64::new(0),
+        }
+    }
+
+    /// Whether worker 0 was held and worker 1 came, not too late.
+    pub(crate) fn handed_over(&self) -> bool {
+        self.held.load(Ordering::SeqCst)
+            && self.looked.load(Ordering::SeqCst)
+            && !self.late.load(Ordering::SeqCst)
+    }
+
+    /// How many races there were.
+    pub(crate) fn races(&self) -> u64 {
+        self.races.load(Ordering::SeqCst)
+    }
+}
+
+impl Gate for Handover {
+    fn before(&self, worker: u32, step: StepKind) {
+        if step == StepKind::Race {
+            self.races.fetch_add(1, Ordering::SeqCst);
+        }
+        if worker == 1 {
+            if step == StepKind::Look {
+                self.looked.store(true, Ordering::SeqCst);
+            }
+            return;
+        }
+        if self.exported.load(Ordering::SeqCst) && !self.held.swap(true, Ordering::SeqCst) {
+            wait_for(&self.looked, &self.late);
+        }
+        if step == StepKind::Export {
+            self.exported.store(true, Ordering::SeqCst);
+        }
+    }
+}
