@@ -2,88 +2,133 @@
 use crate::heaps::{seen, wide_heap};
 use collector::{CellKind, ThreadsError, collect, collect_one};
 use forwarding::OpenGate;
-use std::alloc::AllocGlobal;
+use heap::Heap;
+use std::alloc::{AllocGlobal, Global};
 use std::process::Abort;
 use std::sync::Wait;
 use std::test::Fail;
 use std::thread::Threads;
 
-/// Whether so many threads leave of such a heap what one worker leaves.
-fn agrees<R: Threads + Wait + Sync + AllocGlobal>(
+/// How many objects a collection kept and freed, unless the heap was full, and what it left.
+#[derive(Drop, PartialEq)]
+struct Left {
+    counts: Option<(u64, u64)>,
+    text: Vec<u8>,
+}
+
+/// One worker collects. How many objects it kept and freed.
+fn alone(alloc: Global, heap: &mut Heap) -> Result<(u64, u64), Fail> {
+    let report = collect_one(alloc, heap, 0)?;
+    Ok((report.kept, report.freed))
+}
+
+/// So many threads collect. How many objects they kept and freed.
+fn together<R: Threads + Wait + Sync + AllocGlobal>(
     rt: &R,
-    objects: u32,
+    heap: &mut Heap,
     n: u32,
     kind: CellKind,
-) -> Result<bool, Fail> {
-    let (mut one, top) = wide_heap(rt.alloc(), objects, 200)?;
-    let (mut many, same_top) = wide_heap(rt.alloc(), objects, 200)?;
-    let alone = collect_one(rt.alloc(), &mut one, 0)?;
-    let report = collect(rt, rt.alloc(), &mut many, 0, n, kind, &OpenGate)?;
-    let counts = (report.kept, report.freed) == (alone.kept, alone.freed);
-    Ok(counts && seen(rt.alloc(), &one, top)? == seen(rt.alloc(), &many, same_top)?)
+) -> Result<Option<(u64, u64)>, Fail> {
+    match collect(rt, rt.alloc(), heap, 0, n, kind, &OpenGate) {
+        Ok(report) => Ok(Some((report.kept, report.freed))),
+        Err(ThreadsError::HeapFull) => Ok(None),
+        Err(error) => Err(Fail::from(error)),
+    }
+}
+
+/// What one worker leaves of such a heap.
+fn left_by_one(alloc: Global, objects: u32) -> Result<Left, Fail> {
+    let (mut heap, top) = wide_heap(alloc, objects, 200)?;
+    let counts = alone(alloc, &mut heap)?;
+    let text = seen(alloc, &heap, top)?;
+    Ok(Left {
+        counts: Some(counts),
+        text,
+    })
+}
+
+/// What so many threads leave of it, with so many blocks to spare.
+fn left_by_threads<R: Threads + Wait + Sync + AllocGlobal>(
+    rt: &R,
+    objects: u32,
+    spare: u64,
+    n: u32,
+    kind: CellKind,
+) -> Result<Left, Fail> {
+    let (mut heap, top) = wide_heap(rt.alloc(), objects, spare)?;
+    let counts = together(rt, &mut heap, n, kind)?;
+    let text = seen(rt.alloc(), &heap, top)?;
+    Ok(Left { counts, text })
+}
+
+/// What such a heap is before it is collected.
+fn left_by_none(alloc: Global, objects: u32, spare: u64) -> Result<Left, Fail> {
+    let (heap, top) = wide_heap(alloc, objects, spare)?;
+    let text = seen(alloc, &heap, top)?;
+    Ok(Left { counts: None, text })
+}
+
+/// Asserts that so many threads leave what one worker leaves, with both kinds of cells.
+fn assert_same<R: Threads + Wait + Sync + AllocGlobal + Abort>(
+    rt: &R,
+    n: u32,
+    objects: u32,
+) -> Result<(), Fail> {
+    let one = left_by_one(rt.alloc(), objects)?;
+    let words = left_by_threads(rt, objects, 200, n, CellKind::Word)?;
+    assert!(rt; words == one, "{n} workers over words, {objects} objects");
+    let boxes = left_by_threads(rt, objects, 200, n, CellKind::Box)?;
+    assert!(rt; boxes == one, "{n} workers over boxes, {objects} objects");
+    Ok(())
 }
 
 #[test]
 fn threads_leave_what_one_leaves(rt: HostRuntime) -> Result<(), Fail> {
-    for (n, objects) in [(1, 40), (2, 1), (2, 300), (3, 150), (4, 700), (16, 300)] {
-        for kind in [CellKind::Word, CellKind::Box] {
-            assert!(&rt;
-                agrees(&rt, objects, n, kind)?,
-                "{n} workers over {kind:?} cells, {objects} objects"
-            );
-        }
-    }
-    Ok(())
+    assert_same(&rt, 1, 40)?;
+    assert_same(&rt, 2, 1)?;
+    assert_same(&rt, 2, 300)?;
+    assert_same(&rt, 3, 150)?;
+    assert_same(&rt, 4, 700)?;
+    assert_same(&rt, 16, 300)
 }
 
-/// Whether so many threads with so few blocks to spare leave what one leaves, or find the heap full and leave it as it is.
+/// Whether two threads with so few blocks to spare leave what one leaves, or find the heap full and leave it as it is.
 fn agrees_or_full<R: Threads + Wait + Sync + AllocGlobal>(
     rt: &R,
     spare: u64,
     kind: CellKind,
-) -> Result<Option<bool>, Fail> {
-    let (mut heap, top) = wide_heap(rt.alloc(), 100, spare)?;
-    let before = seen(rt.alloc(), &heap, top)?;
-    let refused = collect(rt, rt.alloc(), &mut heap, 0, 2, kind, &OpenGate);
-    let after = seen(rt.alloc(), &heap, top)?;
-    match refused {
-        Ok(report) => {
-            let (mut one, same_top) = wide_heap(rt.alloc(), 100, 200)?;
-            let alone = collect_one(rt.alloc(), &mut one, 0)?;
-            let counts = (report.kept, report.freed) == (alone.kept, alone.freed);
-            Ok(Some(counts && after == seen(rt.alloc(), &one, same_top)?))
-        }
-        Err(ThreadsError::HeapFull) if after == before => Ok(None),
-        Err(_) => Ok(Some(false)),
-    }
+) -> Result<bool, Fail> {
+    let left = left_by_threads(rt, 100, spare, 2, kind)?;
+    let wanted = match left.counts {
+        Some(_) => left_by_one(rt.alloc(), 100)?,
+        None => left_by_none(rt.alloc(), 100, spare)?,
+    };
+    Ok(left == wanted)
 }
 
 #[test]
 fn with_few_blocks(rt: HostRuntime) -> Result<(), Fail> {
-    for kind in [CellKind::Word, CellKind::Box] {
-        assert!(&rt; agrees_or_full(&rt, 0, kind)?.is_none(), "no block is free");
-        for spare in 1..14 {
-            assert!(&rt;
-                agrees_or_full(&rt, spare, kind)? != Some(false),
-                "{spare} blocks"
-            );
-        }
+    for spare in 0..15 {
         assert!(&rt;
-            agrees_or_full(&rt, 14, kind)? == Some(true),
-            "enough blocks"
+            agrees_or_full(&rt, spare, CellKind::Word)?,
+            "words, {spare} blocks"
+        );
+        assert!(&rt;
+            agrees_or_full(&rt, spare, CellKind::Box)?,
+            "boxes, {spare} blocks"
         );
     }
     Ok(())
 }
 
-/// What a collection of an empty heap answers.
+/// What a collection of a heap of one object answers.
 fn answer<R: Threads + Wait + Sync + AllocGlobal>(
     rt: &R,
     generation: u64,
     n: u32,
 ) -> Result<Option<ThreadsError>, Fail> {
     let (mut heap, _top) = wide_heap(rt.alloc(), 1, 2)?;
-    Ok(collect(
+    match collect(
         rt,
         rt.alloc(),
         &mut heap,
@@ -91,26 +136,20 @@ fn answer<R: Threads + Wait + Sync + AllocGlobal>(
         n,
         CellKind::Word,
         &OpenGate,
-    )
-    .err())
+    ) {
+        Ok(_) => Ok(None),
+        Err(error) => Ok(Some(error)),
+    }
 }
 
 #[test]
 fn refused_by_numbers(rt: HostRuntime) -> Result<(), Fail> {
-    for (generation, n, refusal) in [
-        (0, 0, Some(ThreadsError::BadConfig)),
-        (1, 0, Some(ThreadsError::BadConfig)),
-        (0, 17, Some(ThreadsError::BadConfig)),
-        (1, 1, Some(ThreadsError::NoGeneration)),
-        (1, 16, Some(ThreadsError::NoGeneration)),
-        (0, 1, None),
-        (0, 16, None),
-    ] {
-        assert_eq!(&rt;
-            answer(&rt, generation, n)?,
-            refusal,
-            "generation {generation}, {n} workers"
-        );
-    }
+    assert_eq!(&rt; answer(&rt, 0, 0)?, Some(ThreadsError::BadConfig));
+    assert_eq!(&rt; answer(&rt, 1, 0)?, Some(ThreadsError::BadConfig));
+    assert_eq!(&rt; answer(&rt, 0, 17)?, Some(ThreadsError::BadConfig));
+    assert_eq!(&rt; answer(&rt, 1, 1)?, Some(ThreadsError::NoGeneration));
+    assert_eq!(&rt; answer(&rt, 1, 16)?, Some(ThreadsError::NoGeneration));
+    assert_eq!(&rt; answer(&rt, 0, 1)?, None);
+    assert_eq!(&rt; answer(&rt, 0, 16)?, None);
     Ok(())
 }

@@ -17,73 +17,114 @@ fn won_by(report: &Report, t: usize) -> u64 {
     }
 }
 
-/// Two workers start with an object each. Whether they met before their first races, and each won one.
-fn meet<R: Threads + Wait + Sync + AllocGlobal>(rt: &R, kind: CellKind) -> Result<bool, Fail> {
-    let mut heap = heap_of(rt.alloc(), Sizes::default())?;
+/// A heap with two objects, each with a root.
+fn two_objects(alloc: Global) -> Result<Heap, Fail> {
+    let mut heap = heap_of(alloc, Sizes::default())?;
     let _first = heap.allocate(0, 0, 0)?;
     let _second = heap.allocate(0, 0, 0)?;
+    Ok(heap)
+}
+
+/// How many objects each of two workers won, who meet before their first races.
+fn won_at_meeting<R: Threads + Wait + Sync + AllocGlobal>(
+    rt: &R,
+    kind: CellKind,
+    gate: &Meeting,
+) -> Result<(u64, u64), Fail> {
+    let mut heap = two_objects(rt.alloc())?;
+    let report = collect(rt, rt.alloc(), &mut heap, 0, 2, kind, gate)?;
+    Ok((won_by(&report, 0), won_by(&report, 1)))
+}
+
+/// Whether two workers with an object each met before their first races, and each won one.
+fn meet<R: Threads + Wait + Sync + AllocGlobal>(rt: &R, kind: CellKind) -> Result<bool, Fail> {
     let gate = Meeting::new();
-    let report = collect(rt, rt.alloc(), &mut heap, 0, 2, kind, &gate)?;
-    Ok(gate.met() && gate.races() == 2 && won_by(&report, 0) == 1 && won_by(&report, 1) == 1)
+    let won = won_at_meeting(rt, kind, &gate)?;
+    Ok(gate.met() && gate.races() == 2 && won == (1, 1))
 }
 
 #[test]
 fn two_workers_meet(rt: HostRuntime) -> Result<(), Fail> {
-    for kind in [CellKind::Word, CellKind::Box] {
-        assert!(&rt; meet(&rt, kind)?, "{kind:?} cells");
-    }
+    assert!(&rt; meet(&rt, CellKind::Word)?, "words");
+    assert!(&rt; meet(&rt, CellKind::Box)?, "boxes");
+    Ok(())
+}
+
+/// One field more of the large object leads to an object that leads back.
+fn add_spoke(heap: &mut Heap, large: RootId, field: u64) -> Result<(), Fail> {
+    let object = heap.allocate(0, 1, 2)?;
+    heap.put(object, 0, field)?;
+    heap.store(object, 0, Some(large))?;
+    heap.store(large, field, Some(object))?;
+    heap.release(object)?;
     Ok(())
 }
 
 /// A large object with 13 fields, each of which leads to an object that leads back.
 fn ring(alloc: Global) -> Result<(Heap, RootId), Fail> {
-    let mut heap = heap_of(
-        alloc,
-        Sizes {
-            block_words: 16,
-            ..Sizes::default()
-        },
-    )?;
+    let sizes = Sizes {
+        block_words: 16,
+        ..Sizes::default()
+    };
+    let mut heap = heap_of(alloc, sizes)?;
     let large = heap.allocate(0, 13, 0)?;
     for field in 0..13 {
-        let object = heap.allocate(0, 1, 2)?;
-        heap.put(object, 0, field)?;
-        heap.store(object, 0, Some(large))?;
-        heap.store(large, field, Some(object))?;
-        heap.release(object)?;
+        add_spoke(&mut heap, large, field)?;
     }
     Ok((heap, large))
 }
 
 /// Whether a delivery of worker 0 names worker 1 as its taker.
 fn handed_to_the_other(report: &Report) -> bool {
-    report
-        .deliveries
-        .iter()
-        .any(|delivery| delivery.exporter == 0 && delivery.taker == 1)
+    for delivery in report.deliveries.iter() {
+        if delivery.exporter == 0 && delivery.taker == 1 {
+            return true;
+        }
+    }
+    false
 }
 
-/// Worker 0 alone has a slot. Whether worker 1 took a block of it, and all is as one worker leaves it.
-fn share<R: Threads + Wait + Sync + AllocGlobal>(rt: &R, kind: CellKind) -> Result<bool, Fail> {
-    let (mut heap, large) = ring(rt.alloc())?;
-    let (mut one, same_large) = ring(rt.alloc())?;
-    let _alone = collect_one(rt.alloc(), &mut one, 0)?;
-    let gate = Handover::new();
-    let report = collect(rt, rt.alloc(), &mut heap, 0, 2, kind, &gate)?;
+/// Collects by two workers at the gate. How many objects they won, and whether worker 1 took a block of worker 0.
+fn handed<R: Threads + Wait + Sync + AllocGlobal>(
+    rt: &R,
+    heap: &mut Heap,
+    kind: CellKind,
+    gate: &Handover,
+) -> Result<(u64, bool), Fail> {
+    let report = collect(rt, rt.alloc(), heap, 0, 2, kind, gate)?;
     let won = won_by(&report, 0).saturating_add(won_by(&report, 1));
-    Ok(
-        gate.handed_over()
-            && handed_to_the_other(&report)
-            && won == 14
-            && won <= gate.races()
-            && seen(rt.alloc(), &one, same_large)? == seen(rt.alloc(), &heap, large)?,
-    )
+    Ok((won, handed_to_the_other(&report)))
+}
+
+/// What one worker leaves of the ring.
+fn left_by_one(alloc: Global) -> Result<Vec<u8>, Fail> {
+    let (mut heap, large) = ring(alloc)?;
+    let _report = collect_one(alloc, &mut heap, 0)?;
+    seen(alloc, &heap, large)
+}
+
+/// What two workers leave of it, of whom worker 0 alone has a slot; how many objects they won, and whether worker 1 took a block.
+fn left_by_two<R: Threads + Wait + Sync + AllocGlobal>(
+    rt: &R,
+    kind: CellKind,
+    gate: &Handover,
+) -> Result<(Vec<u8>, (u64, bool)), Fail> {
+    let (mut heap, large) = ring(rt.alloc())?;
+    let found = handed(rt, &mut heap, kind, gate)?;
+    Ok((seen(rt.alloc(), &heap, large)?, found))
+}
+
+/// Whether worker 1 took a block of worker 0, and all is as one worker leaves it.
+fn share<R: Threads + Wait + Sync + AllocGlobal>(rt: &R, kind: CellKind) -> Result<bool, Fail> {
+    let gate = Handover::new();
+    let (text, found) = left_by_two(rt, kind, &gate)?;
+    let same = text == left_by_one(rt.alloc())?;
+    Ok(same && found == (14, true) && gate.handed_over() && gate.races() >= 14)
 }
 
 #[test]
 fn blocks_change_hands(rt: HostRuntime) -> Result<(), Fail> {
-    for kind in [CellKind::Word, CellKind::Box] {
-        assert!(&rt; share(&rt, kind)?, "{kind:?} cells");
-    }
+    assert!(&rt; share(&rt, CellKind::Word)?, "words");
+    assert!(&rt; share(&rt, CellKind::Box)?, "boxes");
     Ok(())
 }
