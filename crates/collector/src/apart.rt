@@ -43,7 +43,7 @@ pub enum ThreadsError {
     #[error("no memory")]
     NoMemory,
     /// A boxed cell showed a place that no worker won.
-    #[error("a place is known that no worker won")]
+    #[error("cells unsettled")]
     Unsettled,
 }
 

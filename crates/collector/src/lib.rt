@@ -8,9 +8,11 @@ ghost use Rattle.scavenge.specs.ReadyToCollect.{IsReadyToCollect};
 ghost use Rattle.settling.specs.Collects.{CollectsAlone, ScansAlone, ScansOnce, IsShortOfBlocks};
 
 mod apart;
+mod crew;
 mod serial_settling;
 
 pub use crate::apart::{CellKind, ThreadsError, collect};
+pub use crate::crew::Crew;
 use crate::serial_settling::settle;
 use heap::{Collection, Heap, OpenError, Report, Settled};
 use one_worker::{SerialCollection, run_to_end};
