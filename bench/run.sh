@@ -12,6 +12,7 @@
 #   run.sh large            the collections of large objects alone
 #   run.sh events [NODES]   the collections as events of four workers alone
 #   run.sh names [NAMES]    the lines with many names alone
+#   run.sh threads [NODES]  collections by 1, 2 and 4 threads, on all processors, beside GHC's; no part of the rest
 set -eu
 here=$(cd "$(dirname "$0")" && pwd)
 work=$(mktemp -d)
@@ -31,7 +32,7 @@ if command -v rustc > /dev/null; then
 fi
 ghc=''
 if command -v ghc > /dev/null; then
-  ghc -O -outputdir "$work" -o "$work/live_tree" "$here/live_tree.hs" > /dev/null
+  ghc -O -threaded -rtsopts -outputdir "$work" -o "$work/live_tree" "$here/live_tree.hs" > /dev/null
   ghc=$work/live_tree
 fi
 
@@ -53,7 +54,8 @@ seconds() {
 gctrace() { "$program" run --generations "$generations" --nursery 64 --blocks "$blocks" < "$1"; }
 events() { "$program" replay --threads 4 --generations "$generations" --nursery 64 --blocks "$blocks" < "$1"; }
 beside() { "$plain" "$blocks" "$generations" < "$1"; }
-export -f gctrace events beside
+threaded() { "$program" run --threads "$threads" --cells "$cells" --generations "$generations" --nursery 64 --blocks "$blocks" < "$1"; }
+export -f gctrace events beside threaded
 export program plain blocks generations
 
 measure() { seconds bash -c "$1 \"\$1\"" measure "$2"; }
@@ -76,17 +78,18 @@ copies() {
     print "" }'
 }
 
-# live_rate PROGRAM NODES COLLECTIONS: millions of objects a second in the last collections of a trace, by when the lines of
-# these are written
-live_rate() {
-  taskset -c 0 bash -c "$1 \"\$1\"" live "$work/all" | while read -r line; do echo "$EPOCHREALTIME $line"; done | awk -v nodes="$2" -v collections="$3" '
+# last_rate PROCESSORS PROGRAM NODES COLLECTIONS: millions of objects a second in the last collections of a trace, by when the
+# lines of these are written
+last_rate() {
+  taskset -c "$1" bash -c "$2 \"\$1\"" live "$work/all" | while read -r line; do echo "$EPOCHREALTIME $line"; done | awk -v nodes="$3" -v collections="$4" '
     $2 == "collected" { ends[++count] = $1 }
     END { printf "%.2f", nodes * collections / (ends[count] - ends[count - collections]) / 1e6 }'
 }
+live_rate() { last_rate 0 "$@"; }
 
-# ghc_rate NODES COLLECTIONS: the best of five runs
+# ghc_rate PROCESSORS SHAPE NODES COLLECTIONS THREADS: the best of five runs
 ghc_rate() {
-  for _ in 1 2 3 4 5; do taskset -c 0 "$ghc" "$1" "$2"; done | awk '$1 > best { best = $1 } END { printf "%.2f", best / 1e6 }'
+  for _ in 1 2 3 4 5; do taskset -c "$1" "$ghc" "$2" "$3" "$4" +RTS "-N$5"; done | awk '$1 > best { best = $1 } END { printf "%.2f", best / 1e6 }'
 }
 
 # live NODES COLLECTIONS
@@ -95,13 +98,31 @@ live() {
   "$here/traces.sh" tree "$1" "$2" > "$work/all"
   own=$(live_rate gctrace "$1" "$2")
   [ -n "$plain" ] && other=$(live_rate beside "$1" "$2")
-  [ -n "$ghc" ] && theirs=$(ghc_rate "$1" "$2")
+  [ -n "$ghc" ] && theirs=$(ghc_rate 0 tree "$1" "$2" 1)
   awk -v nodes="$1" -v own="$own" -v other="$other" -v theirs="$theirs" 'BEGIN {
     printf "live tree of %d nodes: %.2f million objects a second", nodes, own
     if (other != "") printf "; plain %.2f, so %.2f of it", other, own / other
     if (theirs != "") printf "; ghc %.2f, so %.2f of it", theirs, own / theirs
     else printf "; no ghc here to compare with"
     print "" }'
+}
+
+# by_threads SHAPE OBJECTS COLLECTIONS: objects a second by 1, 2 and 4 threads over word cells, and by 4 over boxed ones
+by_threads() {
+  local all first='' own theirs
+  all=0-$(($(nproc --all) - 1))
+  "$here/traces.sh" "$1" "$2" "$3" > "$work/all"
+  for run in 1:word 2:word 4:word 4:box; do
+    own=$(threads=${run%:*} cells=${run#*:} last_rate "$all" threaded "$2" "$3")
+    theirs=''
+    [ -n "$ghc" ] && [ "$run" != 4:box ] && theirs=$(ghc_rate "$all" "$1" "$2" "$3" "${run%:*}")
+    [ -z "$first" ] && first=$own
+    awk -v name="$1" -v objects="$2" -v run="$run" -v own="$own" -v first="$first" -v theirs="$theirs" 'BEGIN {
+      split(run, of, ":")
+      printf "%s of %d objects, %d threads, %s cells: %.2f million objects a second, %.2f times one thread", name, objects, of[1], of[2], own, own / first
+      if (theirs != "") printf "; ghc %.2f", theirs
+      print "" }'
+  done
 }
 
 # each PROGRAM COLLECTIONS: microseconds for a collection, by the time that the collections add
@@ -221,6 +242,7 @@ case "${1:-}" in
   young) collections_of_little "${2:-100000}"; exit ;;
   large) collections_of_large; exit ;;
   events) collections_by_events "${2:-100000}" 20; exit ;;
+  threads) for shape in tree wide list; do by_threads "$shape" "${2:-2000000}" 20; done; exit ;;
   names) if [ $# -gt 1 ]; then puts "$2"; else lines_by_names; fi; exit ;;
 esac
 

@@ -3,6 +3,8 @@
 #   traces.sh graph [OBJECTS] [COLLECTIONS]   objects of 4 words that share and form cycles, all reached from one name, collected again and again
 #   traces.sh tree [NODES] [COLLECTIONS]      a binary tree of such objects, reached from its root
 #   traces.sh mixed [NODES] [COLLECTIONS]     the same tree, laid out in random order by a name for each node, in that order
+#   traces.sh wide [OBJECTS] [COLLECTIONS]    so many such objects with a name each, that lead to two earlier ones in random order
+#   traces.sh list [OBJECTS] [COLLECTIONS]    a list of objects of one pointer and one word, reached from its end
 #   traces.sh young [OBJECTS] [COLLECTIONS] [gone]   such a tree in random order, which has become old, reached from one name (gone: freed then);
 #                                             and ten objects made before each collection of the young and dropped after it
 #   traces.sh members young|old [MEMBERS] [ROUNDS]   old objects with names, whose pointers are made to lead to a young object (old: to
@@ -35,6 +37,31 @@ tree() {
       if (i % 2 == 0 && parent > 0) printf "drop n%d\n", parent
     }
     for (i = int(nodes / 2); i < nodes; i++) if (i > 0) printf "drop n%d\n", i
+    for (i = 0; i < collections; i++) print "collect 0"
+    print "census"
+  }'
+}
+
+wide() {
+  awk -v objects="$1" -v collections="$2" 'BEGIN {
+    srand(1)
+    for (i = 0; i < objects; i++) {
+      if (i > 0 && i % 8000 == 0) print "collect 0"
+      printf "new n%d 0 2 1\n", i
+      if (i > 0) printf "set n%d 0 n%d\nset n%d 1 n%d\n", i, int(rand() * i), i, int(rand() * i)
+    }
+    for (i = 0; i < collections; i++) print "collect 0"
+    print "census"
+  }'
+}
+
+list() {
+  awk -v objects="$1" -v collections="$2" 'BEGIN {
+    for (i = 0; i < objects; i++) {
+      if (i > 0 && i % 8000 == 0) print "collect 0"
+      printf "new n%d 0 1 1\n", i
+      if (i > 0) printf "set n%d 0 n%d\ndrop n%d\n", i, i - 1, i - 1
+    }
     for (i = 0; i < collections; i++) print "collect 0"
     print "census"
   }'
@@ -148,6 +175,8 @@ case "${1:-}" in
   graph) graph "${2:-8000}" "${3:-1000}" ;;
   tree) tree "${2:-80000}" "${3:-100}" ;;
   mixed) mixed "${2:-80000}" "${3:-100}" ;;
+  wide) wide "${2:-500000}" "${3:-20}" ;;
+  list) list "${2:-500000}" "${3:-20}" ;;
   young) young "${2:-100000}" "${3:-20000}" "${4:-}" ;;
   members) members "${2:-young}" "${3:-1000}" "${4:-200}" ;;
   stores) stores "${2:-young}" "${3:-1000000}" ;;
@@ -155,5 +184,5 @@ case "${1:-}" in
   empty) empty "${2:-20000}" ;;
   large) large "${2:-100001}" "${3:-1000}" ;;
   commands) commands "${2:-100}" ;;
-  *) sed -n '2,15s/^# //p' "$0" >&2; exit 2 ;;
+  *) sed -n '2,17s/^# //p' "$0" >&2; exit 2 ;;
 esac

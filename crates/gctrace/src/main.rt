@@ -57,12 +57,6 @@ fn main(rt: HostRuntime) -> ExitCode {
         inner: rt.stderr(),
         failed_writes: 0,
     };
-    let status = main_with(
-        rt.alloc(),
-        words.as_slice(),
-        &mut reader,
-        &mut writer,
-        &mut errors,
-    );
+    let status = main_with(&rt, words.as_slice(), &mut reader, &mut writer, &mut errors);
     ExitCode::from(status)
 }

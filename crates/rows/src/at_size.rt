@@ -271,5 +271,5 @@ fn three_collections_at_size(rt: HostRuntime) -> Result<(), AllocError> {
     let trace = trace_of(rt.alloc())?;
     let output = output_of(rt.alloc())?;
     let words = "gctrace run --generations=1 --nursery=64";
-    assert_output(&rt, rt.alloc(), words, trace.as_str(), output.as_str())
+    assert_output(&rt, words, trace.as_str(), output.as_str())
 }

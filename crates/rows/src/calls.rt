@@ -2,12 +2,13 @@
 ghost use Rattle.std.specs.Prelude.{◌≡◌, IfOk};
 
 use crate::program::{FIRST_OUTPUT, FIRST_TRACE, text_of};
+use forwarding::OpenGate;
 use heap::{BadConfig, Config, Sizes};
 use heap_text::{Cause, Counted, write_collection};
 use std::alloc::{AllocError, Global};
 use std::process::Abort;
 use std::test::Fail;
-use trace_driver::{CountedReader, Fault, RunConfig, run, run_one};
+use trace_driver::{CellKind, CountedReader, Fault, RunConfig, run, run_one};
 use trace_text::{Kind, ScheduleKind};
 
 /// One block of 16 words for the nursery, and one more.
@@ -22,7 +23,7 @@ fn two_blocks() -> Result<RunConfig, BadConfig>
         generations: 1,
         steps: 1,
     })?;
-    RunConfig::new(config, 1)
+    RunConfig::new(config, 1, CellKind::Word)
 }
 
 const TWO_LINES: &str = "collected 3: 18446744073709551615 kept, 10 freed
@@ -59,7 +60,7 @@ fn sixteen_blocks(workers: u64) -> Result<RunConfig, BadConfig>
         generations: 1,
         steps: 2,
     })?;
-    RunConfig::new(config, workers)
+    RunConfig::new(config, workers, CellKind::Word)
 }
 
 #[test]
@@ -78,7 +79,7 @@ fn run_without_words(rt: HostRuntime) -> Result<(), Fail> {
         inner: Vec::new(rt.alloc()),
         failed_writes: 0,
     };
-    let result = run(rt.alloc(), &mut reader, &mut writer, config);
+    let result = run(&rt, rt.alloc(), &mut reader, &mut writer, config, &OpenGate);
     let written = text_of(writer.inner.as_slice());
     assert_eq!(rt; (result, written), (Ok(()), FIRST_OUTPUT));
     Ok(())
@@ -103,6 +104,7 @@ fn faults_as_text(rt: HostRuntime) -> Result<(), AllocError> {
     for (fault, told, status) in [
         (Fault::HeapFull(Some(6)), "line 6: heap full", 1),
         (Fault::NoMemory(None), "no memory", 1),
+        (Fault::Unsettled(7), "line 7: cells unsettled", 1),
         (
             Fault::BadTrace(5, Kind::NoGeneration),
             "line 5: no such generation",

@@ -315,24 +315,25 @@ Carries out a trace. A nursery that is full is collected by itself.
 Usage: gctrace run [OPTIONS]
 
 Options:
-      --threads <NUMBER>      Workers of a collection: 1 [default: 1]
+      --threads <NUMBER>      Workers of a collection, each on a thread: 1 to 16 [default: 1]
       --mutators <NUMBER>     Mutators: 1 to 16 [default: 1]
       --generations <NUMBER>  Generations: 1 to 4 [default: 2]
       --steps <NUMBER>        Steps of each generation but the oldest: 1 to 4 [default: 2]
       --block-words <NUMBER>  Words of a block: 16 to 512, a multiple of 4 [default: 512]
       --nursery <NUMBER>      Blocks of each mutator's nursery: 1 to 64 [default: 4]
       --blocks <NUMBER>       Blocks in all: 1 to 65535 [default: 4096]
-      --cells <KIND>          Kind of forwarding cells, which changes nothing yet [default: box] [possible values: box]
+      --cells <KIND>          Kind of forwarding cells that threads share [default: word] [possible values: box, word]
   -h, --help                  Print help
 
 Examples:
   gctrace run < trace
   gctrace run --generations 1 --block-words 64 --blocks 100 < trace
+  gctrace run --threads 4 --cells box < trace
   gctrace replay --threads 2 < trace-with-schedules
 
 Status:
   0  each line was carried out
-  1  the heap is full, or memory is wanting
+  1  the heap is full, memory is wanting, or cells are not settled
   2  a line is faulty
   3  the words are mistaken, or an option is out of range
   4  a read or a write failed

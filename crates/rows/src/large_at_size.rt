@@ -139,5 +139,5 @@ fn two_hundred_large_objects(rt: HostRuntime) -> Result<(), AllocError> {
     let trace = trace_of(rt.alloc())?;
     let output = heap_of(rt.alloc())?;
     let words = "gctrace run --block-words 64 --nursery 64";
-    assert_output(&rt, rt.alloc(), words, trace.as_str(), output.as_str())
+    assert_output(&rt, words, trace.as_str(), output.as_str())
 }

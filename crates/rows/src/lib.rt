@@ -50,6 +50,8 @@ mod streams;
 #[cfg(test)]
 mod table;
 #[cfg(test)]
+mod tree;
+#[cfg(test)]
 mod walked;
 #[cfg(test)]
 mod worked;

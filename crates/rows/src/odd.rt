@@ -1,7 +1,9 @@
 //! Worked runs that no text of rows holds: lines with other ends, or none, and many words for one trace.
 use crate::program::{FIRST_OUTPUT, FIRST_TRACE, Left, assert_run, ran};
-use std::alloc::{AllocError, Global};
+use std::alloc::{AllocError, AllocGlobal};
 use std::process::Abort;
+use std::sync::Wait;
+use std::thread::Threads;
 
 /// A run that ends well.
 fn done(writes: &'static str) -> Left<'static> {
@@ -24,14 +26,13 @@ fn stopped(status: u8, tells: &'static str) -> Left<'static> {
 const ONE_GENERATION: &str = "gctrace run --generations 1";
 
 /// Asserts what a run leaves whose name is its command line.
-fn assert_words(
-    rt: &impl Abort,
-    alloc: Global,
+fn assert_words<R: Threads + Wait + Sync + AllocGlobal + Abort>(
+    rt: &R,
     words: &str,
     input: &[u8],
     left: Left<'_>,
 ) -> Result<(), AllocError> {
-    assert_run(rt, alloc, words, words, input, left)
+    assert_run(rt, words, words, input, left)
 }
 
 #[test]
@@ -53,7 +54,7 @@ fn line_ends(rt: HostRuntime) -> Result<(), AllocError> {
             done("collected 0: 1 kept, 0 freed\n"),
         ),
     ] {
-        assert_words(&rt, rt.alloc(), words, input, left)?;
+        assert_words(&rt, words, input, left)?;
     }
     Ok(())
 }
@@ -72,7 +73,7 @@ fn lines_without_an_end(rt: HostRuntime) -> Result<(), AllocError> {
             second,
         ),
     ] {
-        assert_words(&rt, rt.alloc(), words, input.as_bytes(), left)?;
+        assert_words(&rt, words, input.as_bytes(), left)?;
     }
     Ok(())
 }
@@ -81,14 +82,14 @@ fn lines_without_an_end(rt: HostRuntime) -> Result<(), AllocError> {
 fn long_lines(rt: HostRuntime) -> Result<(), AllocError> {
     let too_long = stopped(2, "gctrace: line 1: line too long\n");
     let mut line = [b'#'; 4098];
-    assert_words(&rt, rt.alloc(), ONE_GENERATION, &line, too_long)?;
+    assert_words(&rt, ONE_GENERATION, &line, too_long)?;
     line[4097] = b'\n';
-    assert_words(&rt, rt.alloc(), ONE_GENERATION, &line, too_long)?;
+    assert_words(&rt, ONE_GENERATION, &line, too_long)?;
     line[4096] = b'\r';
-    assert_words(&rt, rt.alloc(), ONE_GENERATION, &line, too_long)?;
+    assert_words(&rt, ONE_GENERATION, &line, too_long)?;
     line[4096] = b'\n';
     line[4095] = b'\r';
-    assert_words(&rt, rt.alloc(), ONE_GENERATION, &line, done(""))
+    assert_words(&rt, ONE_GENERATION, &line, done(""))
 }
 
 /// Command lines with a number out of its range.
@@ -104,14 +105,14 @@ gctrace run --generations=1 --nursery=65
 gctrace run --generations=1 --steps=0
 gctrace run --generations=1 --steps=5
 gctrace run --generations=1 --threads=0
-gctrace run --generations=1 --threads=2
+gctrace run --generations=1 --threads=17
 ";
 
 #[test]
 fn numbers_out_of_range(rt: HostRuntime) -> Result<(), AllocError> {
     let left = stopped(3, "gctrace: bad configuration\n");
     for words in OUT_OF_RANGE.lines() {
-        assert_words(&rt, rt.alloc(), words, b"new\n", left)?;
+        assert_words(&rt, words, b"new\n", left)?;
     }
     Ok(())
 }
@@ -129,18 +130,15 @@ gctrace run --generations=1 --steps=1
 gctrace run --generations=1 --steps=4
 gctrace run --generations=1 --threads=+01
 gctrace run --generations=1 --cells=box
+gctrace run --generations=1 --cells=word
+gctrace run --generations=1 --threads=2
+gctrace run --generations=1 --threads=16 --cells=box
 ";
 
 #[test]
 fn numbers_in_range(rt: HostRuntime) -> Result<(), AllocError> {
     for words in IN_RANGE.lines() {
-        assert_words(
-            &rt,
-            rt.alloc(),
-            words,
-            FIRST_TRACE.as_bytes(),
-            done(FIRST_OUTPUT),
-        )?;
+        assert_words(&rt, words, FIRST_TRACE.as_bytes(), done(FIRST_OUTPUT))?;
     }
     Ok(())
 }
@@ -148,8 +146,8 @@ fn numbers_in_range(rt: HostRuntime) -> Result<(), AllocError> {
 /// The status of a run, and whether it writes and tells nothing.
 type End = (u8, bool, bool);
 
-fn end_of(alloc: Global, words: &str) -> Result<End, AllocError> {
-    let ended = ran(alloc, words, b"new\n")?;
+fn end_of<R: Threads + Wait + Sync + AllocGlobal>(rt: &R, words: &str) -> Result<End, AllocError> {
+    let ended = ran(rt, words, b"new\n")?;
     Ok((
         ended.status,
         ended.output.is_empty(),
@@ -158,9 +156,13 @@ fn end_of(alloc: Global, words: &str) -> Result<End, AllocError> {
 }
 
 /// Asserts that the run of each of these command lines ends so.
-fn assert_ends(rt: &impl Abort, alloc: Global, lines: &str, wanted: End) -> Result<(), AllocError> {
+fn assert_ends<R: Threads + Wait + Sync + AllocGlobal + Abort>(
+    rt: &R,
+    lines: &str,
+    wanted: End,
+) -> Result<(), AllocError> {
     for words in lines.lines() {
-        let end = end_of(alloc, words)?;
+        let end = end_of(rt, words)?;
         assert_eq!(rt; end, wanted, "{words}");
     }
     Ok(())
@@ -174,7 +176,7 @@ gctrace replay --threads=x
 gctrace run --threads=x
 gctrace run --threads=-1
 gctrace run --blocks=18446744073709551616
-gctrace run --cells=word
+gctrace run --cells=words
 gctrace run --steps
 gctrace run trace
 ";
@@ -188,6 +190,6 @@ gctrace run --steps 3 --help --blocks 9
 
 #[test]
 fn mistakes_and_help(rt: HostRuntime) -> Result<(), AllocError> {
-    assert_ends(&rt, rt.alloc(), MISTAKES, (3, true, false))?;
-    assert_ends(&rt, rt.alloc(), HELP, (0, false, true))
+    assert_ends(&rt, MISTAKES, (3, true, false))?;
+    assert_ends(&rt, HELP, (0, false, true))
 }

@@ -1,7 +1,9 @@
 //! The program over memory.
 use heap_text::Counted;
-use std::alloc::{AllocError, Global};
+use std::alloc::{AllocError, AllocGlobal};
 use std::process::Abort;
+use std::sync::Wait;
+use std::thread::Threads;
 use trace_driver::{CountedReader, main_with};
 
 /// What a run of the program leaves.
@@ -13,20 +15,20 @@ pub(crate) struct Ended {
 }
 
 /// Runs the program over memory.
-fn ran_by(alloc: Global, words: &[&str], input: &[u8]) -> Ended {
+fn ran_by<R: Threads + Wait + Sync + AllocGlobal>(rt: &R, words: &[&str], input: &[u8]) -> Ended {
     let mut reader = CountedReader {
         inner: input,
         failed_reads: 0,
     };
     let mut writer = Counted {
-        inner: Vec::new(alloc),
+        inner: Vec::new(rt.alloc()),
         failed_writes: 0,
     };
     let mut errors = Counted {
-        inner: Vec::new(alloc),
+        inner: Vec::new(rt.alloc()),
         failed_writes: 0,
     };
-    let status = main_with(alloc, words, &mut reader, &mut writer, &mut errors);
+    let status = main_with(rt, words, &mut reader, &mut writer, &mut errors);
     Ended {
         status,
         output: writer.inner,
@@ -35,9 +37,13 @@ fn ran_by(alloc: Global, words: &[&str], input: &[u8]) -> Ended {
 }
 
 /// Runs the program over memory by the words of a command line, between which there are spaces.
-pub(crate) fn ran(alloc: Global, words: &str, input: &[u8]) -> Result<Ended, AllocError> {
-    let words: Vec<&str> = words.split_whitespace().collect(alloc)?;
-    Ok(ran_by(alloc, words.as_slice(), input))
+pub(crate) fn ran<R: Threads + Wait + Sync + AllocGlobal>(
+    rt: &R,
+    words: &str,
+    input: &[u8],
+) -> Result<Ended, AllocError> {
+    let words: Vec<&str> = words.split_whitespace().collect(rt.alloc())?;
+    Ok(ran_by(rt, words.as_slice(), input))
 }
 
 /// What a run is to leave.
@@ -65,15 +71,14 @@ fn assert_left(rt: &impl Abort, name: &str, ended: &Ended, left: Left<'_>) {
 }
 
 /// Runs the program, and asserts all that it leaves.
-pub(crate) fn assert_run(
-    rt: &impl Abort,
-    alloc: Global,
+pub(crate) fn assert_run<R: Threads + Wait + Sync + AllocGlobal + Abort>(
+    rt: &R,
     name: &str,
     words: &str,
     input: &[u8],
     left: Left<'_>,
 ) -> Result<(), AllocError> {
-    let ended = ran(alloc, words, input)?;
+    let ended = ran(rt, words, input)?;
     assert_left(rt, name, &ended, left);
     Ok(())
 }
@@ -84,14 +89,13 @@ fn is_written(ended: &Ended, output: &str) -> bool {
 }
 
 /// Asserts that a run ends well and writes a long text, which a failure doesn't show.
-pub(crate) fn assert_output(
-    rt: &impl Abort,
-    alloc: Global,
+pub(crate) fn assert_output<R: Threads + Wait + Sync + AllocGlobal + Abort>(
+    rt: &R,
     words: &str,
     input: &str,
     output: &str,
 ) -> Result<(), AllocError> {
-    let ended = ran(alloc, words, input.as_bytes())?;
+    let ended = ran(rt, words, input.as_bytes())?;
     assert!(rt;
         is_written(&ended, output),
         "{words}: {}",

@@ -3,8 +3,10 @@ use crate::is_front_in_lines;
 use crate::pieces::{Failure, PieceReader, PieceWriter};
 use crate::program::{FIRST_OUTPUT, FIRST_TRACE, text_of};
 use heap_text::Counted;
-use std::alloc::Global;
+use std::alloc::{AllocGlobal, Global};
 use std::process::Abort;
+use std::sync::Wait;
+use std::thread::Threads;
 use trace_driver::{CountedReader, main_with};
 
 /// What fails in turn.
@@ -75,21 +77,21 @@ fn errors_of(alloc: Global, part: Part, calls: u64) -> PieceWriter {
 }
 
 /// A run in which so many calls of this part are made before one fails.
-fn ran(alloc: Global, part: Part, calls: u64) -> Ended {
+fn ran<R: Threads + Wait + Sync + AllocGlobal>(rt: &R, part: Part, calls: u64) -> Ended {
     let mut reader = CountedReader {
         inner: reader_of(part, calls),
         failed_reads: 0,
     };
     let mut writer = Counted {
-        inner: writer_of(alloc, part, calls),
+        inner: writer_of(rt.alloc(), part, calls),
         failed_writes: 0,
     };
     let mut errors = Counted {
-        inner: errors_of(alloc, part, calls),
+        inner: errors_of(rt.alloc(), part, calls),
         failed_writes: 0,
     };
     let words = ["gctrace", "run", "--generations", "1"];
-    let status = main_with(alloc, &words, &mut reader, &mut writer, &mut errors);
+    let status = main_with(rt, &words, &mut reader, &mut writer, &mut errors);
     Ended {
         status,
         failed: reader.failed_reads + writer.failed_writes + errors.failed_writes,
@@ -145,9 +147,9 @@ fn assert_ended(rt: &impl Abort, part: Part, ended: &Ended) -> bool {
 }
 
 /// Lets each call of this part fail in turn, and says how many there are.
-fn fail_each(rt: &impl Abort, alloc: Global, part: Part) -> u64 {
+fn fail_each<R: Threads + Wait + Sync + AllocGlobal + Abort>(rt: &R, part: Part) -> u64 {
     for calls in 0..MANY {
-        let ended = ran(alloc, part, calls);
+        let ended = ran(rt, part, calls);
         if !assert_ended(rt, part, &ended) {
             return calls;
         }
@@ -158,7 +160,7 @@ fn fail_each(rt: &impl Abort, alloc: Global, part: Part) -> u64 {
 #[test]
 fn each_read_fails(rt: HostRuntime) {
     // Seven reads for 48 bytes, and one that shows the end.
-    assert_eq!(rt; fail_each(&rt, rt.alloc(), Part::Read), 8);
+    assert_eq!(rt; fail_each(&rt, Part::Read), 8);
 }
 
 #[test]
@@ -169,7 +171,7 @@ fn each_write_fails(rt: HostRuntime) {
         (Part::Write(Failure::TakesNothing), 16),
         (Part::Tell, 5),
     ] {
-        let calls = fail_each(&rt, rt.alloc(), part);
+        let calls = fail_each(&rt, part);
         assert!(rt; least <= calls && calls < MANY, "{part:?} failed: {calls}");
     }
 }

@@ -1,17 +1,21 @@
 //! Runs and replays of which each request for memory, or each draw of a block, is refused in turn.
 use crate::pieces::PieceReader;
+use forwarding::OpenGate;
 use heap::{BadConfig, Config, Sizes};
 use heap_text::Counted;
 use refusing::Refusing;
-use std::alloc::{AllocError, Global};
+use std::alloc::{AllocError, AllocGlobal, Global};
 use std::process::Abort;
+use std::sync::Wait;
 use std::test::Fail;
-use trace_driver::{CountedReader, Fault, RunConfig, replay, run};
+use std::thread::Threads;
+use trace_driver::{CellKind, CountedReader, Fault, RunConfig, replay, run};
 
-/// What carries out a trace: one worker, or two by schedules.
+/// What carries out a trace: one worker, or two on threads of their own, or two by schedules.
 #[derive(Clone, Copy)]
 pub(crate) enum Task {
     Run,
+    Threads(CellKind),
     Replay,
 }
 
@@ -107,16 +111,15 @@ fn config_of(trial: &Trial, blocks: u64) -> Result<Config, BadConfig> {
 }
 
 /// A run or a replay in a heap of so many blocks, in which this request is refused.
-fn carried_out(
-    alloc: Global,
+fn carried_out<R: Threads + Wait + Sync + AllocGlobal>(
+    rt: &R,
     trial: &Trial,
     input: &str,
     blocks: u64,
     refused: u64,
 ) -> Result<Ended, BadConfig> {
     let config = config_of(trial, blocks)?;
-    let (alone, both) = (RunConfig::new(config, 1)?, RunConfig::new(config, 2)?);
-    let refusing = Refusing::new(alloc, refused);
+    let refusing = Refusing::new(rt.alloc(), refused);
     let mut reader = CountedReader {
         inner: PieceReader {
             bytes: input.as_bytes(),
@@ -126,12 +129,22 @@ fn carried_out(
         failed_reads: 0,
     };
     let mut writer = Counted {
-        inner: Vec::new(alloc),
+        inner: Vec::new(rt.alloc()),
         failed_writes: 0,
     };
     let result = match trial.task {
-        Task::Run => run(&refusing, &mut reader, &mut writer, alone),
-        Task::Replay => replay(&refusing, &mut reader, &mut writer, both),
+        Task::Run => {
+            let alone = RunConfig::new(config, 1, CellKind::Word)?;
+            run(rt, &refusing, &mut reader, &mut writer, alone, &OpenGate)
+        }
+        Task::Threads(kind) => {
+            let both = RunConfig::new(config, 2, kind)?;
+            run(rt, &refusing, &mut reader, &mut writer, both, &OpenGate)
+        }
+        Task::Replay => {
+            let both = RunConfig::new(config, 2, CellKind::Word)?;
+            replay(&refusing, &mut reader, &mut writer, both)
+        }
     };
     Ok(Ended {
         result,
@@ -142,16 +155,16 @@ fn carried_out(
 }
 
 /// The same, where so many requests were given or so many blocks are there.
-fn carried_out_at(
-    alloc: Global,
+fn carried_out_at<R: Threads + Wait + Sync + AllocGlobal>(
+    rt: &R,
     trial: &Trial,
     input: &str,
     wanted: Wanted,
     number: u64,
 ) -> Result<Ended, BadConfig> {
     match wanted {
-        Wanted::Memory => carried_out(alloc, trial, input, trial.sizes.blocks, number),
-        Wanted::Blocks => carried_out(alloc, trial, input, number, MANY),
+        Wanted::Memory => carried_out(rt, trial, input, trial.sizes.blocks, number),
+        Wanted::Blocks => carried_out(rt, trial, input, number, MANY),
     }
 }
 
@@ -209,17 +222,17 @@ fn first_of(wanted: Wanted) -> u64 {
 
 /// Asserts that each request of a trial is refused in turn, or each draw of a block, and that nothing is wanting only where
 /// more than `least` are given.
-pub(crate) fn assert_each_refused(
-    rt: &impl Abort,
-    alloc: Global,
+pub(crate) fn assert_each_refused<R: Threads + Wait + Sync + AllocGlobal + Abort>(
+    rt: &R,
     trial: &Trial,
     wanted: Wanted,
     least: u64,
 ) -> Result<(), Fail> {
+    let alloc = rt.alloc();
     let mut input = String::new(alloc);
     push_input(&mut input, trial.trace)?;
     for number in first_of(wanted)..MANY {
-        let ended = carried_out_at(alloc, trial, input.as_str(), wanted, number)?;
+        let ended = carried_out_at(rt, trial, input.as_str(), wanted, number)?;
         if ended.result.is_ok() {
             let is_as_told = is_whole(alloc, trial.trace, &ended)?;
             assert!(rt; is_as_told && number > least, "{} at {number}", trial.name);

@@ -2,6 +2,7 @@
 use crate::refused::{Task, Trial, Wanted, assert_each_refused};
 use heap::Sizes;
 use std::test::Fail;
+use trace_driver::CellKind;
 
 /// The first collection fills more than one block.
 const SMALL_RUN: &str = "new a 0 0 3
@@ -296,11 +297,27 @@ fn each_request_is_refused(rt: HostRuntime) -> Result<(), Fail> {
         (broad("replay", REPLAY, Task::Replay), 80),
         (broad("run with large objects", LARGE_RUN, Task::Run), 40),
         (
+            broad(
+                "run by threads over words",
+                RUN,
+                Task::Threads(CellKind::Word),
+            ),
+            80,
+        ),
+        (
+            broad(
+                "run by threads over boxes",
+                LARGE_RUN,
+                Task::Threads(CellKind::Box),
+            ),
+            80,
+        ),
+        (
             broad("replay with large objects", LARGE_REPLAY, Task::Replay),
             40,
         ),
     ] {
-        assert_each_refused(&rt, rt.alloc(), &trial, Wanted::Memory, least)?;
+        assert_each_refused(&rt, &trial, Wanted::Memory, least)?;
     }
     Ok(())
 }
@@ -313,8 +330,20 @@ fn each_draw_is_refused(rt: HostRuntime) -> Result<(), Fail> {
             broad("replay with large objects", LARGE_REPLAY, Task::Replay),
             6,
         ),
+        (
+            broad("run by threads", RUN, Task::Threads(CellKind::Word)),
+            4,
+        ),
+        (
+            broad(
+                "run with large objects by threads",
+                LARGE_RUN,
+                Task::Threads(CellKind::Box),
+            ),
+            4,
+        ),
     ] {
-        assert_each_refused(&rt, rt.alloc(), &trial, Wanted::Blocks, least)?;
+        assert_each_refused(&rt, &trial, Wanted::Blocks, least)?;
     }
     Ok(())
 }

@@ -243,7 +243,7 @@ fn three_rounds_of_cells(rt: HostRuntime) -> Result<(), AllocError> {
     let trace = trace_of(rt.alloc())?;
     let output = output_of(rt.alloc())?;
     let words = "gctrace run --block-words=64 --nursery=1 --mutators=2 --generations=3";
-    assert_output(&rt, rt.alloc(), words, trace.as_str(), output.as_str())
+    assert_output(&rt, words, trace.as_str(), output.as_str())
 }
 
 /// One round over young tables, and a collection that has a schedule.
@@ -301,5 +301,5 @@ fn a_round_of_cells_by_two_workers(rt: HostRuntime) -> Result<(), AllocError> {
     let output = replayed_output(rt.alloc())?;
     let words =
         "gctrace replay --block-words=64 --nursery=1 --mutators=2 --generations=3 --threads=2";
-    assert_output(&rt, rt.alloc(), words, trace.as_str(), output.as_str())
+    assert_output(&rt, words, trace.as_str(), output.as_str())
 }

@@ -16,9 +16,11 @@ use crate::{
     automatic, automatic_replays, faults, field_faults, generations, large, pointers, replays,
     worked,
 };
-use std::alloc::Global;
+use std::alloc::AllocGlobal;
 use std::process::Abort;
+use std::sync::Wait;
 use std::test::Fail;
+use std::thread::Threads;
 
 /// A row: its name, the words of a command line, what it reads and what it leaves.
 #[derive(Clone, Copy)]
@@ -54,19 +56,25 @@ fn row_of(text: &'static str) -> Option<Row> {
 }
 
 /// Asserts that the run of a row leaves what it says.
-fn assert_row(rt: &impl Abort, alloc: Global, text: &'static str) -> Result<(), Fail> {
+fn assert_row<R: Threads + Wait + Sync + AllocGlobal + Abort>(
+    rt: &R,
+    text: &'static str,
+) -> Result<(), Fail> {
     let Some(row) = row_of(text) else {
         return Err(Fail::new(text));
     };
     let (name, words, reads) = (row.name, row.words, row.reads.as_bytes());
-    assert_run(rt, alloc, name, words, reads, row.left)?;
+    assert_run(rt, name, words, reads, row.left)?;
     Ok(())
 }
 
 /// Asserts that the run of each row leaves what it says.
-fn assert_rows(rt: &impl Abort, alloc: Global, rows: &'static str) -> Result<(), Fail> {
+fn assert_rows<R: Threads + Wait + Sync + AllocGlobal + Abort>(
+    rt: &R,
+    rows: &'static str,
+) -> Result<(), Fail> {
     for text in rows.split("== ").skip(1) {
-        assert_row(rt, alloc, text)?;
+        assert_row(rt, text)?;
     }
     Ok(())
 }
@@ -84,7 +92,7 @@ fn each_row_is_as_told(rt: HostRuntime) -> Result<(), Fail> {
         replays::ROWS,
         faults::ROWS,
     ] {
-        assert_rows(&rt, rt.alloc(), rows)?;
+        assert_rows(&rt, rows)?;
     }
     Ok(())
 }

@@ -162,5 +162,5 @@ fn list_is_walked(rt: HostRuntime) -> Result<(), AllocError> {
     let trace = trace_of(rt.alloc())?;
     let output = output_of(rt.alloc())?;
     let words = "gctrace run --nursery=64";
-    assert_output(&rt, rt.alloc(), words, trace.as_str(), output.as_str())
+    assert_output(&rt, words, trace.as_str(), output.as_str())
 }

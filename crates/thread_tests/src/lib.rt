@@ -8,4 +8,6 @@ mod gates;
 #[cfg(test)]
 mod heaps;
 #[cfg(test)]
+mod runs;
+#[cfg(test)]
 mod sharing;

@@ -6,8 +6,8 @@ use Rattle.trace_driver.specs.declared.command_line.words.Options.{Options}
 use Rattle.trace_driver.specs.declared.command_line.words.Task.{Task}
 use Rattle.trace_driver.specs.declared.command_line.words.Task.TheVariants.{Replay}
 use Rattle.trace_session.specs.declared.trace_lines.fault.Fault.{Fault}
-use Rattle.trace_session.specs.declared.trace_lines.fault.Fault.TheVariants.{BadTrace, BadSchedule, HeapFull, NoMemory, ReadFailed, WriteFailed}
-use Rattle.trace_session.specs.Faults.{MatchEachFault}
+use Rattle.trace_session.specs.declared.trace_lines.fault.Fault.TheVariants.{BadTrace, BadSchedule, HeapFull, NoMemory, Unsettled, ReadFailed, WriteFailed}
+use Rattle.trace_session.specs.Faults.{MatchAnyFault, MatchEachFault}
 use Rattle.trace_session.specs.Outcome.{outcome}
 use Rattle.trace_replay.specs.ReplayStops.{HasTraceFault, HasScheduleFault, Quietly, Stops}
 use Rattle.trace_driver.specs.Program.{config_of, ByTask, AreInRange, PrintsFaulty, StopsFaulty, in_trace, in_schedule, IsFaulty, EndsAs}
@@ -30,7 +30,7 @@ module _ (o : Options) (task : o.task ≡ Replay) (in_range : AreInRange o) (con
   }
 
   pub replay_ends : (full memory : Option ℕ → Type 0) (read written : Type 0) (status : ℕ) (e : Fault)
-      → MatchEachFault e (λ _ _. status ≡ 2) (λ _ _. status ≡ 2) (λ _. status ≡ 1) (λ _. status ≡ 1) (status ≡ 4) (status ≡ 4)
+      → MatchAnyFault e (λ _ _. status ≡ 2) (λ _ _. status ≡ 2) (λ _. status ≡ 1) (λ _. status ≡ 1) (λ _. status ≡ 1) (status ≡ 4) (status ≡ 4)
       → MatchEachFault e (λ at kind. IfSome remaining (Stops (Quietly (HasTraceFault config n kind)) config n at old new)) (λ at kind. IfSome remaining (Stops (Quietly (HasScheduleFault config n kind)) config n at old new)) full memory read written
       → EndsAs o status remaining old new
   replay_ends full memory read written status (BadTrace at kind) is f =
@@ -39,5 +39,6 @@ module _ (o : Options) (task : o.task ≡ Replay) (in_range : AreInRange o) (con
       ends_otherwise status (λ s. omega (arith, is, s)) (λ s. omega (arith, is, s)) (λ s. if_some (λ input stops. faulty_at input (in_schedule kind at stops)) remaining f)
   replay_ends full memory read written status (HeapFull at) is f = ends_otherwise status (λ s. omega (arith, is, s)) (λ s. omega (arith, is, s)) (λ s. absurd (omega (arith, is, s)))
   replay_ends full memory read written status (NoMemory at) is f = ends_otherwise status (λ s. omega (arith, is, s)) (λ s. omega (arith, is, s)) (λ s. absurd (omega (arith, is, s)))
+  replay_ends full memory read written status (Unsettled at) is f = absurd f
   replay_ends full memory read written status ReadFailed is f = ends_otherwise status (λ s. omega (arith, is, s)) (λ s. omega (arith, is, s)) (λ s. absurd (omega (arith, is, s)))
   replay_ends full memory read written status WriteFailed is f = ends_otherwise status (λ s. omega (arith, is, s)) (λ s. omega (arith, is, s)) (λ s. absurd (omega (arith, is, s)))

@@ -1,3 +1,4 @@
--- How a replay ends.
+-- How a run and a replay end.
 
+pub mod ByThreads
 pub mod Endings

@@ -23,9 +23,9 @@ abbrev pub ByTask : Task → Type 0 → Type 0 → Type 0
 ByTask Run run replay = run
 ByTask Replay run replay = replay
 
--- each number is in its range; so far there is one worker but in a replay
+-- each number is in its range
 abbrev pub AreInRange : Options → Type 0
-AreInRange o = IsInRange (config_of o) × ByTask o.task (o.threads ≡ 1) ((0 < o.threads) × (o.threads ≤ 16))
+AreInRange o = IsInRange (config_of o) × ((0 < o.threads) × (o.threads ≤ 16))
 
 -- what is printed is the output of the lines before the first faulty one
 pub record PrintsFaulty (run : Meant) (old new : Option (List ℕ)) : Type 0 where

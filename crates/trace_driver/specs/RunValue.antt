@@ -1,12 +1,31 @@
 -- What contracts see of the settings of a run.
-use Rattle.std.specs.Prelude.{ℕ, refl}
-use Rattle.std.specs.Coded.{Coded, code_by, coded×, coded_ℕ}
+use Rattle.std.specs.Prelude.{◌≡◌, ℕ, Bool, true, false, refl}
+use Rattle.std.specs.Coded.{Coded, code_by, coded×, coded_ℕ, coded_bool}
 use Rattle.model.specs.Config.{Config, config_code}
+use Rattle.collector.specs.declared.apart.CellKind.{CellKind}
+use Rattle.collector.specs.declared.apart.CellKind.TheVariants.{Box, Word}
 
--- the heap's sizes, and how many workers collect
+-- the heap's sizes, how many workers collect, and their cells
 pub record RunValue : Type 0 where
   pub config : Config
   pub workers : ℕ
+  pub kind : CellKind
+
+-- the kinds of cells by a test
+abbrev pub is_word : CellKind → Bool
+is_word Box = false
+is_word Word = true
+
+abbrev pub kind_by : Bool → CellKind
+kind_by false = Box
+kind_by true = Word
+
+-- and the code gives them back
+pub same_run : (config : Config) (workers : ℕ) (kind : CellKind) → ◌≡◌ {A = RunValue} (record { config = config; workers = workers; kind = kind_by (is_word kind) }) (record { config = config; workers = workers; kind = kind })
+same_run config workers Box = refl
+same_run config workers Word = refl
 
 abbrev pub run_code : Coded RunValue
-run_code = code_by (Config × ℕ) (coded× config_code coded_ℕ) (λ r. (r.config, r.workers)) (λ p. record { config = p.0; workers = p.1 }) (λ _. refl)
+run_code =
+    code_by (Config × (ℕ × Bool)) (coded× config_code (coded× coded_ℕ coded_bool)) (λ r. (r.config, (r.workers, is_word r.kind))) (λ p. record { config = p.0; workers = p.1.0; kind = kind_by p.1.1 })
+    (λ r. same_run r.config r.workers r.kind)

@@ -1,37 +1,37 @@
 //! The whole program over memory: the words of a command line, and what is read and written.
 ghost use Rattle.std.specs.Prelude.{◌≡◌, ◌+◌, ◌-◌, ◌^◌, ◌<◌, ◌≤◌, ◌⊎◌, ◌↔◌, IfOk, IsOk};
 ghost use Rattle.std.specs.Io.KnownBytes.{Appends};
-ghost use Rattle.trace_session.specs.Faults.{MatchEachFault};
+ghost use Rattle.trace_session.specs.Faults.{MatchAnyFault};
 ghost use Rattle.trace_session.specs.FaultText.{fault_line};
 ghost use Rattle.trace_driver.specs.Program.{config_of, AreInRange, EndsAs};
 ghost use Rattle.trace_driver.specs.declared.command_line.words.Options.{Options as Asked};
 
+use crate::apart::run;
 use crate::command_line::{Options, Refused, Task, read_words};
 use crate::config::RunConfig;
 use crate::replaying::replay;
-use crate::running::run;
+use forwarding::OpenGate;
 use heap::{BadConfig, Config};
 use heap_text::{Sink, Source, write_all};
-use std::alloc::Global;
+use std::alloc::AllocGlobal;
 use std::convert::AsStr;
+use std::sync::Wait;
+use std::thread::Threads;
 use trace_session::{Fault, write_fault};
 
-/// The settings that the words ask for. So far only a replay has more than one worker.
+/// The settings that the words ask for.
 fn run_config(options: &Options) -> Result<RunConfig, BadConfig>
-    ensures ok { IfOk result (λ run. (run.config ≡ config_of options.now) × (run.workers ≡ options.now.threads)) }
+    ensures ok { IfOk result (λ run. (run.config ≡ config_of options.now) × (run.workers ≡ options.now.threads) × (run.kind ≡ options.now.cells)) }
     ensures in_range { IsOk result ↔ AreInRange options.now }
 {
     let config = Config::new(options.sizes)?;
-    match options.task {
-        Task::Run if options.threads != 1 => Err(BadConfig),
-        Task::Run | Task::Replay => RunConfig::new(config, options.threads),
-    }
+    RunConfig::new(config, options.threads, options.cells)
 }
 
 /// The status of a fault, whose line is written to `errors`. A failed write of the line changes nothing.
 fn tell<E: Sink>(fault: &Fault, errors: &mut E) -> u8
     requires { E.failed_writes errors.old < 2 ^ 64 - 1 }
-    ensures status { MatchEachFault fault.now (λ _ _. result ≡ 2) (λ _ _. result ≡ 2) (λ _. result ≡ 1) (λ _. result ≡ 1) (result ≡ 4) (result ≡ 4) }
+    ensures status { MatchAnyFault fault.now (λ _ _. result ≡ 2) (λ _ _. result ≡ 2) (λ _. result ≡ 1) (λ _. result ≡ 1) (λ _. result ≡ 1) (result ≡ 4) (result ≡ 4) }
     ensures told { (E.failed_writes errors.new ≡ E.failed_writes errors.old + 1)
         ⊎ ((E.failed_writes errors.new ≡ E.failed_writes errors.old) × Appends (E.contents errors.old) (E.contents errors.new) (fault_line fault.now)) }
     ensures rises { E.failed_writes errors.new ≤ E.failed_writes errors.old + 1 }
@@ -63,8 +63,8 @@ fn refuse<W: Sink, E: Sink>(refused: &Refused, writer: &mut W, errors: &mut E) -
 }
 
 /// Carries out a trace with these numbers, and says the status.
-fn run_with<S: Source, W: Sink, E: Sink>(
-    alloc: Global,
+fn run_with<R: Threads + Wait + Sync + AllocGlobal, S: Source, W: Sink, E: Sink>(
+    rt: &R,
     options: &Options,
     reader: &mut S,
     writer: &mut W,
@@ -87,11 +87,11 @@ fn run_with<S: Source, W: Sink, E: Sink>(
         }
     };
     match options.task {
-        Task::Run => match run(alloc, reader, writer, config) {
+        Task::Run => match run(rt, rt.alloc(), reader, writer, config, &OpenGate) {
             Ok(()) => 0,
             Err(fault) => tell(&fault, errors),
         },
-        Task::Replay => match replay(alloc, reader, writer, config) {
+        Task::Replay => match replay(rt.alloc(), reader, writer, config) {
             Ok(()) => 0,
             Err(fault) => tell(&fault, errors),
         },
@@ -99,11 +99,11 @@ fn run_with<S: Source, W: Sink, E: Sink>(
 }
 
 /// Reads a command line, carries out the trace that `reader` gives, and says the exit status: 0 for a trace without a
-/// fault and for help, 1 where blocks or memory are wanting, 2 for a faulty trace, 3 for a mistake in the words or a
+/// fault and for help, 1 where blocks or memory are wanting or boxed cells were not settled, 2 for a faulty trace, 3 for a mistake in the words or a
 /// number out of its range, 4 for a failed read or write. What it tells of a fault goes to `errors`; a failed write of
 /// that doesn't change the status.
-pub fn main_with<T: AsStr, S: Source, W: Sink, E: Sink>(
-    alloc: Global,
+pub fn main_with<R: Threads + Wait + Sync + AllocGlobal, T: AsStr, S: Source, W: Sink, E: Sink>(
+    rt: &R,
     words: &[T],
     reader: &mut S,
     writer: &mut W,
@@ -119,8 +119,8 @@ pub fn main_with<T: AsStr, S: Source, W: Sink, E: Sink>(
     ensures writes { W.failed_writes writer.new ≤ W.failed_writes writer.old + 1 }
     ensures error_writes { E.failed_writes errors.new ≤ E.failed_writes errors.old + 1 }
 {
-    match read_words(alloc, words) {
-        Ok(options) => run_with(alloc, &options, reader, writer, errors),
+    match read_words(rt.alloc(), words) {
+        Ok(options) => run_with(rt, &options, reader, writer, errors),
         Err(refused) => refuse(&refused, writer, errors),
     }
 }

@@ -1,4 +1,4 @@
-//! A run from bytes to bytes.
+//! A run by one worker, from bytes to bytes.
 ghost use Rattle.std.specs.Prelude.{◌≡◌, ℕ, ◌+◌, ◌-◌, ◌^◌, ◌<◌, ◌≤◌, ◌⊎◌, ◌*◌, None, Some, length, MatchOption, IfSome, IfOk, OnOk, IfErr};
 ghost use Rattle.trace_session.specs.CollectsFirst.{IsSoundSoFar};
 ghost use Rattle.trace_session.specs.Faults.{MatchFault};
@@ -32,7 +32,7 @@ fn carry_out_lines<'t, A: Allocator + Clone, W: Sink>(
     ensures rises { W.failed_writes writer.new ≤ W.failed_writes writer.old + 1 }
     ensures err { IfErr result (λ e. MatchFault e
         (λ at kind. AtEach (Stands session.old) (λ config store. StopsAt config number store text.now at kind (W.contents writer.old) (W.contents writer.new)))
-        (λ at. AtEach (Stands session.old) (λ config store. LeavesBefore (Silently (MayBeFull config)) config number store text.now at (W.contents writer.old) (W.contents writer.new)))
+        (λ at. AtEach (Stands session.old) (λ config store. LeavesBefore (Silently (MayBeFull 1 config)) config number store text.now at (W.contents writer.old) (W.contents writer.new)))
         (λ at. AtEach (Stands session.old) (λ config store. LeavesBefore (IsSoundSoFar config) config number store text.now at (W.contents writer.old) (W.contents writer.new)))
         ⊥
         (W.failed_writes writer.new ≡ W.failed_writes writer.old + 1)) }
@@ -63,7 +63,7 @@ fn carry_out_text<A: Allocator + Clone, W: Sink>(
     ensures rises { W.failed_writes writer.new ≤ W.failed_writes writer.old + 1 }
     ensures err { IfErr result (λ e. MatchFault e
         (λ at kind. AtEach (Stands session.old) (λ config store. Prints (outcome_from config 1 store (pieces text.now)) (Some (at, kind)) (W.contents writer.old) (W.contents writer.new)))
-        (λ at. AtEach (Stands session.old) (λ config store. LeavesBefore (Silently (MayBeFull config)) config 1 store text.now at (W.contents writer.old) (W.contents writer.new)))
+        (λ at. AtEach (Stands session.old) (λ config store. LeavesBefore (Silently (MayBeFull 1 config)) config 1 store text.now at (W.contents writer.old) (W.contents writer.new)))
         (λ at. AtEach (Stands session.old) (λ config store. LeavesBefore (IsSoundSoFar config) config 1 store text.now at (W.contents writer.old) (W.contents writer.new)))
         ⊥
         (W.failed_writes writer.new ≡ W.failed_writes writer.old + 1)) }
@@ -99,7 +99,7 @@ pub fn run_one<A: Allocator + Clone, S: Source, W: Sink>(
         Prints (outcome config.config input) (Some (line, kind)) (W.contents writer.old) (W.contents writer.new)))
         (λ line. MatchOption line
         ((config.config.blocks < config.config.mutators * config.config.nursery_blocks) × (writer.new ≡ writer.old) × (reader.new ≡ reader.old))
-        (λ at. IfSome (S.remaining reader.old) (LeavesOutput (Silently (MayBeFull config.config)) config.config at (W.contents writer.old) (W.contents writer.new))))
+        (λ at. IfSome (S.remaining reader.old) (LeavesOutput (Silently (MayBeFull 1 config.config)) config.config at (W.contents writer.old) (W.contents writer.new))))
         (λ line. MatchOption line
         (writer.new ≡ writer.old)
         (λ at. IfSome (S.remaining reader.old) (LeavesOutput (IsSoundSoFar config.config) config.config at (W.contents writer.old) (W.contents writer.new))))
@@ -122,35 +122,4 @@ pub fn run_one<A: Allocator + Clone, S: Source, W: Sink>(
         Err(fault) => return Err(fault),
     };
     carry_out_text(&mut session, text.as_slice(), writer)
-}
-
-/// Reads a whole trace, carries it out and writes what it prints. It makes the heap first. So far there is one worker.
-pub fn run<A: Allocator + Clone, S: Source, W: Sink>(
-    alloc: A,
-    reader: &mut S,
-    writer: &mut W,
-    config: RunConfig,
-) -> Result<(), Fault>
-    requires one { config.workers ≡ 1 }
-    requires readable { S.failed_reads reader.old < 2 ^ 64 - 1 }
-    requires writable { W.failed_writes writer.old < 2 ^ 64 - 1 }
-    ensures ok { OnOk result (IfSome (S.remaining reader.old) (λ input.
-        Prints (outcome config.config input) None (W.contents writer.old) (W.contents writer.new))) }
-    ensures err { IfErr result (λ e. MatchFault e
-        (λ line kind. IfSome (S.remaining reader.old) (λ input.
-        Prints (outcome config.config input) (Some (line, kind)) (W.contents writer.old) (W.contents writer.new)))
-        (λ line. MatchOption line
-        ((config.config.blocks < config.config.mutators * config.config.nursery_blocks) × (writer.new ≡ writer.old) × (reader.new ≡ reader.old))
-        (λ at. IfSome (S.remaining reader.old) (LeavesOutput (Silently (MayBeFull config.config)) config.config at (W.contents writer.old) (W.contents writer.new))))
-        (λ line. MatchOption line
-        (writer.new ≡ writer.old)
-        (λ at. IfSome (S.remaining reader.old) (LeavesOutput (IsSoundSoFar config.config) config.config at (W.contents writer.old) (W.contents writer.new))))
-        (IfSome (S.remaining reader.old) (PrintsFront config.config (W.contents writer.old) (W.contents writer.new))
-        × ((S.failed_reads reader.new ≡ S.failed_reads reader.old + 1)
-        ⊎ IfSome (S.remaining reader.old) (λ input. 2 ^ 64 - 1 ≤ length input)))
-        (W.failed_writes writer.new ≡ W.failed_writes writer.old + 1)) }
-    ensures reads { S.failed_reads reader.new ≤ S.failed_reads reader.old + 1 }
-    ensures writes { W.failed_writes writer.new ≤ W.failed_writes writer.old + 1 }
-{
-    run_one(alloc, reader, writer, config)
 }

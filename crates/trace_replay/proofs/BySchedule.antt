@@ -31,7 +31,7 @@ use Rattle.trace_text.specs.declared.schedule.ScheduleLine.{ScheduleLine}
 use Rattle.trace_text.specs.declared.schedule.ScheduleKind.{ScheduleKind}
 use Rattle.trace_text.specs.declared.schedule.ScheduleLine.TheVariants.{Nothing, Event, Finish, Commit}
 use Rattle.trace_session.specs.declared.trace_lines.fault.Fault.{Fault}
-use Rattle.trace_session.specs.declared.trace_lines.fault.Fault.TheVariants.{BadTrace, BadSchedule, HeapFull, NoMemory, ReadFailed, WriteFailed}
+use Rattle.trace_session.specs.declared.trace_lines.fault.Fault.TheVariants.{BadTrace, BadSchedule, HeapFull, NoMemory, Unsettled, ReadFailed, WriteFailed}
 use Rattle.trace_session.specs.Faults.{MatchEachFault}
 use Rattle.trace_session.specs.Pieces.{finished, pieces}
 use Rattle.trace_session.specs.Outcome.{line_step, entry_step, command_step}
@@ -127,6 +127,7 @@ module _ (heap : HeapValue) (names : List (List ℕ × ℕ)) (g n number : ℕ) 
   fault_of_schedule same (NoMemory None) f = absurd f
   fault_of_schedule same (NoMemory (Some at)) (inl is) = (λ config store stands. subst (λ k. AfterCollect g text (λ left. IsSoundAt config n (record { heap = heap; names = names; store = store }) number left k [])) (sym is) (no_memory_at heap names config store stands g in_range n number text), same)
   fault_of_schedule same (NoMemory (Some at)) (inr f) = (λ config store stands. no_memory_in heap names config store stands g in_range n number text at f, same)
+  fault_of_schedule same (Unsettled line) f = absurd f
   fault_of_schedule same ReadFailed f = absurd f
   fault_of_schedule same WriteFailed f = absurd f
 

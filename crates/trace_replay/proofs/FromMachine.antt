@@ -17,7 +17,7 @@ use Rattle.settling.specs.Together.{Reports}
 use Rattle.trace_text.specs.declared.schedule.ScheduleKind.TheVariants.{NotEnded}
 use Rattle.trace_text.specs.declared.schedule.ScheduleLine.TheVariants.{Commit}
 use Rattle.trace_session.specs.declared.trace_lines.fault.Fault.{Fault}
-use Rattle.trace_session.specs.declared.trace_lines.fault.Fault.TheVariants.{BadTrace, BadSchedule, HeapFull, NoMemory, ReadFailed, WriteFailed}
+use Rattle.trace_session.specs.declared.trace_lines.fault.Fault.TheVariants.{BadTrace, BadSchedule, HeapFull, NoMemory, Unsettled, ReadFailed, WriteFailed}
 use Rattle.trace_session.specs.Faults.{MatchEachFault}
 use Rattle.trace_session.specs.Pieces.{Piece, finished, pieces}
 use Rattle.machine.specs.MachineValue.{MachineValue, setting_in}
@@ -71,6 +71,7 @@ module _ (heap : HeapValue) (g n : ℕ) (first : MachineValue) (opens : Opens he
   fault_at_heap start text (HeapFull (Some at)) f = (at_heap (λ k s. StopsAt (OfLine (IsRefusedBlocks k)) k s (start + 1) text at) f.0, short_is f.1)
   fault_at_heap start text (NoMemory None) f = f
   fault_at_heap start text (NoMemory (Some at)) f = inr (at_heap (λ k s. StopsAt (OfLine (IsSoundLine k)) k s (start + 1) text at) f)
+  fault_at_heap start text (Unsettled line) f = absurd f
   fault_at_heap start text ReadFailed f = f
   fault_at_heap start text WriteFailed f = f
 
@@ -115,6 +116,7 @@ module _ (heap : HeapValue) (g n : ℕ) (first : MachineValue) (opens : Opens he
   finish_fault number (BadSchedule at kind) f = f
   finish_fault number (HeapFull at) f = (f.0, short_is f.1.short)
   finish_fault number (NoMemory at) f = f
+  finish_fault number (Unsettled line) f = absurd f
   finish_fault number ReadFailed f = f
   finish_fault number WriteFailed f = f
 

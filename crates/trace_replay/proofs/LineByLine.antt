@@ -10,7 +10,7 @@ use Rattle.model.specs.Store.{Store}
 use Rattle.model.specs.Commands.{Collect}
 use Rattle.trace_text.specs.Grammar.{entry_of}
 use Rattle.trace_session.specs.declared.trace_lines.fault.Fault.{Fault}
-use Rattle.trace_session.specs.declared.trace_lines.fault.Fault.TheVariants.{BadTrace, BadSchedule, HeapFull, NoMemory, ReadFailed, WriteFailed}
+use Rattle.trace_session.specs.declared.trace_lines.fault.Fault.TheVariants.{BadTrace, BadSchedule, HeapFull, NoMemory, Unsettled, ReadFailed, WriteFailed}
 use Rattle.trace_session.specs.Faults.{MatchFault, MatchEachFault}
 use Rattle.trace_session.specs.Pieces.{HasNoFeed, Piece, finished, unfinished, pieces}
 use Rattle.trace_session.specs.Outcome.{line_step}
@@ -153,6 +153,7 @@ module _ {A : Type 0} (session : Session A) (n number : ℕ) (line after : List 
   fault_of_line (HeapFull (Some at)) f = λ config store stands. let fault = f.1 config store stands in (stops.outside {line = line} refl (let is = f.0 in cc) fault.0, fault.1)
   fault_of_line (NoMemory None) f = absurd (let is = f.0 in cc)
   fault_of_line (NoMemory (Some at)) f = λ config store stands. let own = f.1 config store stands in record { written = own.written; held = own.held; holds = stops.outside {line = line} refl (let is = f.0 in cc) own.holds }
+  fault_of_line (Unsettled line) f = absurd f
   fault_of_line ReadFailed f = f
   fault_of_line WriteFailed f = f
 
@@ -177,6 +178,7 @@ module _ {A : Type 0} (session : Session A) (n g number : ℕ) (line after : Lis
   fault_of_schedule (HeapFull (Some at)) f = λ config store stands. (f.0 config store stands line asks, f.1)
   fault_of_schedule (NoMemory None) f = absurd f.0
   fault_of_schedule (NoMemory (Some at)) f = λ config store stands. record { written = []; held = subst (λ w. Appends (contents old) (contents w) []) (sym f.1) (Appends-nil (contents old)); holds = f.0 config store stands line asks }
+  fault_of_schedule (Unsettled line) f = absurd f
   fault_of_schedule ReadFailed f = f
   fault_of_schedule WriteFailed f = f
 
@@ -228,5 +230,6 @@ module _ {A : Type 0} (old mid : Session A) (n number : ℕ) (text : List ℕ) (
   fault_of_next new written written' told (HeapFull (Some at)) f = stops_silently (λ config. WantsBlocks config n) at new f
   fault_of_next new written written' told (NoMemory None) f = f
   fault_of_next new written written' told (NoMemory (Some at)) f = stops_somewhere (λ config. IsSoundAt config n) at (contents new) f
+  fault_of_next new written written' told (Unsettled line) f = absurd f
   fault_of_next new written written' told ReadFailed f = f
   fault_of_next new written written' told WriteFailed f = told f

@@ -8,7 +8,8 @@ use Rattle.trace_session.specs.Outcome.{line_step}
 use Rattle.trace_session.specs.Stepped.{AtEach, StepsTo, Writes}
 use Rattle.trace_session.specs.declared.session.Session.{Session}
 use Rattle.trace_session.specs.Session.{Stands}
-use Rattle.trace_replay.specs.Replays.{state_of, IsNoCollection, MakesRoom, HasMadeRoom, LineReplayed}
+use Rattle.trace_session.specs.Commands.{IsNoCollection}
+use Rattle.trace_replay.specs.Replays.{state_of, MakesRoom, HasMadeRoom, LineReplayed}
 
 -- a line that needed no room
 pub plain_steps : {A : Type 0} (old new : Session A) (config : Config) (n : ℕ) (store : Store) (line : List ℕ) (printed printed' : Option (List ℕ)) → IsNoCollection (entry_of line) → ¬ LineCollectsFirst config store line

@@ -17,7 +17,7 @@ use Rattle.trace_text.specs.declared.schedule.ScheduleEvent.{ScheduleEvent}
 use Rattle.trace_text.specs.declared.schedule.ScheduleKind.TheVariants.{NotLawful, UnfinishedSchedule}
 use Rattle.trace_text.specs.declared.schedule.LineFault.TheVariants as faults
 use Rattle.trace_session.specs.declared.trace_lines.fault.Fault.{Fault}
-use Rattle.trace_session.specs.declared.trace_lines.fault.Fault.TheVariants.{BadTrace, BadSchedule, HeapFull, NoMemory, ReadFailed, WriteFailed}
+use Rattle.trace_session.specs.declared.trace_lines.fault.Fault.TheVariants.{BadTrace, BadSchedule, HeapFull, NoMemory, Unsettled, ReadFailed, WriteFailed}
 use Rattle.trace_session.specs.Faults.{MatchEachFault}
 use Rattle.trace_session.specs.Pieces.{HasNoFeed, Piece, finished, unfinished, pieces}
 use Rattle.trace_session.proofs.PieceLemmas.{pieces_line, pieces_last}
@@ -122,6 +122,7 @@ module _ (start : ℕ) (text : List ℕ) (number' : ℕ) (rest : List ℕ) (old 
         (stops_at (OfLine (IsRefusedBlocks (setting_in old))) at (let is = f.0 in cc) (subst (λ k. IsRefusedBlocks k mid.system line) same_is f.1.wants), short_in f.1.short)
     fault_of_line (NoMemory None) f = absurd (let none = f.0 in cc)
     fault_of_line (NoMemory (Some at)) f = stops_at (OfLine (IsSoundLine (setting_in old))) at (let is = f.0 in cc) (subst (λ k. IsSoundLine k mid.system line) same_is f.1)
+    fault_of_line (Unsettled line) f = absurd f
     fault_of_line ReadFailed f = f
     fault_of_line WriteFailed f = f
 
@@ -173,6 +174,7 @@ module _ (number : ℕ) (line : List ℕ) (m : MachineValue) where
   fault_of_event event says (BadSchedule at kind) f = (f.0, subst (IsFaulty (setting_in m) m.system line) (sym f.1) (unlawful says f.2))
   fault_of_event event says (HeapFull at) f = (f.0, record { wants = by_event says f.1.refused; short = f.1.short })
   fault_of_event event says (NoMemory at) f = (f.0, record { said = Event event; says = says; may = f.1 })
+  fault_of_event event says (Unsettled line) f = absurd f
   fault_of_event event says ReadFailed f = f
   fault_of_event event says WriteFailed f = f
 
@@ -188,5 +190,6 @@ module _ (number : ℕ) (line : List ℕ) (m : MachineValue) where
   fault_of_finish says (BadSchedule at kind) f = absurd f
   fault_of_finish says (HeapFull at) f = (f.0, record { wants = by_finish says f.1.run f.1.stuck; short = f.1.short })
   fault_of_finish says (NoMemory at) f = (f, record { said = Finish; says = says; may = tt })
+  fault_of_finish says (Unsettled line) f = absurd f
   fault_of_finish says ReadFailed f = f
   fault_of_finish says WriteFailed f = f

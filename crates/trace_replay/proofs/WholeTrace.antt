@@ -4,7 +4,7 @@ use Rattle.std.specs.Prelude.{MatchOption, IfSome, IfErr, OnOk}
 use Rattle.model.specs.Config.{Config}
 use Rattle.model.specs.Store.{empty_store}
 use Rattle.trace_session.specs.declared.trace_lines.fault.Fault.{Fault}
-use Rattle.trace_session.specs.declared.trace_lines.fault.Fault.TheVariants.{BadTrace, BadSchedule, HeapFull, NoMemory, ReadFailed, WriteFailed}
+use Rattle.trace_session.specs.declared.trace_lines.fault.Fault.TheVariants.{BadTrace, BadSchedule, HeapFull, NoMemory, Unsettled, ReadFailed, WriteFailed}
 use Rattle.trace_session.specs.Faults.{MatchEachFault}
 use Rattle.trace_session.specs.Pieces.{Piece, pieces}
 use Rattle.trace_session.specs.Stepped.{AtEach}
@@ -52,6 +52,7 @@ module _ {A : Type 0} (session : Session A) (config : Config) (stands : Stands s
   fault_of_trace input is full memory read written (HeapFull (Some at)) f = stops_somewhere (λ config. Quietly (WantsBlocks config n)) at input is f
   fault_of_trace input is full memory read written (NoMemory None) f = absurd f
   fault_of_trace input is full memory read written (NoMemory (Some at)) f = stops_somewhere (λ config. IsSoundAt config n) at input is f
+  fault_of_trace input is full memory read written (Unsettled line) f = absurd f
   fault_of_trace input is full memory read written ReadFailed f = absurd f
   fault_of_trace input is full memory read written WriteFailed f = f
 

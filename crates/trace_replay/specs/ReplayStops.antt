@@ -14,8 +14,9 @@ use Rattle.trace_session.specs.Outcome.{piece_step}
 use Rattle.trace_session.specs.Sound.{IsSoundTraceLine, IsSoundCommand}
 use Rattle.trace_session.specs.CollectsFirst.{LineCollectsFirst}
 use Rattle.trace_session.specs.Refusals.{IsFullFor}
+use Rattle.trace_session.specs.Commands.{IsNoCollection}
 use Rattle.trace_replay.specs.Stops.{IsUnreadable, IsRefusedBlocks, IsSoundLine, OfLine, StopsAt, StopsWith}
-use Rattle.trace_replay.specs.Replays.{State, Holds, IsNoCollection, HasMadeRoom, Replays}
+use Rattle.trace_replay.specs.Replays.{State, Holds, HasMadeRoom, Replays}
 
 -- a `collect` line without a fault, and the text after it
 pub record OpensSchedule (config : Config) (s : State) (left : List Piece) : Type 0 where
@@ -44,7 +45,7 @@ pub record HasScheduleFault (config : Config) (n : ℕ) (kind : ScheduleKind) (s
 -- to collect generation 0, or a large one for which this heap is full
 pub data WantsRoom (config : Config) (n : ℕ) (s : State) (line : List ℕ) : Type 0 where
   for_collection : IsSoundTraceLine config s.store line → LineCollectsFirst config s.store line → IsShortOfBlocks s.heap 0 n → WantsRoom config n s line
-  for_large : IsSoundTraceLine config s.store line → IsNoCollection (entry_of line) → IsFullFor s.heap (entry_of line) → WantsRoom config n s line
+  for_large : IsSoundTraceLine config s.store line → IsNoCollection (entry_of line) → IsFullFor 1 s.heap (entry_of line) → WantsRoom config n s line
 
 -- the line has no fault, and blocks are wanting in it
 pub data WantsBlocks (config : Config) (n : ℕ) (s : State) (number : ℕ) (left : List Piece) (at : ℕ) : Type 0 where

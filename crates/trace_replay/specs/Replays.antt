@@ -3,8 +3,7 @@ use Rattle.std.specs.Prelude.{◌≡◌, ℕ, ◌+◌, ◌⊎◌, List, [], ◌�
 use Rattle.std.specs.Io.KnownBytes.{Appends}
 use Rattle.model.specs.Config.{Config}
 use Rattle.model.specs.Store.{Store, empty_store}
-use Rattle.model.specs.Commands.{Command, Collect}
-use Rattle.model.specs.declared.kind.Kind.{Kind}
+use Rattle.model.specs.Commands.{Collect}
 use Rattle.steps.specs.HeapValue.{HeapValue}
 use Rattle.steps.specs.ReportValue.{WorkerLists}
 use Rattle.steps.specs.declared.heap_values.report.Delivery.{Delivery}
@@ -18,6 +17,7 @@ use Rattle.trace_text.specs.declared.schedule.ScheduleLine.TheVariants.{Commit}
 use Rattle.trace_session.specs.Pieces.{Piece, finished, pieces}
 use Rattle.trace_session.specs.CollectsFirst.{LineCollectsFirst, auto_line}
 use Rattle.trace_session.specs.Outcome.{line_step, command_step}
+use Rattle.trace_session.specs.Commands.{IsNoCollection}
 use Rattle.trace_session.specs.Stands.{StandsFor}
 use Rattle.trace_session.specs.declared.session.Session.{Session}
 use Rattle.trace_replay.specs.Runs.{Finishes, LinesRun}
@@ -33,11 +33,6 @@ state_of session store = record { heap = session.heap; names = session.names; st
 
 abbrev pub Holds : Config → State → Type 0
 Holds config s = StandsFor s.heap s.names config s.store
-
--- what was read is no command to collect
-abbrev pub IsNoCollection : Result (Option Command) Kind → Type 0
-IsNoCollection (Ok (Some (Collect g))) = ⊥
-IsNoCollection _ = Unit {0}
 
 -- a line outside schedules that needs no collection does what it does in any run
 pub record Steps (config : Config) (old : State) (line out : List ℕ) (new : State) : Type 0 where

@@ -1,13 +1,13 @@
 //! A whole trace whose collections have schedules, from bytes to bytes.
-ghost use Rattle.std.specs.Prelude.{◌≡◌, ◌+◌, ◌-◌, ◌^◌, ◌*◌, ◌<◌, ◌≤◌, ◌⊎◌, ◌∷◌, Some, Ok, Err, length, MatchOption, IfSome, IfNone, IfOk, OnOk, IfErr};
-ghost use Rattle.model.specs.Commands.{Collect};
+ghost use Rattle.std.specs.Prelude.{◌≡◌, ◌+◌, ◌-◌, ◌^◌, ◌*◌, ◌<◌, ◌≤◌, ◌⊎◌, ◌∷◌, Some, Err, length, MatchOption, IfSome, IfOk, OnOk, IfErr};
 ghost use Rattle.trace_text.specs.Grammar.{entry_of};
 ghost use Rattle.trace_session.specs.Faults.{MatchFault, MatchEachFault};
+ghost use Rattle.trace_session.specs.Commands.{IsNoCollection};
 ghost use Rattle.trace_session.specs.Outcome.{line_step};
 ghost use Rattle.trace_session.specs.Pieces.{HasNoFeed, finished, pieces};
 ghost use Rattle.trace_session.specs.Stepped.{AtEach, Writes};
 ghost use Rattle.trace_session.specs.Session.{Stands};
-ghost use Rattle.trace_replay.specs.Replays.{IsNoCollection, IsReplayed, LineReplayed, ReplaysAll, ReplaysTo, state_of};
+ghost use Rattle.trace_replay.specs.Replays.{IsReplayed, LineReplayed, ReplaysAll, ReplaysTo, state_of};
 ghost use Rattle.trace_replay.specs.ReplayStops.{HasTraceFault, HasScheduleFault, WantsRoom, WantsBlocks, IsLineSoFar, IsSoundAt, Quietly, StopsIn, Stops};
 
 use crate::collecting::{collect, make_room};
@@ -15,19 +15,8 @@ use heap::Config;
 use heap_text::{Sink, Source};
 use model::Kind;
 use std::alloc::Allocator;
-use trace_session::{Attempt, Fault, Session, attempt_line, read_all, split_line};
-use trace_text::{Command, Line, MAX_LINE_LEN, parse};
-
-/// The oldest generation that a line asks to collect.
-fn collected(line: &[u8]) -> Option<u64>
-    ensures some { IfSome result (λ g. entry_of line.now ≡ Ok (Some (Collect g))) }
-    ensures none { IfNone result (IsNoCollection (entry_of line.now)) }
-{
-    match parse(line) {
-        Ok(Line::Command(Command::Collect { generation })) => Some(generation),
-        _ => None,
-    }
-}
+use trace_session::{Attempt, Fault, Session, attempt_line, collected, read_all, split_line};
+use trace_text::MAX_LINE_LEN;
 
 /// Carries out line `number`, which has no schedule. Where a new object has no room in its nursery, so many workers collect
 /// generation 0 first.

@@ -9,7 +9,7 @@ use Rattle.model.specs.Config.{Config}
 use Rattle.model.specs.Store.{Store}
 use Rattle.model.specs.Commands.{Run}
 use Rattle.trace_session.specs.declared.trace_lines.fault.Fault.{Fault}
-use Rattle.trace_session.specs.declared.trace_lines.fault.Fault.TheVariants.{BadTrace, BadSchedule, HeapFull, NoMemory, ReadFailed, WriteFailed}
+use Rattle.trace_session.specs.declared.trace_lines.fault.Fault.TheVariants.{BadTrace, BadSchedule, HeapFull, NoMemory, Unsettled, ReadFailed, WriteFailed}
 use Rattle.trace_session.specs.Faults.{MatchFault}
 use Rattle.trace_session.specs.Pieces.{HasNoFeed, finished, pieces}
 use Rattle.trace_session.specs.Outcome.{after, outcome_from, line_step}
@@ -130,7 +130,7 @@ module _ (stands stands' : Config → Store → Type 0) (number : ℕ) (text : L
       let here = so_far config store at in
       CarriesOut-line config number store text number' here.next rest old now here.carries line next is free stands'' new (steps config here.next here.stands')
 
-  leaves : (P : Config → Store → List ℕ → List ℕ → Type 0) (at : Option ℕ) → at ≡ Some number' → (new : Option (List ℕ)) → AtEach stands' (λ config store. Writes (P config store line) now new) → AtEach stands (λ config store. LeavesBefore (P config) config number store text at old new)
+  pub leaves : (P : Config → Store → List ℕ → List ℕ → Type 0) (at : Option ℕ) → at ≡ Some number' → (new : Option (List ℕ)) → AtEach stands' (λ config store. Writes (P config store line) now new) → AtEach stands (λ config store. LeavesBefore (P config) config number store text at old new)
   leaves P at here new own = λ config store there.
       let before = so_far config store there in
       leaves_before config number store text number' before.next rest old now before.carries line next is free (P config) at here new (own config before.next before.stands')
@@ -157,5 +157,6 @@ module _ (stands stands' : Config → Store → Type 0) (number : ℕ) (text : L
       let fault = facts.1 config store there in
       rw (fault.1, same) (record { written = []; held = Appends-nil now; holds = (fault.0, refl) }))
   fault_of_line wants contents before new failed (NoMemory at) same facts = leaves IsSoundSoFar at facts.0 (contents new) (rw (← same) facts.1)
+  fault_of_line wants contents before new failed (Unsettled line) same facts = absurd facts
   fault_of_line wants contents before new failed ReadFailed same facts = facts
   fault_of_line wants contents before new failed WriteFailed same facts = facts

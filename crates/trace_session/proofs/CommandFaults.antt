@@ -7,7 +7,7 @@ use Rattle.model.specs.Config.{Config}
 use Rattle.model.specs.Store.{Store}
 use Rattle.model.specs.Commands.{Outcome as Stepped}
 use Rattle.trace_session.specs.declared.trace_lines.fault.Fault.{Fault}
-use Rattle.trace_session.specs.declared.trace_lines.fault.Fault.TheVariants.{BadTrace, BadSchedule, HeapFull, NoMemory, ReadFailed, WriteFailed}
+use Rattle.trace_session.specs.declared.trace_lines.fault.Fault.TheVariants.{BadTrace, BadSchedule, HeapFull, NoMemory, Unsettled, ReadFailed, WriteFailed}
 use Rattle.trace_session.specs.Faults.{MatchFault}
 use Rattle.trace_session.specs.Stepped.{AtEach, StepsTo, StepsQuietly}
 
@@ -25,6 +25,7 @@ never_full (Err (BadTrace line kind)) trace full memory written fault = fault
 never_full (Err (BadSchedule line kind)) trace full memory written fault = fault
 never_full (Err (HeapFull line)) trace full memory written fault = absurd fault
 never_full (Err (NoMemory line)) trace full memory written fault = fault
+never_full (Err (Unsettled line)) trace full memory written fault = absurd fault
 never_full (Err ReadFailed) trace full memory written fault = fault
 never_full (Err WriteFailed) trace full memory written fault = fault
 
@@ -46,5 +47,6 @@ module _ {X T : Type 0} (number : ℕ) (before after : T) (same : after ≡ befo
   quiet_faults (Err (BadSchedule line kind)) fault = absurd fault
   quiet_faults (Err (HeapFull line)) fault = absurd fault
   quiet_faults (Err (NoMemory line)) fault = (fault.0, fault.1, same)
+  quiet_faults (Err (Unsettled line)) fault = absurd fault
   quiet_faults (Err ReadFailed) fault = absurd fault
   quiet_faults (Err WriteFailed) fault = absurd fault

@@ -8,7 +8,7 @@ use Rattle.model.specs.Store.{Store}
 use Rattle.model.specs.Commands.{Command, New, Set, Put, Get, Drop, Collect, Census, Heap}
 use Rattle.trace_text.specs.Grammar.{entry_of, ◌>>=◌}
 use Rattle.trace_session.specs.declared.trace_lines.fault.Fault.{Fault}
-use Rattle.trace_session.specs.declared.trace_lines.fault.Fault.TheVariants.{BadTrace, BadSchedule, HeapFull, NoMemory, ReadFailed, WriteFailed}
+use Rattle.trace_session.specs.declared.trace_lines.fault.Fault.TheVariants.{BadTrace, BadSchedule, HeapFull, NoMemory, Unsettled, ReadFailed, WriteFailed}
 use Rattle.trace_session.specs.declared.trace_lines.attempt.Attempt.{Attempt}
 use Rattle.trace_session.specs.declared.trace_lines.attempt.Attempt.TheVariants.{Done, NurseryFull}
 use Rattle.trace_session.specs.Attempts.{MatchAttempt}
@@ -21,17 +21,17 @@ use Rattle.trace_session.specs.Refusals.{MayBeFull, CommandMayBeFull, ReadWantsB
 use Rattle.trace_session.specs.SessionType.{Session}
 use Rattle.trace_session.specs.Commands.{MakesNone}
 
-line_is : (config : Config) (store : Store) (line : List ℕ) (command : Command) → entry_of line ≡ Ok (Some command) → line_step config store line ≡ command_step config store command
+pub line_is : (config : Config) (store : Store) (line : List ℕ) (command : Command) → entry_of line ≡ Ok (Some command) → line_step config store line ≡ command_step config store command
 unfolding line_step
 line_is config store line command says = ap (λ (read : Result (Option Command) Kind). read >>= entry_step config store) says
 
-line_sound : (config : Config) (store : Store) (line : List ℕ) (command : Command) → entry_of line ≡ Ok (Some command) → IsSoundCommand config store command → IsSoundTraceLine config store line
+pub line_sound : (config : Config) (store : Store) (line : List ℕ) (command : Command) → entry_of line ≡ Ok (Some command) → IsSoundCommand config store command → IsSoundTraceLine config store line
 line_sound config store line command says sound = ap is_ok (line_is config store line command says) ∙ sound
 
-line_full : (config : Config) (store : Store) (line : List ℕ) (command : Command) → entry_of line ≡ Ok (Some command) → CommandMayBeFull config store command → MayBeFull config store line
+line_full : (config : Config) (store : Store) (line : List ℕ) (command : Command) → entry_of line ≡ Ok (Some command) → CommandMayBeFull 1 config store command → MayBeFull 1 config store line
 line_full config store line command says may = record {
   sound = line_sound config store line command says may.sound;
-  wants = subst (ReadWantsBlocks config store) (sym says) may.wants;
+  wants = subst (ReadWantsBlocks 1 config store) (sym says) may.wants;
 }
 
 -- a command that makes no object collects nothing first
@@ -61,12 +61,12 @@ new_line stands stands' line command says held (Err e) f = tt
 pub new_fault : {A : Type 0} (session : Session A) (stands : Config → Store → Type 0) (number : ℕ) (line text : List ℕ) (m p q : ℕ) → entry_of line ≡ Ok (Some (New text m p q)) → {W : Type 0} (held : W) (written : Type 0) (r : Result Attempt Fault)
     → IfErr r (λ e. MatchFault e
     (λ at kind. (at ≡ number) × AtEach stands (λ config store. command_step config store (New text m p q) ≡ Err kind))
-    (λ at. (at ≡ Some number) × LacksBlocks session.heap p q × AtEach stands (λ config store. CommandMayBeFull config store (New text m p q) × ¬ CollectsFirst config store (New text m p q)))
+    (λ at. (at ≡ Some number) × LacksBlocks session.heap p q × AtEach stands (λ config store. CommandMayBeFull 1 config store (New text m p q) × ¬ CollectsFirst config store (New text m p q)))
     (λ at. (at ≡ Some number) × AtEach stands (λ config store. IsSoundCommand config store (New text m p q)))
     ⊥ ⊥)
     → IfErr r (λ e. MatchFault e
     (λ at kind. (at ≡ number) × AtEach stands (λ config store. line_step config store line ≡ Err kind) × (held ≡ held))
-    (λ at. (at ≡ Some number) × IsFullFor session.heap (entry_of line) × AtEach stands (λ config store. MayBeFull config store line × ¬ LineCollectsFirst config store line) × (held ≡ held))
+    (λ at. (at ≡ Some number) × IsFullFor 1 session.heap (entry_of line) × AtEach stands (λ config store. MayBeFull 1 config store line × ¬ LineCollectsFirst config store line) × (held ≡ held))
     (λ at. (at ≡ Some number) × AtEach stands (λ config store. IsSoundTraceLine config store line) × (held ≡ held))
     ⊥ written)
 new_fault session stands number line text m p q says held written (Ok a) facts = tt
@@ -74,11 +74,12 @@ new_fault session stands number line text m p q says held written (Err (BadTrace
 new_fault session stands number line text m p q says held written (Err (BadSchedule at kind)) facts = absurd facts
 new_fault session stands number line text m p q says held written (Err (HeapFull at)) facts = (
   facts.0,
-  subst (IsFullFor session.heap) (sym says) facts.1,
+  subst (IsFullFor 1 session.heap) (sym says) facts.1,
   λ config store there. let may = facts.2 config store there in (line_full config store line (New text m p q) says may.0, λ first. may.1 (subst (ReadCollectsFirst config store) says first)),
   refl,
 )
 new_fault session stands number line text m p q says held written (Err (NoMemory at)) facts = (facts.0, λ config store there. line_sound config store line (New text m p q) says (facts.1 config store there), refl)
+new_fault session stands number line text m p q says held written (Err (Unsettled at)) facts = absurd facts
 new_fault session stands number line text m p q says held written (Err ReadFailed) facts = absurd facts
 new_fault session stands number line text m p q says held written (Err WriteFailed) facts = absurd facts
 
@@ -86,22 +87,23 @@ module _ {A : Type 0} (session : Session A) (stands : Config → Store → Type 
   pub line_fault : (e : Fault)
       → MatchFault e
       (λ at kind. (at ≡ number) × AtEach stands (λ config store. command_step config store command ≡ Err kind) × (new ≡ old))
-      (λ at. (at ≡ Some number) × MakesNone command × IsFullFor session.heap (Ok (Some command)) × AtEach stands (λ config store. CommandMayBeFull config store command) × (new ≡ old))
+      (λ at. (at ≡ Some number) × MakesNone command × IsFullFor 1 session.heap (Ok (Some command)) × AtEach stands (λ config store. CommandMayBeFull 1 config store command) × (new ≡ old))
       (λ at. (at ≡ Some number) × AtEach stands (λ config store. IsSoundCommand config store command) × (new ≡ old))
       ⊥ written
       → MatchFault e
       (λ at kind. (at ≡ number) × AtEach stands (λ config store. line_step config store line ≡ Err kind) × (new ≡ old))
-      (λ at. (at ≡ Some number) × IsFullFor session.heap (entry_of line) × AtEach stands (λ config store. MayBeFull config store line × ¬ LineCollectsFirst config store line) × (new ≡ old))
+      (λ at. (at ≡ Some number) × IsFullFor 1 session.heap (entry_of line) × AtEach stands (λ config store. MayBeFull 1 config store line × ¬ LineCollectsFirst config store line) × (new ≡ old))
       (λ at. (at ≡ Some number) × AtEach stands (λ config store. IsSoundTraceLine config store line) × (new ≡ old))
       ⊥ written
   line_fault (BadTrace at kind) facts = (facts.0, λ config store there. line_is config store line command says ∙ facts.1 config store there, facts.2)
   line_fault (BadSchedule at kind) facts = absurd facts
   line_fault (HeapFull at) facts = (
     facts.0,
-    subst (IsFullFor session.heap) (sym says) facts.2,
+    subst (IsFullFor 1 session.heap) (sym says) facts.2,
     λ config store there. (line_full config store line command says (facts.3 config store there), λ first. makes_none config store command facts.1 (subst (ReadCollectsFirst config store) says first)),
     facts.4,
   )
   line_fault (NoMemory at) facts = (facts.0, λ config store there. line_sound config store line command says (facts.1 config store there), facts.2)
+  line_fault (Unsettled at) facts = absurd facts
   line_fault ReadFailed facts = facts
   line_fault WriteFailed facts = facts

@@ -4,7 +4,7 @@ use Rattle.std.specs.Prelude.{IfSome, IfErr, MatchOption}
 use Rattle.model.specs.Config.{Config}
 use Rattle.model.specs.Store.{Store, empty_store}
 use Rattle.trace_session.specs.declared.trace_lines.fault.Fault.{Fault}
-use Rattle.trace_session.specs.declared.trace_lines.fault.Fault.TheVariants.{BadTrace, BadSchedule, HeapFull, NoMemory, ReadFailed, WriteFailed}
+use Rattle.trace_session.specs.declared.trace_lines.fault.Fault.TheVariants.{BadTrace, BadSchedule, HeapFull, NoMemory, Unsettled, ReadFailed, WriteFailed}
 use Rattle.trace_session.specs.Faults.{MatchFault}
 use Rattle.trace_session.specs.Pieces.{pieces}
 use Rattle.trace_session.specs.Outcome.{outcome, outcome_from}
@@ -14,7 +14,7 @@ use Rattle.trace_session.specs.Stepped.{AtEach}
 use Rattle.trace_session.proofs.TextLemmas.{leaves_output}
 
 -- a fact of the whole text is one of the input, where that is known
-of_input : (P : List ℕ → Type 0) (before : Option (List ℕ)) (text : List ℕ) → IfSome before (λ input. text ≡ input) → P text → IfSome before P
+pub of_input : (P : List ℕ → Type 0) (before : Option (List ℕ)) (text : List ℕ) → IfSome before (λ input. text ≡ input) → P text → IfSome before P
 of_input P None text same holds = tt
 of_input P (Some input) text same holds = subst P same holds
 
@@ -23,7 +23,7 @@ leaves P config before text none old new None same left = let no : None ≡ Some
 leaves P config before text none old new (Some line) same left = of_input (LeavesOutput P config line old new) before text same (leaves_output P config text line old new left)
 
 module _ (wants : Config → Store → List ℕ → Type 0) (stands : Config → Store → Type 0) (config : Config) (begins : stands config (empty_store config)) (before : Option (List ℕ)) (text : List ℕ) (same : IfSome before (λ input. text ≡ input)) (old new : Option (List ℕ)) (written full memory read : Type 0) where
-  run_fault : (e : Fault)
+  pub run_fault : (e : Fault)
       → MatchFault e
       (λ at kind. AtEach stands (λ c store. Prints (outcome_from c 1 store (pieces text)) (Some (at, kind)) old new))
       (λ at. AtEach stands (λ c store. LeavesBefore (Silently (wants c)) c 1 store text at old new))
@@ -38,6 +38,7 @@ module _ (wants : Config → Store → List ℕ → Type 0) (stands : Config →
   run_fault (BadSchedule line kind) facts = facts
   run_fault (HeapFull line) facts = leaves (Silently (wants config)) config before text full old new line same (facts config (empty_store config) begins)
   run_fault (NoMemory line) facts = leaves (IsSoundSoFar config) config before text memory old new line same (facts config (empty_store config) begins)
+  run_fault (Unsettled line) facts = absurd facts
   run_fault ReadFailed facts = absurd facts
   run_fault WriteFailed facts = facts
 

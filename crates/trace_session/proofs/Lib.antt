@@ -41,3 +41,5 @@ pub mod HeapSteps
 pub mod CommandLine
 pub mod Twice
 pub mod NoMemory
+-- The same where workers on threads of their own collect.
+pub mod Apart

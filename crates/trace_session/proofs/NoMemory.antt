@@ -3,7 +3,7 @@ use Rattle.std.proofs.Common.{Result, Ok, Err, ℕ, Option}
 use Rattle.std.specs.Prelude.{IfErr}
 use Rattle.model.specs.declared.kind.Kind.{Kind}
 use Rattle.trace_session.specs.declared.trace_lines.fault.Fault.{Fault}
-use Rattle.trace_session.specs.declared.trace_lines.fault.Fault.TheVariants.{BadTrace, BadSchedule, HeapFull, NoMemory, ReadFailed, WriteFailed}
+use Rattle.trace_session.specs.declared.trace_lines.fault.Fault.TheVariants.{BadTrace, BadSchedule, HeapFull, NoMemory, Unsettled, ReadFailed, WriteFailed}
 use Rattle.trace_session.specs.Faults.{MatchFault}
 
 -- no fault says that memory is wanting
@@ -13,5 +13,6 @@ never_wanting (Err (BadTrace line kind)) trace full memory written fault = fault
 never_wanting (Err (BadSchedule line kind)) trace full memory written fault = fault
 never_wanting (Err (HeapFull line)) trace full memory written fault = fault
 never_wanting (Err (NoMemory line)) trace full memory written fault = absurd fault
+never_wanting (Err (Unsettled line)) trace full memory written fault = absurd fault
 never_wanting (Err ReadFailed) trace full memory written fault = fault
 never_wanting (Err WriteFailed) trace full memory written fault = fault

@@ -12,14 +12,14 @@ use Rattle.model.specs.Commands.{Collect, Census}
 use Rattle.heap.specs.HeapValue.{HeapValue}
 use Rattle.heap.specs.Commands.{heap_census}
 use Rattle.heap.specs.ReportValue.{WorkerLists}
-use Rattle.steps.specs.declared.heap_values.report.Delivery.{Delivery}
-use Rattle.settling.specs.Collects.{CollectsAlone, IsShortOfBlocks}
+use Rattle.settling.specs.Collects.{Collects}
+use Rattle.workers_in_threads.specs.Reports.{IsShortOfBlocksFor}
 use Rattle.trace_session.specs.CollectsFirst.{auto_line}
 use Rattle.trace_session.specs.Outcome.{command_step}
 use Rattle.trace_session.specs.Sound.{IsSoundCommand}
 use Rattle.trace_session.specs.Stepped.{StepsTo}
 use Rattle.trace_session.specs.Refusals.{CommandMayBeFull}
-use Rattle.trace_session.specs.Made as made_by
+use Rattle.trace_session.specs.Made.{MadeByCalls}
 use Rattle.trace_session.specs.Stands.{StandsFor}
 use Rattle.trace_session.proofs.CountsSame.{same_census}
 use Rattle.trace_session.proofs.StandsCollected.{stands_collected, kept_same, freed_same}
@@ -36,15 +36,14 @@ module _ (heap : HeapValue) (names : List (List ℕ × ℕ)) (config : Config) (
         held = subst (λ c. Appends old new (census_text c)) same held;
       }
 
-  pub steps_collect : (g kept freed : ℕ) (workers : List WorkerLists) (deliveries : List Delivery) (heap' : HeapValue) (old new : Option (List ℕ)) → CollectsAlone heap g kept freed workers deliveries heap' → g < heap.config.shape.generations → Appends old new (collection_line (codes "collected") g kept freed) → StepsTo (StandsFor heap' names) config (command_step config store (Collect g)) old new
-  steps_collect g kept freed workers deliveries heap' old new alone in_range held =
-      let collects = alone.collects in
+  pub steps_collect : (g kept freed : ℕ) (workers : List WorkerLists) (heap' : HeapValue) (old new : Option (List ℕ)) → Collects heap g kept freed workers heap' → MadeByCalls heap' → g < heap.config.shape.generations → Appends old new (collection_line (codes "collected") g kept freed) → StepsTo (StandsFor heap' names) config (command_step config store (Collect g)) old new
+  steps_collect g kept freed workers heap' old new collects by_calls in_range held =
       let known : nat_lt g config.shape.generations ≡ true = lt-ltb g config.shape.generations (rw (← stands.config_is) in_range) in
       record {
         next = collected config g store;
         out = collection_line (codes "collected") g (kept_count store g) (freed_count store g);
         steps = rw known refl;
-        stands' = stands_collected heap names config store stands g kept freed workers heap' collects (made_by.collected g kept freed workers deliveries stands.made alone);
+        stands' = stands_collected heap names config store stands g kept freed workers heap' collects by_calls;
         held =
             subst (λ k. Appends old new (collection_line (codes "collected") g k (freed_count store g))) (kept_same heap names config store stands g kept freed workers heap' collects)
             (subst (λ f. Appends old new (collection_line (codes "collected") g kept f)) (freed_same heap names config store stands g kept freed workers heap' collects) held);
@@ -62,8 +61,8 @@ module _ (heap : HeapValue) (names : List (List ℕ × ℕ)) (config : Config) (
       rw known refl
 
   -- where the heap is short of blocks a collection may be refused
-  pub collect_full : (g : ℕ) → g < heap.config.shape.generations → IsShortOfBlocks heap g → CommandMayBeFull config store (Collect g)
-  collect_full g in_range short =
+  pub collect_full : (n g : ℕ) → g < heap.config.shape.generations → IsShortOfBlocksFor heap g n → CommandMayBeFull n config store (Collect g)
+  collect_full n g in_range short =
       let known : nat_lt g config.shape.generations ≡ true = lt-ltb g config.shape.generations (rw (← stands.config_is) in_range) in
       record {
         sound = rw known refl;
@@ -71,10 +70,9 @@ module _ (heap : HeapValue) (names : List (List ℕ × ℕ)) (config : Config) (
       }
 
   -- generation 0 is collected for a new object
-  pub room_made : (kept freed : ℕ) (workers : List WorkerLists) (deliveries : List Delivery) (heap' : HeapValue) (old new : Option (List ℕ)) → CollectsAlone heap 0 kept freed workers deliveries heap' → Appends old new (collection_line (codes "auto") 0 kept freed) → StandsFor heap' names config (collected config 0 store) × Appends old new (auto_line store)
-  room_made kept freed workers deliveries heap' old new alone held =
-      let collects = alone.collects in (
-        stands_collected heap names config store stands 0 kept freed workers heap' collects (made_by.collected 0 kept freed workers deliveries stands.made alone),
-        subst (λ k. Appends old new (collection_line (codes "auto") 0 k (freed_count store 0))) (kept_same heap names config store stands 0 kept freed workers heap' collects)
-            (subst (λ f. Appends old new (collection_line (codes "auto") 0 kept f)) (freed_same heap names config store stands 0 kept freed workers heap' collects) held),
-      )
+  pub room_made : (kept freed : ℕ) (workers : List WorkerLists) (heap' : HeapValue) (old new : Option (List ℕ)) → Collects heap 0 kept freed workers heap' → MadeByCalls heap' → Appends old new (collection_line (codes "auto") 0 kept freed) → StandsFor heap' names config (collected config 0 store) × Appends old new (auto_line store)
+  room_made kept freed workers heap' old new collects by_calls held = (
+    stands_collected heap names config store stands 0 kept freed workers heap' collects by_calls,
+    subst (λ k. Appends old new (collection_line (codes "auto") 0 k (freed_count store 0))) (kept_same heap names config store stands 0 kept freed workers heap' collects)
+        (subst (λ f. Appends old new (collection_line (codes "auto") 0 kept f)) (freed_same heap names config store stands 0 kept freed workers heap' collects) held),
+  )

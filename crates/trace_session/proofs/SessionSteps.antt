@@ -165,7 +165,7 @@ module _ (heap : HeapValue) (names : List (List ℕ × ℕ)) (config : Config) (
   had_room text m p q root heap' (inr allocates) first = not_first text m p q (rw (← stands.config_is) allocates.large) first
 
   -- a large object without blocks has no fault of its own
-  pub large_full : (text : List ℕ) (m p q : ℕ) → named names text ≡ None → m < heap.config.mutators → is_too_big p q ≡ false → LacksBlocks heap p q → CommandMayBeFull config store (New text m p q) × ¬ CollectsFirst config store (New text m p q)
+  pub large_full : (text : List ℕ) (m p q : ℕ) → named names text ≡ None → m < heap.config.mutators → is_too_big p q ≡ false → LacksBlocks heap p q → CommandMayBeFull 1 config store (New text m p q) × ¬ CollectsFirst config store (New text m p q)
   large_full text m p q free in_range fits lacks =
       let large : is_large_size config (1 + p + q) ≡ true = rw (← stands.config_is) lacks.large in (
         record {

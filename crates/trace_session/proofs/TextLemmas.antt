@@ -6,7 +6,7 @@ use Rattle.model.specs.declared.kind.Kind.TheVariants.{LineTooLong, UnfinishedLi
 use Rattle.model.specs.Config.{Config}
 use Rattle.model.specs.Store.{Store, empty_store}
 use Rattle.trace_session.specs.declared.trace_lines.fault.Fault.{Fault}
-use Rattle.trace_session.specs.declared.trace_lines.fault.Fault.TheVariants.{BadTrace, BadSchedule, HeapFull, NoMemory, ReadFailed, WriteFailed}
+use Rattle.trace_session.specs.declared.trace_lines.fault.Fault.TheVariants.{BadTrace, BadSchedule, HeapFull, NoMemory, Unsettled, ReadFailed, WriteFailed}
 use Rattle.trace_session.specs.Faults.{MatchFault}
 use Rattle.trace_session.specs.CollectsFirst.{IsSoundSoFar}
 use Rattle.trace_session.specs.Stepped.{AtEach}
@@ -97,5 +97,6 @@ text_fault wants stands text old new written (BadTrace at kind) facts = λ confi
 text_fault wants stands text old new written (BadSchedule at kind) facts = facts
 text_fault wants stands text old new written (HeapFull at) facts = facts
 text_fault wants stands text old new written (NoMemory at) facts = facts
+text_fault wants stands text old new written (Unsettled line) facts = absurd facts
 text_fault wants stands text old new written ReadFailed facts = facts
 text_fault wants stands text old new written WriteFailed facts = facts

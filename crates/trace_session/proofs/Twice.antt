@@ -10,7 +10,7 @@ use Rattle.std.specs.Prelude.{not, is_some}
 use Rattle.model.specs.Commands.{Command, Outcome, room_in, is_large_size, New, Set, Put, Get, Drop, Collect, Census, Heap}
 use Rattle.trace_text.specs.Grammar.{entry_of}
 use Rattle.trace_session.specs.declared.trace_lines.fault.Fault.{Fault}
-use Rattle.trace_session.specs.declared.trace_lines.fault.Fault.TheVariants.{BadTrace, BadSchedule, HeapFull, NoMemory, ReadFailed, WriteFailed}
+use Rattle.trace_session.specs.declared.trace_lines.fault.Fault.TheVariants.{BadTrace, BadSchedule, HeapFull, NoMemory, Unsettled, ReadFailed, WriteFailed}
 use Rattle.trace_session.specs.declared.trace_lines.attempt.Attempt.{Attempt}
 use Rattle.trace_session.specs.Attempts.{MatchAttempt}
 use Rattle.trace_session.specs.CollectsFirst.{ReadCollectsFirst, LineCollectsFirst, auto_line}
@@ -34,33 +34,33 @@ store_of other (Err kind) = other
 pub told : (P Q : Type 0) (a b : Attempt) → a ≡ b → MatchAttempt a P Q → MatchAttempt b P Q
 told P Q a b is known = subst (λ x. MatchAttempt x P Q) is known
 
-full_again : (config : Config) (store next : Store) (read : Result (Option Command) Kind) → ReadCollectsFirst config store read → ReadWantsBlocks config next read → ReadCollectsFirst config next read
-full_again config store next (Err kind) first wants = first
-full_again config store next (Ok None) first wants = first
-full_again config store next (Ok (Some (New text m p q))) first (inl wants) = wants.0
-full_again config store next (Ok (Some (New text m p q))) first (inr lacks) =
+full_again : (n : ℕ) (config : Config) (store next : Store) (read : Result (Option Command) Kind) → ReadCollectsFirst config store read → ReadWantsBlocks n config next read → ReadCollectsFirst config next read
+full_again n config store next (Err kind) first wants = first
+full_again n config store next (Ok None) first wants = first
+full_again n config store next (Ok (Some (New text m p q))) first (inl wants) = wants.0
+full_again n config store next (Ok (Some (New text m p q))) first (inr lacks) =
     let small : not (is_large_size config (1 + p + q)) ≡ true = (and_parts (not (is_large_size config (1 + p + q))) (not (is_some (room_in config m (1 + p + q) store))) first).0 in
     let large : is_large_size config (1 + p + q) ≡ true = rw (← lacks.stands.config_is) lacks.lacks.large in
     absurd (true≢false (sym (rw large at small)))
-full_again config store next (Ok (Some (Set text i target))) first wants = absurd first
-full_again config store next (Ok (Some (Put text i value))) first wants = absurd first
-full_again config store next (Ok (Some (Get new_text text i))) first wants = absurd first
-full_again config store next (Ok (Some (Drop text))) first wants = absurd first
-full_again config store next (Ok (Some (Collect g))) first wants = absurd first
-full_again config store next (Ok (Some Census)) first wants = absurd first
-full_again config store next (Ok (Some Heap)) first wants = absurd first
+full_again n config store next (Ok (Some (Set text i target))) first wants = absurd first
+full_again n config store next (Ok (Some (Put text i value))) first wants = absurd first
+full_again n config store next (Ok (Some (Get new_text text i))) first wants = absurd first
+full_again n config store next (Ok (Some (Drop text))) first wants = absurd first
+full_again n config store next (Ok (Some (Collect g))) first wants = absurd first
+full_again n config store next (Ok (Some Census)) first wants = absurd first
+full_again n config store next (Ok (Some Heap)) first wants = absurd first
 
-pub wants_blocks : (config : Config) (store : Store) (read : Result (Option Command) Kind) → ReadCollectsFirst config store read → IsShortFor config store 0 → ReadWantsBlocks config store read
-wants_blocks config store (Err kind) first short = absurd first
-wants_blocks config store (Ok None) first short = absurd first
-wants_blocks config store (Ok (Some (New text m p q))) first short = inl (first, short)
-wants_blocks config store (Ok (Some (Set text i target))) first short = absurd first
-wants_blocks config store (Ok (Some (Put text i value))) first short = absurd first
-wants_blocks config store (Ok (Some (Get new_text text i))) first short = absurd first
-wants_blocks config store (Ok (Some (Drop text))) first short = absurd first
-wants_blocks config store (Ok (Some (Collect g))) first short = absurd first
-wants_blocks config store (Ok (Some Census)) first short = absurd first
-wants_blocks config store (Ok (Some Heap)) first short = absurd first
+pub wants_blocks : (n : ℕ) (config : Config) (store : Store) (read : Result (Option Command) Kind) → ReadCollectsFirst config store read → IsShortFor n config store 0 → ReadWantsBlocks n config store read
+wants_blocks n config store (Err kind) first short = absurd first
+wants_blocks n config store (Ok None) first short = absurd first
+wants_blocks n config store (Ok (Some (New text m p q))) first short = inl (first, short)
+wants_blocks n config store (Ok (Some (Set text i target))) first short = absurd first
+wants_blocks n config store (Ok (Some (Put text i value))) first short = absurd first
+wants_blocks n config store (Ok (Some (Get new_text text i))) first short = absurd first
+wants_blocks n config store (Ok (Some (Drop text))) first short = absurd first
+wants_blocks n config store (Ok (Some (Collect g))) first short = absurd first
+wants_blocks n config store (Ok (Some Census)) first short = absurd first
+wants_blocks n config store (Ok (Some Heap)) first short = absurd first
 
 -- of a line: what its attempts tell, where Full says when blocks may be wanting, and Made what is written where room is made
 module _ (stands : Config → Store → Type 0) (number : ℕ) (line : List ℕ) (Full : Config → Store → Type 0) (Made : Config → Store → List ℕ → Type 0) {W : Type 0} (contents : W → Option (List ℕ)) (old : W) where
@@ -80,7 +80,7 @@ module _ (stands : Config → Store → Type 0) (number : ℕ) (line : List ℕ)
   pub tells_full : (new : W) (failed : Type 0) (e : Fault) (at : Option ℕ) → e ≡ HeapFull at → Tells new failed e → AtEach stands Full
   tells_full new failed e at is told = λ config store there. ((subst (Tells new failed) is told).1 config store there).0
 
-  silent : (config : Config) (store : Store) (new : W) → new ≡ old → IsSoundTraceLine config store line → Writes (SoFar config store) (contents old) (contents new)
+  pub silent : (config : Config) (store : Store) (new : W) → new ≡ old → IsSoundTraceLine config store line → Writes (SoFar config store) (contents old) (contents new)
   silent config store new same sound = record {
     written = [];
     held = subst (λ w. Appends (contents old) (contents w) []) (sym same) (Appends-nil (contents old));
@@ -88,10 +88,10 @@ module _ (stands : Config → Store → Type 0) (number : ℕ) (line : List ℕ)
   }
 
   -- a first attempt
-  pub first_fault : {Lacks : Type 0} → ((config : Config) (store : Store) → MayBeFull config store line → ¬ LineCollectsFirst config store line → Lacks → Full config store) → (new : W) (failed : Type 0) (e : Fault)
+  pub first_fault : {Lacks : Type 0} → ((config : Config) (store : Store) → MayBeFull 1 config store line → ¬ LineCollectsFirst config store line → Lacks → Full config store) → (new : W) (failed : Type 0) (e : Fault)
       → MatchFault e
       (λ at kind. (at ≡ number) × AtEach stands (λ config store. line_step config store line ≡ Err kind) × (new ≡ old))
-      (λ at. (at ≡ Some number) × Lacks × AtEach stands (λ config store. MayBeFull config store line × ¬ LineCollectsFirst config store line) × (new ≡ old))
+      (λ at. (at ≡ Some number) × Lacks × AtEach stands (λ config store. MayBeFull 1 config store line × ¬ LineCollectsFirst config store line) × (new ≡ old))
       (λ at. (at ≡ Some number) × AtEach stands (λ config store. IsSoundTraceLine config store line) × (new ≡ old))
       ⊥ failed
       → Tells new failed e
@@ -99,6 +99,7 @@ module _ (stands : Config → Store → Type 0) (number : ℕ) (line : List ℕ)
   first_fault full new failed (BadSchedule at kind) f = f
   first_fault full new failed (HeapFull at) f = (f.0, λ config store there. let may = f.2 config store there in (full config store may.0 may.1 f.1, f.3))
   first_fault full new failed (NoMemory at) f = (f.0, λ config store there. silent config store new f.2 (f.1 config store there))
+  first_fault full new failed (Unsettled line) f = absurd f
   first_fault full new failed ReadFailed f = f
   first_fault full new failed WriteFailed f = f
 
@@ -121,6 +122,7 @@ module _ (stands : Config → Store → Type 0) (number : ℕ) (line : List ℕ)
           (full config store there w.0 w.1 f.1, f.3 ∙ same),
     )
     room_fault before same Short full session session' new failed failed' told (NoMemory at) f = (f.0, λ config store there. silent config store new (f.2 ∙ same) (wants config store there).0)
+    room_fault before same Short full session session' new failed failed' told (Unsettled line) f = absurd f
     room_fault before same Short full session session' new failed failed' told ReadFailed f = f
     room_fault before same Short full session session' new failed failed' told WriteFailed f = told f
 
@@ -151,7 +153,7 @@ module _ (stands : Config → Store → Type 0) (number : ℕ) (line : List ℕ)
       pub second_fault : (Lacks : Type 0) (before new : W) (failed failed' : Type 0) → contents before ≡ between → (failed → failed') → (e : Fault)
           → MatchFault e
           (λ at kind. (at ≡ number) × AtEach mid (λ config store. line_step config store line ≡ Err kind) × (new ≡ before))
-          (λ at. (at ≡ Some number) × Lacks × AtEach mid (λ config store. MayBeFull config store line × ¬ LineCollectsFirst config store line) × (new ≡ before))
+          (λ at. (at ≡ Some number) × Lacks × AtEach mid (λ config store. MayBeFull 1 config store line × ¬ LineCollectsFirst config store line) × (new ≡ before))
           (λ at. (at ≡ Some number) × AtEach mid (λ config store. IsSoundTraceLine config store line) × (new ≡ before))
           ⊥ failed
           → Tells new failed' e
@@ -169,7 +171,7 @@ module _ (stands : Config → Store → Type 0) (number : ℕ) (line : List ℕ)
         λ config store there.
             let w = wants config store there in
             let may = f.2 config (collected config 0 store) (room config store there).0 in
-            absurd (may.1 (full_again config store (collected config 0 store) (entry_of line) w.1 may.0.wants)),
+            absurd (may.1 (full_again 1 config store (collected config 0 store) (entry_of line) w.1 may.0.wants)),
       )
       second_fault Lacks before new failed failed' same told (NoMemory at) f = (
         f.0,
@@ -182,5 +184,6 @@ module _ (stands : Config → Store → Type 0) (number : ℕ) (line : List ℕ)
               holds = (w.0, inr (w.1, own.holds));
             },
       )
+      second_fault Lacks before new failed failed' same told (Unsettled line) f = absurd f
       second_fault Lacks before new failed failed' same told ReadFailed f = f
       second_fault Lacks before new failed failed' same told WriteFailed f = told f

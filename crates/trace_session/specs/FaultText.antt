@@ -36,6 +36,7 @@ line_of (faults.BadTrace line kind) = Some line
 line_of (faults.BadSchedule line kind) = Some line
 line_of (faults.HeapFull line) = line
 line_of (faults.NoMemory line) = line
+line_of (faults.Unsettled line) = Some line
 line_of faults.ReadFailed = None
 line_of faults.WriteFailed = None
 
@@ -44,6 +45,7 @@ plain_text (faults.BadTrace line kind) = kind_text kind
 plain_text (faults.BadSchedule line kind) = schedule_kind_text kind
 plain_text (faults.HeapFull line) = codes "heap full"
 plain_text (faults.NoMemory line) = codes "no memory"
+plain_text (faults.Unsettled line) = codes "cells unsettled"
 plain_text faults.ReadFailed = codes "read failed"
 plain_text faults.WriteFailed = codes "write failed"
 

@@ -8,8 +8,9 @@ use Rattle.heap.specs.ReportValue.{WorkerLists}
 use Rattle.steps.specs.declared.heap_values.report.Delivery.{Delivery}
 use Rattle.settling.specs.Collects.{CollectsAlone}
 use Rattle.settling.specs.Together.{CollectsTogether}
+use Rattle.workers_in_threads.specs.Reports.{CollectsApart}
 
--- from a heap with no object on, one call after another, each collection by one worker or by several together
+-- from a heap with no object on, one call after another, each collection by one worker, by several in turn or by several on threads
 pub data MadeByCalls : HeapValue → Type 0 where
   made : (config : Config) → MadeByCalls (empty_heap config)
   allocated : {old new : HeapValue} (mutator p q root : ℕ) → MadeByCalls old → Allocates old mutator p q root new → MadeByCalls new
@@ -19,3 +20,4 @@ pub data MadeByCalls : HeapValue → Type 0 where
   loaded : {old new : HeapValue} (name root field new_root : ℕ) → MadeByCalls old → pointer_of old.graph root field ≡ Some (Some name) → AddsRoot old name new_root new → MadeByCalls new
   collected : {old new : HeapValue} (g kept freed : ℕ) (workers : List WorkerLists) (deliveries : List Delivery) → MadeByCalls old → CollectsAlone old g kept freed workers deliveries new → MadeByCalls new
   collected_together : {old new : HeapValue} (g n kept freed : ℕ) (workers : List WorkerLists) (deliveries : List Delivery) → MadeByCalls old → CollectsTogether old g n kept freed workers deliveries new → MadeByCalls new
+  collected_apart : {old new : HeapValue} (g n kept freed : ℕ) (workers : List WorkerLists) (deliveries : List Delivery) → MadeByCalls old → CollectsApart old g n kept freed workers deliveries new → MadeByCalls new

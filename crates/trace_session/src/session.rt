@@ -68,7 +68,7 @@ impl<A: Allocator + Clone> Session<A> {
         ensures full { result ≡ Ok Attempt.NurseryFull → self.new ≡ self.old }
         ensures err { IfErr result (λ e. MatchFault e
             (λ at kind. (at ≡ number) × AtEach (Stands self.old) (λ config store. command_step config store (New name.now mutator pointers plain) ≡ Err kind))
-            (λ at. (at ≡ Some number) × LacksBlocks self.old.heap pointers plain × AtEach (Stands self.old) (λ config store. CommandMayBeFull config store (New name.now mutator pointers plain) × ¬ CollectsFirst config store (New name.now mutator pointers plain)))
+            (λ at. (at ≡ Some number) × LacksBlocks self.old.heap pointers plain × AtEach (Stands self.old) (λ config store. CommandMayBeFull 1 config store (New name.now mutator pointers plain) × ¬ CollectsFirst config store (New name.now mutator pointers plain)))
             (λ at. (at ≡ Some number) × AtEach (Stands self.old) (λ config store. IsSoundCommand config store (New name.now mutator pointers plain)))
             ⊥ ⊥) }
     {

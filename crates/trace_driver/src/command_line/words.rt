@@ -1,11 +1,13 @@
 //! The words of a command line.
 ghost use Rattle.std.specs.Prelude.{◌≡◌, ◌↔◌, IfSome, Some, codes};
 ghost use Rattle.clap.specs.Values.{kind_of};
+ghost use Rattle.collector.specs.declared.apart.CellKind.TheVariants.{Box, Word};
 ghost use Rattle.trace_driver.specs.Refusals.{IsToldOf};
 ghost use Rattle.trace_driver.specs.declared.command_line.words.Task.TheVariants.{Run, Replay};
 
 use clap::error::ErrorKind;
 use clap::{Arg, ArgMatches, Command, Error, value_parser};
+use collector::CellKind;
 use std::alloc::{AllocError, Global};
 use std::convert::AsStr;
 use steps::Sizes;
@@ -25,6 +27,8 @@ pub enum Task {
 pub struct Options {
     pub task: Task,
     pub threads: u64,
+    /// The cells that threads share, which a replay has none of.
+    pub cells: CellKind,
     pub sizes: Sizes,
 }
 
@@ -56,11 +60,12 @@ const ABOUT_REPLAY: &str =
 const AFTER_HELP: &str = "Examples:
   gctrace run < trace
   gctrace run --generations 1 --block-words 64 --blocks 100 < trace
+  gctrace run --threads 4 --cells box < trace
   gctrace replay --threads 2 < trace-with-schedules
 
 Status:
   0  each line was carried out
-  1  the heap is full, or memory is wanting
+  1  the heap is full, memory is wanting, or cells are not settled
   2  a line is faulty
   3  the words are mistaken, or an option is out of range
   4  a read or a write failed
@@ -101,14 +106,14 @@ fn number_option<'a>(alloc: Global, name: &'a str, default: &'a str, help: &'a s
         .default_value(default)
 }
 
-/// The kind of forwarding cells. The option knows one so far, and changes nothing.
+/// The kind of forwarding cells.
 fn cells_option<'a>(alloc: Global) -> Arg<'a> {
     Arg::new(alloc, "cells")
         .long("cells")
         .value_name("KIND")
-        .help("Kind of forwarding cells, which changes nothing yet")
-        .value_parser(["box"].as_slice())
-        .default_value("box")
+        .help("Kind of forwarding cells that threads share")
+        .value_parser(["box", "word"].as_slice())
+        .default_value("word")
 }
 
 /// A subcommand with the options that each of them takes.
@@ -145,10 +150,10 @@ fn task_command<'a>(
 }
 
 fn gctrace_command<'a>(alloc: Global, defaults: &'a Defaults) -> Result<Command<'a>, AllocError> {
-    let of_run = "Workers of a collection: 1";
+    let of_run = "Workers of a collection, each on a thread: 1 to 16";
     let run = task_command(alloc, "run", ABOUT_RUN, of_run, defaults)?;
-    let of_workers = "Workers of a collection: 1 to 16";
-    let replay = task_command(alloc, "replay", ABOUT_REPLAY, of_workers, defaults)?;
+    let of_replay = "Workers of a collection, in turn: 1 to 16";
+    let replay = task_command(alloc, "replay", ABOUT_REPLAY, of_replay, defaults)?;
     Command::new(alloc, "gctrace")
         .version(VERSION)
         .about(ABOUT)
@@ -166,6 +171,18 @@ fn task_of(name: &str) -> Option<Task>
     match name {
         "run" => Some(Task::Run),
         "replay" => Some(Task::Replay),
+        _ => None,
+    }
+}
+
+/// The cells of this name.
+fn cells_of(name: &str) -> Option<CellKind>
+    ensures boxed { (result ≡ Some Box) ↔ (name.now ≡ codes "box") }
+    ensures words { (result ≡ Some Word) ↔ (name.now ≡ codes "word") }
+{
+    match name {
+        "box" => Some(CellKind::Box),
+        "word" => Some(CellKind::Word),
         _ => None,
     }
 }
@@ -188,6 +205,7 @@ fn options_of(name: &str, matches: &ArgMatches<'_>) -> Option<Options>
 {
     Some(Options {
         task: task_of(name)?,
+        cells: cells_of(matches.get_str("cells").unwrap_or("word"))?,
         threads: matches.get_one::<u64>("threads")?,
         sizes: sizes_of(matches)?,
     })

@@ -2,7 +2,7 @@
 ghost use Rattle.std.specs.Prelude.{◌≡◌, ◌+◌, ◌-◌, ◌^◌, ◌<◌, OnOk, OnErr};
 ghost use Rattle.std.specs.Io.KnownBytes.{Appends};
 ghost use Rattle.trace_session.specs.FaultText.{kind_text, schedule_kind_text, line_of, plain_text, place_text, fault_line};
-ghost use Rattle.trace_session.specs.Faults.{MatchEachFault};
+ghost use Rattle.trace_session.specs.Faults.{MatchAnyFault};
 
 use heap_text::{Sink, WriteFailed, write_all};
 use itoa::Buffer;
@@ -26,6 +26,9 @@ pub enum Fault {
     /// Memory was refused in this line, or before the first.
     #[error("{place}no memory", place = Place(*.0))]
     NoMemory(Option<u128>),
+    /// A boxed cell showed a place that no worker won, in the collection of this line.
+    #[error("line {0}: cells unsettled")]
+    Unsettled(u128),
     #[error("read failed")]
     ReadFailed,
     #[error("write failed")]
@@ -79,14 +82,14 @@ fn schedule_kind_text(kind: ScheduleKind) -> &'static str
 }
 
 impl Fault {
-    /// The exit status of a program that stopped so: 1 for want of blocks or memory, 2 for a faulty trace or
-    /// schedule, 4 for a failed read or write.
+    /// The exit status of a program that stopped so: 1 for want of blocks or memory or for unsettled cells, 2 for a faulty
+    /// trace or schedule, 4 for a failed read or write.
     pub fn status(&self) -> u8
-        ensures { MatchEachFault self.now (λ _ _. result ≡ 2) (λ _ _. result ≡ 2) (λ _. result ≡ 1) (λ _. result ≡ 1) (result ≡ 4) (result ≡ 4) }
+        ensures { MatchAnyFault self.now (λ _ _. result ≡ 2) (λ _ _. result ≡ 2) (λ _. result ≡ 1) (λ _. result ≡ 1) (λ _. result ≡ 1) (result ≡ 4) (result ≡ 4) }
     {
         match self {
             Fault::BadTrace(_, _) | Fault::BadSchedule(_, _) => 2,
-            Fault::HeapFull(_) | Fault::NoMemory(_) => 1,
+            Fault::HeapFull(_) | Fault::NoMemory(_) | Fault::Unsettled(_) => 1,
             Fault::ReadFailed | Fault::WriteFailed => 4,
         }
     }
@@ -97,6 +100,7 @@ impl Fault {
         match self {
             Fault::BadTrace(line, _) | Fault::BadSchedule(line, _) => Some(*line),
             Fault::HeapFull(line) | Fault::NoMemory(line) => *line,
+            Fault::Unsettled(line) => Some(*line),
             Fault::ReadFailed | Fault::WriteFailed => None,
         }
     }
@@ -110,6 +114,7 @@ impl Fault {
             Fault::BadSchedule(_, kind) => schedule_kind_text(*kind),
             Fault::HeapFull(_) => "heap full",
             Fault::NoMemory(_) => "no memory",
+            Fault::Unsettled(_) => "cells unsettled",
             Fault::ReadFailed => "read failed",
             Fault::WriteFailed => "write failed",
         }

@@ -76,7 +76,7 @@ pub fn collect<A: Allocator + Clone, W: Sink>(
     ensures rises { W.failed_writes writer.new ≤ W.failed_writes writer.old + 1 }
     ensures err { IfErr result (λ e. MatchFault e
         (λ at kind. (at ≡ number) × AtEach (Stands session.old) (λ config store. command_step config store (Collect generation) ≡ Err kind) × (writer.new ≡ writer.old))
-        (λ at. (at ≡ Some number) × IsShortOfBlocks session.old.heap generation × AtEach (Stands session.old) (λ config store. CommandMayBeFull config store (Collect generation)) × (writer.new ≡ writer.old))
+        (λ at. (at ≡ Some number) × IsShortOfBlocks session.old.heap generation × AtEach (Stands session.old) (λ config store. CommandMayBeFull 1 config store (Collect generation)) × (writer.new ≡ writer.old))
         (λ at. (at ≡ Some number) × AtEach (Stands session.old) (λ config store. IsSoundCommand config store (Collect generation)) × (writer.new ≡ writer.old))
         ⊥
         (W.failed_writes writer.new ≡ W.failed_writes writer.old + 1)) }

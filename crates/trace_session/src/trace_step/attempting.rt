@@ -34,7 +34,7 @@ fn carry_out_command<A: Allocator + Clone, W: Sink>(
     ensures rises { W.failed_writes writer.new ≤ W.failed_writes writer.old + 1 }
     ensures err { IfErr result (λ e. MatchFault e
         (λ at kind. (at ≡ number) × AtEach (Stands session.old) (λ config store. command_step config store (command_of command.entry) ≡ Err kind) × (writer.new ≡ writer.old))
-        (λ at. (at ≡ Some number) × MakesNone (command_of command.entry) × IsFullFor session.old.heap (Ok (Some (command_of command.entry))) × AtEach (Stands session.old) (λ config store. CommandMayBeFull config store (command_of command.entry)) × (writer.new ≡ writer.old))
+        (λ at. (at ≡ Some number) × MakesNone (command_of command.entry) × IsFullFor 1 session.old.heap (Ok (Some (command_of command.entry))) × AtEach (Stands session.old) (λ config store. CommandMayBeFull 1 config store (command_of command.entry)) × (writer.new ≡ writer.old))
         (λ at. (at ≡ Some number) × AtEach (Stands session.old) (λ config store. IsSoundCommand config store (command_of command.entry)) × (writer.new ≡ writer.old))
         ⊥
         (W.failed_writes writer.new ≡ W.failed_writes writer.old + 1)) }
@@ -76,7 +76,7 @@ pub fn attempt_line<A: Allocator + Clone, W: Sink>(
     ensures rises { W.failed_writes writer.new ≤ W.failed_writes writer.old + 1 }
     ensures err { IfErr result (λ e. MatchFault e
         (λ at kind. (at ≡ number) × AtEach (Stands session.old) (λ config store. line_step config store line.now ≡ Err kind) × (writer.new ≡ writer.old))
-        (λ at. (at ≡ Some number) × IsFullFor session.old.heap (entry_of line.now) × AtEach (Stands session.old) (λ config store. MayBeFull config store line.now × ¬ LineCollectsFirst config store line.now) × (writer.new ≡ writer.old))
+        (λ at. (at ≡ Some number) × IsFullFor 1 session.old.heap (entry_of line.now) × AtEach (Stands session.old) (λ config store. MayBeFull 1 config store line.now × ¬ LineCollectsFirst config store line.now) × (writer.new ≡ writer.old))
         (λ at. (at ≡ Some number) × AtEach (Stands session.old) (λ config store. IsSoundTraceLine config store line.now) × (writer.new ≡ writer.old))
         ⊥
         (W.failed_writes writer.new ≡ W.failed_writes writer.old + 1)) }

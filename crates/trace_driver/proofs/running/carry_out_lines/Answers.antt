@@ -12,7 +12,7 @@ loop-line-init g c = record {
 
 pub returns-in-Err-clause-err : goal.returns-in-Err-clause-err
 returns-in-Err-clause-err g c =
-    fault_of_line _ _ _ _ _ _ _ _ c.loop-line.invariant.carries _ _ c.in-Some.ensures.some c.in-Some.ensures.first MayBeFull g.W.Sink.contents _ _ _ c.in-Err.fault refl
+    fault_of_line _ _ _ _ _ _ _ _ c.loop-line.invariant.carries _ _ c.in-Some.ensures.some c.in-Some.ensures.first (MayBeFull 1) g.W.Sink.contents _ _ _ c.in-Err.fault refl
     (rw (← c.loop-line.invariant.writes) c.in-Err.ensures.err)
 
 pub loop-line-preserved : goal.loop-line-preserved

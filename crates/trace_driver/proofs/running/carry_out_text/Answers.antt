@@ -4,7 +4,7 @@ use Rattle.trace_replay.specs.Refusals.{MayBeFull}
 use Rattle.trace_driver.proofs.running.carry_out_text.Goals as goal
 
 pub returns-in-Err-clause-err : goal.returns-in-Err-clause-err
-returns-in-Err-clause-err g c = text_fault MayBeFull _ _ _ _ _ c.in-Err.fault c.in-Err.ensures.err
+returns-in-Err-clause-err g c = text_fault (MayBeFull 1) _ _ _ _ _ c.in-Err.fault c.in-Err.ensures.err
 
 pub returns-then-is_empty-clause-ok : goal.returns-then-is_empty-clause-ok
 returns-then-is_empty-clause-ok g c = λ config store stands.

@@ -8,7 +8,7 @@ use Rattle.trace_driver.proofs.running.run_one.Goals as goal
 
 pub returns-clause-err : goal.returns-clause-err
 returns-clause-err g c =
-    run_faults MayBeFull (Stands c.in-Ok-new.session) c.args.config.config
+    run_faults (MayBeFull 1) (Stands c.in-Ok-new.session) c.args.config.config
     (subst (λ k. Stands c.in-Ok-new.session k (empty_store k)) c.config.ensures c.in-Ok-new.ensures.ok)
     (g.S.Source.remaining c.args.reader.now) c.as_slice.result.now
     (subst (λ xs. IfSome (g.S.Source.remaining c.args.reader.now) (λ input. xs ≡ input)) (sym c.as_slice.ensures.value) c.in-Ok-read_all.ensures.whole)

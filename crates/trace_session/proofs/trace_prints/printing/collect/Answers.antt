@@ -1,10 +1,12 @@
 use Rattle.std.proofs.Common.{Err, refl, ap, arith}
+use Rattle.trace_session.specs.Made.{collected}
 use Rattle.trace_session.proofs.PrintedSteps.{steps_collect, collect_full, collect_sound, collect_nowhere}
 use Rattle.trace_session.proofs.trace_prints.printing.collect.Goals as goal
 
 pub returns-in-Ok-write_collection-clause-ok : goal.returns-in-Ok-write_collection-clause-ok
 returns-in-Ok-write_collection-clause-ok g c = λ config store stands.
-    steps_collect _ _ config store stands c.args.generation _ _ _ _ _ _ _ c.in-Ok-collect_one.ensures.ok
+    steps_collect _ _ config store stands c.args.generation _ _ _ _ _ _ c.in-Ok-collect_one.ensures.ok.collects
+    (collected c.args.generation _ _ _ _ stands.made c.in-Ok-collect_one.ensures.ok)
     (omega (arith, c.if-generation-generations.false, c.generations.ensures.value, ap (λ x. x.shape.generations) c.config.ensures))
     c.in-Ok-write_collection.ensures.bytes
 
@@ -23,7 +25,7 @@ returns-in-Err-HeapFull-clause-err g c =
       refl,
       short,
       λ config store stands.
-          collect_full _ _ config store stands c.args.generation
+          collect_full _ _ config store stands 1 c.args.generation
           (omega (arith, c.if-generation-generations.false, c.generations.ensures.value, ap (λ x. x.shape.generations) c.config.ensures))
           short,
       refl,
