@@ -1,8 +1,10 @@
 -- A race is won: the last object of a block is noted as a copy.
-use Rattle.std.proofs.Common.{◌≡◌, ◌≢◌, ℕ, suc, ◌+◌, List, [], ◌∷◌, ◌++◌, length, map, take, Option, Some, None, refl, sym, ap, subst, ◌∙◌, ⊎_elim, arith, length-append}
+use Rattle.std.proofs.Common.{◌≡◌, ◌≢◌, ℕ, suc, ◌+◌, ◌<◌, List, [], ◌∷◌, ◌++◌, length, map, take, Option, Some, None, refl, sym, ap, subst, ◌∙◌, ⊎_elim, arith, length-append}
 use Rattle.std.proofs.lemmas.Bool.{cases_eq}
 use Rattle.std.proofs.lemmas.List.Sums.{sum_by-cons}
-use Rattle.std.specs.Prelude.{slice_get}
+use Rattle.std.proofs.lemmas.List.{map-append}
+use Rattle.std.proofs.lemmas.List.Elements.{All-push}
+use Rattle.std.specs.Prelude.{All, slice_get, slice_index}
 use Rattle.std.specs.Option.{option_and_then}
 use Rattle.model.specs.Destination.{Shape}
 use Rattle.layout.specs.declared.place.Place.{Place}
@@ -10,6 +12,9 @@ use Rattle.layout.specs.Object.{Raw, raw_size}
 use Rattle.layout.specs.Place.{place_word, small_word}
 use Rattle.block_pool.specs.BlockValue.{BlockValue, offset_of}
 use Rattle.steps.specs.Words.{target_of_word}
+use Rattle.steps.specs.declared.heap_values.report.Won.{Won}
+use Rattle.steps.specs.ReportValue.{renaming_of}
+use Rattle.steps.specs.ReportView.{won_value}
 use Rattle.workers.specs.Block.{Block, Copy, updated, with_copy}
 use Rattle.workers.specs.Worker.{Worker, Proposal, Copied, Claimed, Hand, Nothing, Open, Holding, HoldingLarge, allocation_at}
 use Rattle.workers.specs.WorkerSteps.{finish_slot, race_of, after_race}
@@ -140,3 +145,25 @@ pub name_shown : (q : Option Proposal) (p : Proposed) → IsProposed q p → nam
 name_shown None p h = absurd h
 name_shown (Some (Copied copy d)) p h = h.0
 name_shown (Some (Claimed n)) p h = h.0
+
+-- the proposed object's name is the one with that number
+pub named_of : {V N : WorkspaceValue} → V ≡ N → (number : ℕ) (p : Proposed) (slots : List (Option BlockValue)) (aside done : List BlockValue) (held : Option BlockValue) (o : Option Proposed) → V.worker.proposal ≡ proposal_of slots o → o ≡ Some p → AreNoted slots aside done held o
+    → slice_index N.names number ≡ name_of N.worker.proposal → slice_index V.names number ≡ place_word p.name
+named_of same number p slots aside done held o e is n k =
+    ap (λ (v : WorkspaceValue). slice_index v.names number) same ∙ k ∙ name_shown _ p (shown_of same slots aside done held o p e is n)
+
+pub names_of : {V N : WorkspaceValue} {number : ℕ} → V ≡ N → number < length N.names → number < length V.names
+names_of {number = number} same k = subst (λ (v : WorkspaceValue). number < length v.names) (sym same) k
+
+-- one more object is won
+pub numbers_more : (names : List ℕ) (ws : List Won) {ws' : List Won} (w : Won) → All (λ e. e.0 < length names) (map won_value ws) → w.number < length names → ws' ≡ ws ++ w ∷ [] → All (λ e. e.0 < length names) (map won_value ws')
+numbers_more names ws w below lt e =
+    let all : All (λ (e : ℕ × ℕ). e.0 < length names) (map won_value ws ++ won_value w ∷ []) = All-push (λ (e : ℕ × ℕ). e.0 < length names) (map won_value ws) (won_value w) below lt in
+    subst (All (λ (e : ℕ × ℕ). e.0 < length names)) (sym (ap (map won_value) e ∙ map-append won_value ws (w ∷ []))) all
+
+pub won_more : (names : List ℕ) (ws ws' : List Won) (w : Won) (name : ℕ) → ws' ≡ ws ++ w ∷ [] → slice_index names w.number ≡ name
+    → renaming_of names (map won_value ws') ≡ renaming_of names (map won_value ws) ++ (name, place_word w.place) ∷ []
+won_more names ws ws' w name e is =
+    ap (renaming_of names) (ap (map won_value) e ∙ map-append won_value ws (w ∷ []))
+    ∙ map-append (λ (e : ℕ × ℕ). (slice_index names e.0, e.1)) (map won_value ws) (won_value w ∷ [])
+    ∙ ap (λ n. renaming_of names (map won_value ws) ++ (n, place_word w.place) ∷ []) is

@@ -103,8 +103,8 @@ worker_code =
 abbrev pub workspace_code : Coded WorkspaceValue
 workspace_code =
     code_by
-    (Config × (Place × (Bool × (ℕ × (ℕ × Worker)))))
-    (coded× config_code (coded× place_code (coded× coded_bool (coded× coded_ℕ (coded× coded_ℕ worker_code)))))
-    (λ w. (w.config, (w.claim, (w.spare, (w.won_room, (w.block_room, w.worker))))))
-    (λ p. record { config = p.0; claim = p.1.0; spare = p.1.1.0; won_room = p.1.1.1.0; block_room = p.1.1.1.1.0; worker = p.1.1.1.1.1 })
+    (Config × (Place × (Bool × (ℕ × (ℕ × (List ℕ × Worker))))))
+    (coded× config_code (coded× place_code (coded× coded_bool (coded× coded_ℕ (coded× coded_ℕ (coded× (coded_list coded_ℕ) worker_code))))))
+    (λ w. (w.config, (w.claim, (w.spare, (w.won_room, (w.block_room, (w.names, w.worker)))))))
+    (λ p. record { config = p.0; claim = p.1.0; spare = p.1.1.0; won_room = p.1.1.1.0; block_room = p.1.1.1.1.0; names = p.1.1.1.1.1.0; worker = p.1.1.1.1.1.1 })
     (λ _. refl)

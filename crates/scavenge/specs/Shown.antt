@@ -27,6 +27,7 @@ pub record WorkspaceValue : Type 0 where
   pub spare : Bool  -- whether it has room to put a block back
   pub won_room : ℕ  -- how many races it has room for
   pub block_room : ℕ  -- how many drawn blocks it has room for
+  pub names : List ℕ  -- the names that the collection numbers, by number
   pub worker : Worker
 
 abbrev pub hand_of : {A : Type 0} → Shape → InHand A → Hand
@@ -50,9 +51,6 @@ blocks_of shape blocks = map (named shape) blocks
 
 abbrev pub words_of : List Place → List ℕ
 words_of places = map place_word places
-
-abbrev pub pair_of : Place × Place → ℕ × ℕ
-pair_of e = (place_word e.0, place_word e.1)
 
 -- the object of a block that is only proposed
 abbrev pub unnoted : Option BlockValue → Option Raw

@@ -2,7 +2,7 @@
 ghost use Rattle.std.specs.Prelude.{◌≡◌, ◌<◌, ◌≤◌, ◌≢◌, None, IsSome};
 ghost use Rattle.model.specs.Graph.{IsClosed};
 ghost use Rattle.block_pool.specs.ClaimsValue.{SeatValue};
-ghost use Rattle.heap.specs.CollectionValue.{IsOpened};
+ghost use Rattle.heap.specs.CollectionValue.{IsOpened, young_names};
 ghost use Rattle.heap.specs.NamesArePlaces.{NamesArePlaces};
 ghost use Rattle.workers.specs.WorkerSteps.{current_slot};
 ghost use Rattle.scavenge.specs.Shown.{CanFinish};
@@ -48,6 +48,7 @@ pub fn evacuate<A: Allocator + Clone, C: Cells>(
     requires closed { IsClosed heap.now.graph }
     requires places { NamesArePlaces heap.now.graph }
     requires config { workspace.old.config ≡ heap.now.config }
+    requires names { workspace.old.names ≡ young_names heap.now.graph collection.now.generation }
     requires proposal { workspace.old.worker.proposal ≡ None }
     requires slot { IsSome (current_slot (seen heap.now collection.now) workspace.old.worker) → CanFinish workspace.old.worker workspace.old.worker.starts }
     requires few { workspace.old.worker.fields < 4294967296 }

@@ -1,7 +1,7 @@
 //! Races for what a worker proposes.
-ghost use Rattle.std.specs.Prelude.{◌≡◌, ◌<◌, ◌≤◌, IsSome, OnOk, OnErr};
+ghost use Rattle.std.specs.Prelude.{◌≡◌, ◌<◌, ◌≤◌, IsSome, OnOk, OnErr, length, slice_index};
 ghost use Rattle.model.specs.Live.{IsYoung};
-ghost use Rattle.heap.specs.CollectionValue.{IsOpened};
+ghost use Rattle.heap.specs.CollectionValue.{IsOpened, young_names};
 ghost use Rattle.scavenge.specs.Shown.{CanFinish, name_of};
 ghost use Rattle.scavenge.specs.Told.{Races, RacesAt};
 
@@ -23,6 +23,8 @@ pub(crate) fn race_for<A: Allocator, C: Cells>(
     requires few { workspace.old.worker.fields < 4294967296 }
     requires pass { C.fits cells.old pass.old }
     requires number { number < C.limit cells.old }
+    requires known { number < length workspace.old.names }
+    requires name { slice_index workspace.old.names number ≡ name_of workspace.old.worker.proposal }
     ensures pass { C.fits cells.new pass.new }
     ensures others { (other : C.Pass) → C.apart pass.old other → C.fits cells.old other → C.fits cells.new other }
     ensures home { (other : C) → C.at_home other pass.old → C.at_home other pass.new }
@@ -42,7 +44,7 @@ pub(crate) fn race_for<A: Allocator, C: Cells>(
     };
     match outcome {
         Outcome::Lost(first) => workspace.lose(first),
-        Outcome::Won => workspace.win(),
+        Outcome::Won => workspace.win(number),
     }
     Ok(())
 }
@@ -56,6 +58,7 @@ pub fn race<A: Allocator + Clone, C: Cells>(
     pass: &mut C::Pass,
 ) -> Result<(), AllocError>
     requires opened { IsOpened heap.now collection.now.generation collection.now }
+    requires names { workspace.old.names ≡ young_names heap.now.graph collection.now.generation }
     requires proposal { IsSome workspace.old.worker.proposal }
     requires young { IsYoung heap.now.graph collection.now.generation (name_of workspace.old.worker.proposal) }
     requires slot { CanFinish workspace.old.worker workspace.old.worker.starts }

@@ -1,10 +1,11 @@
 //! What is raced with, and what a race leaves of the worker.
-ghost use Rattle.std.specs.Prelude.{◌≡◌, ◌<◌, ◌-◌, Some, None, IsSome, MatchOption};
+ghost use Rattle.std.specs.Prelude.{◌≡◌, ◌<◌, ◌-◌, Some, None, IsSome, MatchOption, length, slice_index};
 ghost use Rattle.layout.specs.Place.{place_word};
 ghost use Rattle.workers.specs.WorkerSteps.{after_race};
 ghost use Rattle.scavenge.specs.Shown.{CanFinish, IsBid, lost_to, name_of};
 
 use crate::workspace::workspace::Workspace;
+use heap::Won;
 use layout::Place;
 use std::alloc::Allocator;
 
@@ -53,11 +54,14 @@ impl<A: Allocator> Workspace<A> {
         }
     }
 
-    /// The race is won: the copy stays at its place, and a large object, at its own, is claimed.
+    /// The race for the object with this number is won: the copy stays at its place, and a large object, at its own, is
+    /// claimed.
     #[inline(always)]
-    pub fn win(&mut self)
+    pub fn win(&mut self, number: u32)
         requires room { 0 < self.old.won_room }
         requires proposal { IsSome self.old.worker.proposal }
+        requires number { number < length self.old.names }
+        requires name { slice_index self.old.names number ≡ name_of self.old.worker.proposal }
         requires slot { CanFinish self.old.worker self.old.worker.starts }
         requires few { self.old.worker.fields < 4294967296 }
         ensures { self.new ≡ record self.old { worker = after_race self.old.worker None; won_room = self.old.won_room - 1 } }
@@ -69,12 +73,18 @@ impl<A: Allocator> Workspace<A> {
         self.proposed = None;
         match p.destination {
             Some(d) => {
-                self.won.push_reserved((p.name, p.place));
+                self.won.push_reserved(Won {
+                    number,
+                    place: p.place,
+                });
                 self.allocation.note(d, p.name.to_word());
                 self.finish(Some(p.place));
             }
             None => {
-                self.won.push_reserved((p.name, p.name));
+                self.won.push_reserved(Won {
+                    number,
+                    place: p.name,
+                });
                 self.claimed.push_back_reserved(p.name);
                 self.finish(Some(p.name));
             }

@@ -1,18 +1,22 @@
 //! `Workspace`: one worker's part, what comes in hand, and what it brings back.
-ghost use Rattle.std.specs.Prelude.{◌≡◌, ◌≢◌, ◌∷◌, [], true, false, None, is_some, IfSome, MatchOption, ℕ, map};
+ghost use Rattle.std.specs.Prelude.{◌≡◌, ◌≢◌, ◌<◌, ◌∷◌, [], true, false, None, is_some, All, IfSome, MatchOption, ℕ, length, map};
 ghost use Rattle.std.specs.Option.{option_map};
 ghost use Rattle.layout.specs.Place.{place_word};
+ghost use Rattle.steps.specs.ReportValue.{renaming_of};
+ghost use Rattle.steps.specs.ReportView.{won_value};
 ghost use Rattle.workers.specs.Block.{has_unscanned};
 ghost use Rattle.workers.specs.Joined.{Each, OnSome};
 ghost use Rattle.workers.specs.WorkerSteps.{IsFree, has_open_work, after_own, after_own_large, after_take, after_aside};
 ghost use Rattle.scavenge.specs.Named.{named, IsWhole};
 ghost use Rattle.scavenge.specs.Fronts.{slot_at};
-ghost use Rattle.scavenge.specs.Shown.{Begins, pair_of};
+ghost use Rattle.scavenge.specs.Shown.{Begins};
 
 use crate::to_space::AllocationBlocks;
 use crate::workspace::hand::Hand;
 use crate::workspace::proposed::Proposed;
 use block_pool::Block;
+use boxcar::tag::Tag;
+use heap::Won;
 use layout::Place;
 use std::alloc::{Allocator, Global};
 use std::collections::VecDeque;
@@ -39,12 +43,15 @@ pub struct Workspace<A: Allocator = Global> {
     pub(crate) done: Vec<Block<A>, A>,
     pub(crate) claimed: VecDeque<Place, A>,
     pub(crate) claimed_done: Vec<Place, A>,
-    pub(crate) won: Vec<(Place, Place), A>,
+    /// Each object that it won, by number, and its place.
+    pub(crate) won: Vec<Won, A>,
     pub(crate) scanned: Vec<Place, A>,
     /// How many races are run for which `won` has room.
     pub(crate) won_room: usize,
     /// How many blocks are drawn for which `aside` and `done` have room to retire one.
     pub(crate) block_room: usize,
+    /// The names that the collection numbers, by number: for contracts alone.
+    pub(crate) names: Tag,
 }
 
 /// What one worker brings back.
@@ -55,15 +62,17 @@ pub struct Parts<A: Allocator = Global> {
     pub done: Vec<Block<A>, A>,
     /// The large objects that it scanned.
     pub large: Vec<Place, A>,
-    /// Each object that it won, and its place.
-    pub won: Vec<(Place, Place), A>,
+    /// Each object that it won, by number, and its place.
+    pub won: Vec<Won, A>,
     pub scanned: Vec<Place, A>,
 }
 
 impl<A: Allocator> Model for Workspace<A> {
-    ghost use Rattle.std.specs.Prelude.{map, drop, vec_len, vec_capacity};
+    ghost use Rattle.std.specs.Prelude.{◌<◌, All, length, map, drop, vec_len, vec_capacity};
     ghost use Rattle.std.specs.VecDeque.{deque_len, deque_capacity};
-    ghost use Rattle.scavenge.specs.Shown.{WorkspaceValue, hand_of, held_in, slots_of, blocks_of, words_of, pair_of, proposal_of, AreNoted, AreMade, HasRoom};
+    ghost use Rattle.steps.specs.ReportValue.{renaming_of};
+    ghost use Rattle.steps.specs.ReportView.{won_value};
+    ghost use Rattle.scavenge.specs.Shown.{WorkspaceValue, hand_of, held_in, slots_of, blocks_of, words_of, proposal_of, AreNoted, AreMade, HasRoom};
 
     ghost Value = { WorkspaceValue };
 
@@ -73,6 +82,7 @@ impl<A: Allocator> Model for Workspace<A> {
       spare = w.spare;
       won_room = w.won_room;
       block_room = w.block_room;
+      names = w.names.numbers;
       worker = record {
         starts = drop w.started (words_of w.starts.items);
         fields = w.fields;
@@ -83,14 +93,15 @@ impl<A: Allocator> Model for Workspace<A> {
         done = blocks_of w.config.shape w.done.items;
         large = words_of w.claimed.items;
         large_done = words_of w.claimed_done.items;
-        won = map pair_of w.won.items;
+        won = renaming_of w.names.numbers (map won_value w.won.items);
         scanned = words_of w.scanned.items;
       };
     } };
 
     ghost invariant = { λ w. AreNoted w.allocation w.aside.items w.done.items (held_in w.hand) w.proposed
         × AreMade w.config w.allocation w.aside.items w.done.items (held_in w.hand)
-        × HasRoom (vec_len w.won, vec_capacity w.won) (vec_len w.done, vec_capacity w.done) (deque_len w.aside, deque_capacity w.aside) (deque_len w.claimed, deque_capacity w.claimed) w.won_room w.block_room w.spare w.proposed };
+        × HasRoom (vec_len w.won, vec_capacity w.won) (vec_len w.done, vec_capacity w.done) (deque_len w.aside, deque_capacity w.aside) (deque_len w.claimed, deque_capacity w.claimed) w.won_room w.block_room w.spare w.proposed
+        × All (λ e. e.0 < length w.names.numbers) (map won_value w.won.items) };
 }
 
 impl<A: Allocator> Workspace<A> {
@@ -153,7 +164,8 @@ impl<A: Allocator> Workspace<A> {
         ensures allocation_whole { (d : ℕ) → OnSome (IsWhole self.config.shape self.config.block_words) (slot_at result.allocation.items d) }
         ensures done_whole { Each (IsWhole self.config.shape self.config.block_words) result.done.items }
         ensures large { map place_word result.large.items ≡ self.worker.large_done }
-        ensures won { map pair_of result.won.items ≡ self.worker.won }
+        ensures won { renaming_of self.names (map won_value result.won.items) ≡ self.worker.won }
+        ensures numbers { All (λ e. e.0 < length self.names) (map won_value result.won.items) }
         ensures scanned { map place_word result.scanned.items ≡ self.worker.scanned }
     {
         let Workspace {
@@ -174,6 +186,7 @@ impl<A: Allocator> Workspace<A> {
             scanned,
             won_room: _,
             block_room: _,
+            names: _,
         } = self;
         Parts {
             allocation: allocation.into_blocks(),

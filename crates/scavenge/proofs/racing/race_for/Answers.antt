@@ -1,9 +1,17 @@
-use Rattle.std.proofs.Common.{Some, subst}
+use Rattle.std.proofs.Common.{◌<◌, length, Some, sym, ap, subst, ◌∙◌}
+use Rattle.std.specs.Prelude.{slice_index}
 use Rattle.forwarding.specs.declared.cells.outcome.Outcome.TheVariants.{Won, Lost}
 use Rattle.forwarding.specs.Learned.{Learns, RaceEnds, place_after}
+use Rattle.scavenge.specs.Shown.{WorkspaceValue, name_of}
 use Rattle.scavenge.specs.Told.{lost_of}
 use Rattle.scavenge.proofs.Reserved.{raced_of}
 use Rattle.scavenge.proofs.racing.race_for.Goals as goal
+
+pub win-requires-clause-number : goal.win-requires-clause-number
+win-requires-clause-number g c = subst (λ (v : WorkspaceValue). c.args.number < length v.names) (sym c.in_ok-reserve_won.ensures.ok) c.requires.known
+
+pub win-requires-clause-name : goal.win-requires-clause-name
+win-requires-clause-name g c = ap (λ (v : WorkspaceValue). slice_index v.names c.args.number) c.in_ok-reserve_won.ensures.ok ∙ c.requires.name ∙ sym (ap (λ (v : WorkspaceValue). name_of v.worker.proposal) c.in_ok-reserve_won.ensures.ok)
 
 pub returns-in-Lost-clause-ok : goal.returns-in-Lost-clause-ok
 returns-in-Lost-clause-ok g c =

@@ -22,7 +22,7 @@ finished value v = record v { worker = finish_slot (option_map place_word value)
 pub returns-then-self-len : goal.returns-then-self-len
 returns-then-self-len g c =
     let d : Drops (words_of c.self.inside.starts.items) c.self.inside.started = drops place_word c.self.inside.starts.items c.self.inside.started (omega (arith, c.if-self-len.true, c.len.ensures)) in
-    ap (λ (w : Worker). (let x : WorkspaceValue = record { config = c.self.inside.config; claim = c.self.inside.claim; spare = c.self.inside.spare; won_room = c.self.inside.won_room; block_room = c.self.inside.block_room; worker = w } in x)) (sym (finish_start _ (option_map place_word c.args.value) d.first _ d.is))
+    ap (λ (w : Worker). (let x : WorkspaceValue = record { config = c.self.inside.config; claim = c.self.inside.claim; spare = c.self.inside.spare; won_room = c.self.inside.won_room; block_room = c.self.inside.block_room; names = c.self.inside.names.numbers; worker = w } in x)) (sym (finish_start _ (option_map place_word c.args.value) d.first _ d.is))
     ∙ ap (finished c.args.value) c.self.view_is
 
 open_write : (v : WorkspaceValue) (d : ℕ) → CanFinish v.worker v.worker.starts → v.worker.starts ≡ [] → v.worker.hand ≡ Open d → HasField v.worker.fields (allocation_at v.worker d)
@@ -66,6 +66,7 @@ invariant_of-self-in-Open-1 g c =
           (λ n. noted_written 0 r.block r.front.raw c.self.inside.fields c.word_of-word.result n) n)),
       table_made c.self.inside.config c.in-Open.d r.block (written r.block r.front.raw c.self.inside.fields c.word_of-word.result) r.there (λ n. record { words = n.words; destination = n.destination }) table refl tt c.self.invariant.1,
       c.self.invariant.2,
+      c.self.invariant.3,
     )
 
 pub returns-in-Open : goal.returns-in-Open
@@ -103,6 +104,7 @@ invariant_of-self-in-Holding-1 g c =
       },
       record { in_slots = c.self.invariant.1.in_slots; in_aside = c.self.invariant.1.in_aside; in_done = c.self.invariant.1.in_done; in_hand = subst (IsMade c.self.inside.config) (sym (c.write_front-in-Holding.ensures r.raw r.there r.field)) (record { words = k.words; destination = k.destination }) },
       c.self.invariant.2,
+      c.self.invariant.3,
     )
 
 pub returns-in-Holding : goal.returns-in-Holding

@@ -1,5 +1,6 @@
-use Rattle.std.proofs.Common.{map, None, sym, ap, subst, ◌∙◌}
+use Rattle.std.proofs.Common.{ℕ, ◌<◌, All, length, map, None, sym, ap, subst, ◌∙◌}
 use Rattle.std.specs.Option.{option_map}
+use Rattle.steps.specs.ReportView.{won_value}
 use Rattle.workers.specs.Joined.{Each, OnSome}
 use Rattle.scavenge.specs.Named.{named, IsWhole}
 use Rattle.scavenge.specs.Fronts.{slot_at}
@@ -24,3 +25,6 @@ pub returns-clause-done_whole : goal.returns-clause-done_whole
 returns-clause-done_whole g c =
     subst (λ (v : WorkspaceValue). Each (IsWhole v.config.shape v.config.block_words) c.self.inside.done.items) c.self.view_is
     (whole_all c.self.inside.config c.self.inside.done.items c.self.invariant.0.in_done c.self.invariant.1.in_done)
+
+pub returns-clause-numbers : goal.returns-clause-numbers
+returns-clause-numbers g c = subst (λ (v : WorkspaceValue). All (λ (e : ℕ × ℕ). e.0 < length v.names) (map won_value c.self.inside.won.items)) c.self.view_is c.self.invariant.3

@@ -32,6 +32,7 @@ invariant_of-self g c =
       proposed_noted c.args.name c.push-place.result c.args.d t.block (raw_of c.args.object) t.there (c.push-place.ensures.table t.block t.there) (c.push-place.ensures.place t.block t.there) n,
       table_made c.self.inside.config c.args.d t.block (pushed t.block (raw_of c.args.object)) t.there (λ m. record { words = m.words; destination = m.destination }) (c.push-place.ensures.table t.block t.there) refl c.self.invariant.1.in_hand c.self.invariant.1,
       record { in_won = r.in_won; in_done = r.in_done; in_aside = r.in_aside; for_spare = r.for_spare; in_claimed = tt },
+      c.self.invariant.3,
     )
 
 pub returns : goal.returns

@@ -28,6 +28,7 @@ invariant_of-self g c =
       new_noted c.args.d c.args.block c.replace.ensures.table (whole_noted c.self.inside.config c.args.block whole) n.in_aside n.in_done n.in_hand none n,
       new_made c.self.inside.config c.args.d c.args.block c.replace.ensures.table (whole_made c.self.inside.config c.args.block whole) c.self.invariant.1.in_aside c.self.invariant.1.in_done c.self.invariant.1.in_hand c.self.invariant.1,
       record { in_won = r.in_won; in_done = omega (arith, r.in_done); in_aside = omega (arith, r.in_aside); for_spare = λ s. omega (arith, r.for_spare s); in_claimed = r.in_claimed },
+      c.self.invariant.3,
     )
 
 pub returns-in_default : goal.returns-in_default
@@ -54,6 +55,7 @@ invariant_of-self-then-is_open g c =
       new_noted c.args.d c.args.block c.replace.ensures.table (whole_noted c.self.inside.config c.args.block whole) n.in_aside n.in_done old none n,
       new_made c.self.inside.config c.args.d c.args.block c.replace.ensures.table (whole_made c.self.inside.config c.args.block whole) c.self.invariant.1.in_aside c.self.invariant.1.in_done oldm c.self.invariant.1,
       record { in_won = r.in_won; in_done = omega (arith, r.in_done); in_aside = omega (arith, r.in_aside); for_spare = λ s. omega (arith, r.for_spare s); in_claimed = r.in_claimed },
+      c.self.invariant.3,
     )
 
 pub returns-then-is_open : goal.returns-then-is_open
@@ -82,6 +84,7 @@ invariant_of-self-then-front-len g c =
       new_noted c.args.d c.args.block c.replace.ensures.table (whole_noted c.self.inside.config c.args.block whole) (subst (Each (IsNoted 0)) (sym c.push_back_reserved.ensures.items) (each_more c.self.inside.aside.items c.in-Some.full n.in_aside old)) n.in_done n.in_hand none n,
       new_made c.self.inside.config c.args.d c.args.block c.replace.ensures.table (whole_made c.self.inside.config c.args.block whole) (subst (Each (IsMade c.self.inside.config)) (sym c.push_back_reserved.ensures.items) (made_more c.self.inside.config c.self.inside.aside.items c.in-Some.full c.self.invariant.1.in_aside oldm)) c.self.invariant.1.in_done c.self.invariant.1.in_hand c.self.invariant.1,
       record { in_won = r.in_won; in_done = omega (arith, r.in_done); in_aside = omega (arith, r.in_aside, free, c.push_back_reserved.ensures.len, c.push_back_reserved.ensures.capacity); for_spare = λ s. omega (arith, r.for_spare s, free, c.push_back_reserved.ensures.len, c.push_back_reserved.ensures.capacity); in_claimed = r.in_claimed },
+      c.self.invariant.3,
     )
 
 pub returns-then-front-len : goal.returns-then-front-len
@@ -112,6 +115,7 @@ invariant_of-self-2 g c =
       new_noted c.args.d c.args.block c.replace.ensures.table (whole_noted c.self.inside.config c.args.block whole) n.in_aside (subst (Each (IsNoted 0)) (sym c.push_reserved.ensures.items) (each_more c.self.inside.done.items c.in-Some.full n.in_done old)) n.in_hand none n,
       new_made c.self.inside.config c.args.d c.args.block c.replace.ensures.table (whole_made c.self.inside.config c.args.block whole) c.self.invariant.1.in_aside (subst (Each (IsMade c.self.inside.config)) (sym c.push_reserved.ensures.items) (made_more c.self.inside.config c.self.inside.done.items c.in-Some.full c.self.invariant.1.in_done oldm)) c.self.invariant.1.in_hand c.self.invariant.1,
       record { in_won = r.in_won; in_done = omega (arith, r.in_done, free, c.push_reserved.ensures.len, c.push_reserved.ensures.capacity); in_aside = omega (arith, r.in_aside); for_spare = λ s. omega (arith, r.for_spare s); in_claimed = r.in_claimed },
+      c.self.invariant.3,
     )
 
 pub returns : goal.returns

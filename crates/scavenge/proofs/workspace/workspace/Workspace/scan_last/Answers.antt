@@ -37,7 +37,7 @@ invariant_of-self-then-more g c =
     let t : Passing c.self.inside.allocation c.in-Open.destination = open_passing c.self.view_is c.self.inside.config.shape c.self.inside.allocation c.in-Open.destination refl hand (n.in_slots c.in-Open.destination) c.requires.hand in
     let m = slots_noted c.self.inside.allocation c.self.inside.aside.items c.self.inside.done.items None c.in-Open.destination t.block (passed t.block) t.there (λ k. passed_noted t.block k t.lt) (record { in_slots = n.in_slots; in_aside = n.in_aside; in_done = n.in_done; in_hand = tt; there = tt }) in
     let e = c.pass_front-place.ensures.table t.block t.there in
-    (noted_as e c.reserve-2.ensures.items none m, table_made c.self.inside.config c.in-Open.destination t.block (passed t.block) t.there (λ n. record { words = n.words; destination = n.destination }) e c.reserve-2.ensures.items tt c.self.invariant.1, record { in_won = c.self.invariant.2.in_won; in_done = omega (arith, c.self.invariant.2.in_done, c.reserve-2.ensures.len, c.reserve-2.ensures.capacity); in_aside = c.self.invariant.2.in_aside; for_spare = c.self.invariant.2.for_spare; in_claimed = c.self.invariant.2.in_claimed })
+    (noted_as e c.reserve-2.ensures.items none m, table_made c.self.inside.config c.in-Open.destination t.block (passed t.block) t.there (λ n. record { words = n.words; destination = n.destination }) e c.reserve-2.ensures.items tt c.self.invariant.1, record { in_won = c.self.invariant.2.in_won; in_done = omega (arith, c.self.invariant.2.in_done, c.reserve-2.ensures.len, c.reserve-2.ensures.capacity); in_aside = c.self.invariant.2.in_aside; for_spare = c.self.invariant.2.for_spare; in_claimed = c.self.invariant.2.in_claimed }, c.self.invariant.3)
 
 pub invariant_of-self-else-more : goal.invariant_of-self-else-more
 invariant_of-self-else-more g c =
@@ -52,6 +52,7 @@ invariant_of-self-else-more g c =
       subst (λ h. AreNoted c.pass_front-place.new.self c.self.inside.aside.items c.reserve-2.new.self.items (held_in h) c.self.inside.proposed) (sym c.replace.ensures.after) noted,
       subst (λ h. AreMade c.self.inside.config c.pass_front-place.new.self c.self.inside.aside.items c.reserve-2.new.self.items (held_in h)) (sym c.replace.ensures.after) made,
       record { in_won = c.self.invariant.2.in_won; in_done = omega (arith, c.self.invariant.2.in_done, c.reserve-2.ensures.len, c.reserve-2.ensures.capacity); in_aside = c.self.invariant.2.in_aside; for_spare = c.self.invariant.2.for_spare; in_claimed = c.self.invariant.2.in_claimed },
+      c.self.invariant.3,
     )
 
 pub returns-then-more-clause-ok : goal.returns-then-more-clause-ok
@@ -120,6 +121,7 @@ invariant_of-self-in-Holding g c =
         in_hand = subst (λ h. OnSome (IsMade c.self.inside.config) (held_in h)) (sym c.replace.ensures.after) tt;
       },
       record { in_won = c.self.invariant.2.in_won; in_done = omega (arith, c.push_reserved-in-Holding-2.ensures.len, c.push_reserved-in-Holding-2.ensures.capacity, c.in_ok-reserve-2.ensures.ok); in_aside = c.self.invariant.2.in_aside; for_spare = c.self.invariant.2.for_spare; in_claimed = c.self.invariant.2.in_claimed },
+      c.self.invariant.3,
     )
 
 pub returns-then-more-2-clause-ok : goal.returns-then-more-2-clause-ok
