@@ -1,10 +1,10 @@
 -- Lists of what the workers won, scanned and left.
-use Rattle.std.proofs.Common.{◌≡◌, ℕ, zero, suc, ◌+◌, ◌<◌, ◌≤◌, List, [], ◌∷◌, ◌++◌, map, Some, refl, sym, ap, ◌∙◌, arith, nat_eq, eq-eqb}
+use Rattle.std.proofs.Common.{◌≡◌, ℕ, suc, ◌+◌, List, [], ◌∷◌, ◌++◌, map, Some, refl, ap, ◌∙◌, nat_eq}
 use Rattle.std.proofs.lemmas.List.{map-append}
 use Rattle.std.specs.Prelude.{flat_map, slice_get}
 use Rattle.steps.specs.ReportValue.{WorkerLists, all_won, renaming_of}
 use Rattle.workers.specs.Worker.{Worker}
-use Rattle.workers.specs.Total.{total, one_if, times, wins_of}
+use Rattle.workers.specs.Total.{total, one_if, times}
 use Rattle.workers.specs.Joined.{Each, Part, blocks_of}
 use Rattle.workers.specs.Kept.{won_lists}
 use Rattle.workers.proofs.Totals.{total-append}
@@ -38,26 +38,7 @@ pub parts_scanned : (place : ℕ) (ps : List Part) → times place (flat_map (λ
 parts_scanned place [] = refl
 parts_scanned place (p ∷ ps) = total-append (λ x. one_if (nat_eq x place)) p.final.scanned _ ∙ ap (λ n. times place p.final.scanned + n) (parts_scanned place ps)
 
--- what a worker won is among what all won
-pub wins_among : (name : ℕ) (ws : List Worker) (t : ℕ) (w : Worker) → slice_get ws t ≡ Some w → wins_of name w.won ≤ wins_of name (flat_map (λ (x : Worker). x.won) ws)
-wins_among name [] t w e = absurd (cc)
-wins_among name (x ∷ ws) zero w e =
-    let q : x ≡ w = cc in
-    let s : wins_of name (flat_map (λ (y : Worker). y.won) (x ∷ ws)) ≡ wins_of name x.won + wins_of name (flat_map (λ (y : Worker). y.won) ws) = total-append (λ (p : ℕ × ℕ). one_if (nat_eq p.0 name)) x.won (flat_map (λ (y : Worker). y.won) ws) in
-    let m : wins_of name w.won ≡ wins_of name x.won = ap (λ (y : Worker). wins_of name y.won) (sym q) in
-    omega (arith, s, m)
-wins_among name (x ∷ ws) (suc t) w e =
-    let s : wins_of name (flat_map (λ (y : Worker). y.won) (x ∷ ws)) ≡ wins_of name x.won + wins_of name (flat_map (λ (y : Worker). y.won) ws) = total-append (λ (p : ℕ × ℕ). one_if (nat_eq p.0 name)) x.won (flat_map (λ (y : Worker). y.won) ws) in
-    let r = wins_among name ws t w e in
-    omega (arith, s, r)
-
--- what holds of each name that was won
-pub each_name : (P : ℕ → Type 0) (ws : List (ℕ × ℕ)) → ((name : ℕ) → 0 < wins_of name ws → P name) → Each (λ (e : ℕ × ℕ). P e.0) ws
-each_name P [] h = tt
-each_name P (e ∷ es) h =
-    let o : one_if (nat_eq e.0 e.0) ≡ 1 = ap one_if (eq-eqb e.0 e.0 refl) in
-    (h e.0 (omega (arith, o)), each_name P es (λ name l. h name (omega (arith, l))))
-
+-- what holds of each where it stands
 pub each_place : {A : Type 0} (P : A → Type 0) (xs : List A) → ((t : ℕ) (x : A) → slice_get xs t ≡ Some x → P x) → Each P xs
 each_place P [] h = tt
 each_place P (x ∷ xs) h = (h 0 x refl, each_place P xs (λ t y e. h (suc t) y e))

@@ -2,11 +2,9 @@
 use Rattle.std.proofs.Common.{◌≡◌, ℕ, ◌<◌, List, [], ◌∷◌, ◌++◌, length, map, Option, refl, sym, ap, subst, ◌∙◌, arith, append_assoc}
 use Rattle.std.proofs.lemmas.List.{append-nil, map-append}
 use Rattle.std.proofs.lemmas.List.Concat.{flat_map-append}
-use Rattle.std.proofs.lemmas.List.Elements.{All-nil, All-cons, All-append}
+use Rattle.std.proofs.lemmas.List.Elements.{All-nil, All-append}
 use Rattle.std.specs.Prelude.{All, flat_map}
 use Rattle.std.specs.Option.{option_map}
-use Rattle.layout.specs.declared.place.Place.{Place}
-use Rattle.layout.specs.Place.{place_word}
 use Rattle.block_pool.specs.BlockValue.{BlockValue}
 use Rattle.steps.specs.HeapValue.{HeapValue}
 use Rattle.steps.specs.CollectionValue.{CollectionValue, young_names}
@@ -15,14 +13,9 @@ use Rattle.workers.specs.Worker.{Worker}
 use Rattle.workers.specs.Joined.{Each, OnSome, somes, blocks_of}
 use Rattle.scavenge.specs.Named.{named, IsWhole}
 use Rattle.scavenge.specs.Fronts.{slot_at}
-use Rattle.scavenge.specs.Shown.{WorkspaceValue, pair_of}
+use Rattle.scavenge.specs.Shown.{WorkspaceValue}
 use Rattle.settling.proofs.Blocks.{somes-map, somes_each}
 use Rattle.settling.specs.Telling.{IsAtRest, IsPartOf, AreBrought}
-
--- what holds of each name that was won
-pub each_won : (P : ℕ → Type 0) (ws : List (Place × Place)) → Each (λ (e : ℕ × ℕ). P e.0) (map pair_of ws) → All (λ (e : Place × Place). P (place_word e.0)) ws
-each_won P [] h = All-nil (λ (e : Place × Place). P (place_word e.0))
-each_won P (w ∷ ws) h = All-cons (λ (e : Place × Place). P (place_word e.0)) w ws h.0 (each_won P ws h.1)
 
 pub Each-append : {A : Type 0} (P : A → Type 0) (xs ys : List A) → Each P xs → Each P ys → Each P (xs ++ ys)
 Each-append P [] ys h k = k

@@ -1,38 +1,16 @@
 -- One step more of the lists that the worker brings.
-use Rattle.std.proofs.Common.{◌≡◌, ℕ, ◌+◌, ◌<◌, ◌≤◌, List, [], ◌∷◌, ◌++◌, length, map, take, get_or, min, All, Option, Some, Result, Ok, Err, refl, sym, ap, subst, ◌∙◌, ⊎_elim, arith}
+use Rattle.std.proofs.Common.{◌≡◌, ℕ, ◌+◌, ◌<◌, ◌≤◌, List, [], ◌∷◌, ◌++◌, length, map, take, get_or, min, Option, Some, Result, Ok, Err, refl, sym, ap, ◌∙◌, ⊎_elim, arith}
 use Rattle.std.proofs.lemmas.Bool.{cases_lt}
 use Rattle.std.proofs.lemmas.List.{append-nil, take_more, take_all, map-append, append_assoc}
-use Rattle.std.proofs.lemmas.List.Elements.{All-push}
 use Rattle.std.proofs.lemmas.List.FromFn.{length-enumerate_from, get_or-enumerate_from}
-use Rattle.std.specs.Prelude.{slice_index}
 use Rattle.std.specs.Result.{OkIff, result_unwrap_or}
 use Rattle.std.specs.List.{enumerate_from}
-use Rattle.layout.specs.declared.place.Place.{Place}
-use Rattle.layout.specs.Place.{place_word}
 use Rattle.block_pool.specs.BlockValue.{BlockValue}
 use Rattle.pending_queues.specs.declared.exports.deliveries.Delivery.{Delivery as Outcome}
 use Rattle.pending_queues.specs.PlainValue.{PlainLane, empty_lane, outcomes, outcomes_of}
-use Rattle.steps.specs.declared.heap_values.report.Won.{Won}
 use Rattle.steps.specs.declared.heap_values.report.Delivery.{Delivery}
-use Rattle.steps.specs.ReportValue.{renaming_of}
-use Rattle.steps.specs.ReportView.{won_value}
 use Rattle.workers.specs.Joined.{somes}
-use Rattle.scavenge.specs.Shown.{pair_of}
 use Rattle.settling.specs.OwnDeliveries.{own_delivery, deliveries_of_sizes}
-
--- what was won, by number
-pub renamed_more : (names : List ℕ) (won : List (Place × Place)) (done : List Won) (w : Won) (pair : Place × Place) (i : ℕ) → i < length won → pair ≡ get_or won i pair
-    → slice_index names w.number ≡ place_word pair.0 → w.place ≡ pair.1 → renaming_of names (map won_value done) ≡ map pair_of (take i won)
-    → renaming_of names (map won_value (done ++ w ∷ [])) ≡ map pair_of (take (i + 1) won)
-renamed_more names won done w pair i lt is number place before =
-    ap (renaming_of names) (map-append won_value done (w ∷ []))
-    ∙ map-append (λ (e : ℕ × ℕ). (slice_index names e.0, e.1)) (map won_value done) (won_value w ∷ [])
-    ∙ ap (λ xs. xs ++ (slice_index names w.number, place_word w.place) ∷ []) before
-    ∙ ap (λ p. map pair_of (take i won) ++ p ∷ []) (ap (λ n. (n, place_word w.place)) number ∙ ap (λ q. (place_word pair.0, place_word q)) place ∙ ap pair_of is)
-    ∙ sym (ap (map pair_of) (take_more won i pair lt) ∙ map-append pair_of (take i won) (get_or won i pair ∷ []))
-
-pub numbers_more : (cells : ℕ) (done : List Won) (w : Won) → w.number < cells → All (λ e. e.0 < cells) (map won_value done) → All (λ e. e.0 < cells) (map won_value (done ++ w ∷ []))
-numbers_more cells done w lt before = subst (All (λ (e : ℕ × ℕ). e.0 < cells)) (sym (map-append won_value done (w ∷ []))) (All-push (λ (e : ℕ × ℕ). e.0 < cells) (map won_value done) (won_value w) before lt)
 
 -- a block more in the list, or none
 pub listed_more : {X : Type 0} (done : List X) (x : X) (rest : List (Option X)) → (done ++ x ∷ []) ++ somes rest ≡ done ++ somes (Some x ∷ rest)

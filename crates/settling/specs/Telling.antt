@@ -1,7 +1,6 @@
 -- What becomes of a worker's part, and of what the queues tell.
 use Rattle.std.specs.Prelude.{◌≡◌, ℕ, ◌<◌, List, map, flat_map, min, unwrap_or, None, All}
 use Rattle.std.specs.List.{enumerate_from}
-use Rattle.model.specs.Live.{IsYoung}
 use Rattle.block_pool.specs.BlockValue.{BlockValue}
 use Rattle.pending_queues.specs.declared.exports.deliveries.Delivery.{Delivery as Outcome}
 use Rattle.steps.specs.HeapValue.{HeapValue}
@@ -14,11 +13,11 @@ use Rattle.scavenge.specs.Shown.{WorkspaceValue}
 use Rattle.workers.specs.Worker.{Worker}
 use Rattle.settling.specs.Together.{AreReportsOf}
 
--- it proposes nothing, and won only what is collected
+-- it proposes nothing, and its numbers are those of the collection
 pub record IsAtRest (heap : HeapValue) (c : CollectionValue) (w : WorkspaceValue) : Type 0 where
   pub config : w.config ≡ heap.config
+  pub names : w.names ≡ young_names heap.graph c.generation
   pub no_proposal : w.worker.proposal ≡ None
-  pub young : Each (λ (e : ℕ × ℕ). IsYoung heap.graph c.generation e.0) w.worker.won
 
 -- the report of a worker, and the blocks that it leaves
 pub record IsPartOf (heap : HeapValue) (c : CollectionValue) (w : Worker) (report : WorkerLists) (blocks : List BlockValue) : Type 0 where

@@ -1,42 +1,13 @@
 //! Workers' parts as reports and blocks.
-ghost use Rattle.std.specs.Prelude.{◌≡◌, ◌<◌, ◌++◌, All, IfOk, map};
-ghost use Rattle.layout.specs.Place.{place_word};
-ghost use Rattle.model.specs.Live.{IsYoung};
-ghost use Rattle.steps.specs.CollectionValue.{IsOpened, young_names};
-ghost use Rattle.steps.specs.ReportValue.{renaming_of};
-ghost use Rattle.steps.specs.ReportView.{won_value};
+ghost use Rattle.std.specs.Prelude.{◌≡◌, ◌++◌, IfOk, map};
+ghost use Rattle.steps.specs.CollectionValue.{IsOpened};
 ghost use Rattle.workers.specs.Joined.{Each, somes};
-ghost use Rattle.scavenge.specs.Shown.{pair_of};
 ghost use Rattle.settling.specs.Telling.{IsAtRest, IsPartOf, AreBrought};
 
 use block_pool::Block;
-use heap::{Collection, Heap, Won, WorkerReport};
-use layout::Place;
+use heap::{Collection, Heap, WorkerReport};
 use scavenge::{Parts, Workspace};
 use std::alloc::{AllocError, Allocator};
-
-/// What was won, by number.
-pub fn numbered<A: Allocator + Clone>(
-    alloc: A,
-    heap: &Heap<A>,
-    collection: &Collection<A>,
-    won: &[(Place, Place)],
-) -> Result<Vec<Won, A>, AllocError>
-    requires opened { IsOpened heap.now collection.now.generation collection.now }
-    requires young { All (λ e. IsYoung heap.now.graph collection.now.generation (place_word e.0)) won.now }
-    ensures numbers { IfOk result (λ v. All (λ e. e.0 < collection.now.cells) (map won_value v.items)) }
-    ensures renaming { IfOk result (λ v. renaming_of (young_names heap.now.graph collection.now.generation) (map won_value v.items) ≡ map pair_of won.now) }
-{
-    let mut numbered = Vec::with_capacity(alloc, won.len())?;
-    for pair in won {
-        let number = heap.number_of(collection, pair.0);
-        numbered.push_reserved(Won {
-            number,
-            place: pair.1,
-        });
-    }
-    Ok(numbered)
-}
 
 /// The blocks in one list: those for the destinations, and then those that are done.
 pub fn in_one_list<A: Allocator>(
@@ -74,7 +45,6 @@ fn part_of<A: Allocator + Clone>(
         won,
         scanned,
     } = workspace.into_parts();
-    let won = numbered(alloc.clone()?, heap, collection, &won)?;
     let blocks = in_one_list(alloc, allocation, done)?;
     Ok((WorkerReport::new(won, scanned), blocks))
 }
