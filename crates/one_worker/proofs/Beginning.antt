@@ -1,5 +1,5 @@
 -- A collection by one worker before its first event.
-use Rattle.std.proofs.Common.{◌≡◌, ℕ, zero, suc, ◌≤◌, [], ◌∷◌, length, map, replicate, Some, None, refl, sym, ap, subst, ◌∙◌, arith}
+use Rattle.std.proofs.Common.{◌≡◌, ℕ, zero, suc, ◌≤◌, List, [], ◌∷◌, length, map, replicate, Some, None, refl, sym, ap, subst, ◌∙◌, arith}
 use Rattle.std.specs.Prelude.{slice_get}
 use Rattle.std.specs.Ordering.{nat_cmp}
 use Rattle.std.specs.FinMap.{find}
@@ -11,7 +11,7 @@ use Rattle.forwarding.specs.Plain.{PlainValue as PlainCellsValue}
 use Rattle.pending_queues.specs.PlainValue.{PlainLane, empty_lane, lane_at, new_pending}
 use Rattle.pending_queues.specs.PlainValue.{PlainValue as PlainQueuesValue}
 use Rattle.steps.specs.HeapValue.{HeapValue}
-use Rattle.steps.specs.CollectionValue.{CollectionValue, target_of_slot}
+use Rattle.steps.specs.CollectionValue.{CollectionValue, target_of_slot, young_names}
 use Rattle.model.specs.Destination.{dest_count}
 use Rattle.scavenge.specs.Handed.{CopiesKeyValue}
 use Rattle.workers.specs.System.{System, opening, opening_worker}
@@ -36,16 +36,20 @@ length-nones (suc count) x = ap suc (length-nones count x)
 abbrev pub key_of : HeapValue → ℕ → CopiesKeyValue
 key_of heap generation = record { heap = heap; generation = generation }
 
+abbrev pub names_of : HeapValue → CollectionValue → List ℕ
+names_of heap c = young_names heap.graph c.generation
+
 abbrev pub first_of : HeapValue → CollectionValue → Worker
 first_of heap c = opening_worker (dest_count heap.config.shape c.generation) 1 (map target_of_slot c.slots) 0
 
 -- nothing is won, drawn or queued
 pub begun : (v : SerialValue) → IsReadyToCollect v.heap v.collection → v.cells ≡ empty_cells v.collection.cells 1 → IsFit v.cells v.pass → v.claims.source.free ≡ v.heap.free → v.claims.source.seats ≡ 1 → v.draws ≡ unused v.claims.source
-    → v.queues ≡ new_pending (record { heap = v.heap; generation = v.collection.generation }) 1 → v.seat ≡ 0 → v.workspace.config ≡ v.heap.config → IsLargeAt v.workspace.claim 0 → v.workspace.worker ≡ opening_worker (destinations_in v) 1 (targets_in v) 0 → IsSerial v
-begun v ready cells fit free seats draws queues seat config claim worker =
+    → v.queues ≡ new_pending (record { heap = v.heap; generation = v.collection.generation }) 1 → v.seat ≡ 0 → v.workspace.config ≡ v.heap.config → v.workspace.names ≡ young_names v.heap.graph v.collection.generation → IsLargeAt v.workspace.claim 0 → v.workspace.worker ≡ opening_worker (destinations_in v) 1 (targets_in v) 0 → IsSerial v
+begun v ready cells fit free seats draws queues seat config names claim worker =
     record {
       ready = ready;
       config = config;
+      names = names;
       claim = claim;
       cells = record {
         fits = fit;

@@ -34,6 +34,7 @@ acted_alone v act new k can is won handed =
     (record {
       ready = k.ready;
       config = k.config;
+      names = k.names;
       claim = k.claim;
       cells = record { fits = k.cells.fits; passes = k.cells.passes; count = k.cells.count; shown = λ name number of. k.cells.shown name number of ∙ ap (λ ws. find nat_cmp name ws) (sym won) };
       draws = record { free = k.draws.free; seats = k.draws.seats; seat = k.draws.seat };

@@ -149,6 +149,7 @@ module _ (v : SerialValue) (b : BlockValue) (new : WorkspaceValue) (queues : Pla
       record {
         ready = k.ready;
         config = ap (λ (x : WorkspaceValue). x.config) new_is ∙ k.config;
+        names = ap (λ (x : WorkspaceValue). x.names) new_is ∙ k.names;
         claim = subst (λ p. IsLargeAt p 0) (sym (ap (λ (x : WorkspaceValue). x.claim) new_is)) k.claim;
         cells = record { fits = k.cells.fits; count = k.cells.count; passes = k.cells.passes; shown = λ name number of. k.cells.shown name number of ∙ ap (λ ws. find nat_cmp name ws) (sym (ap (λ (x : WorkspaceValue). x.worker.won) new_is ∙ aside_won v.workspace.worker)) };
         draws = record { free = k.draws.free; seats = k.draws.seats; seat = k.draws.seat };
@@ -201,6 +202,7 @@ put_back v new queues seat k n q s =
     (record {
       ready = k.ready;
       config = k.config;
+      names = k.names;
       claim = k.claim;
       cells = record { fits = k.cells.fits; count = k.cells.count; passes = k.cells.passes; shown = k.cells.shown };
       draws = record { free = k.draws.free; seats = k.draws.seats; seat = k.draws.seat };
@@ -235,6 +237,7 @@ module _ (v : SerialValue) (b : BlockValue) (new : WorkspaceValue) (queues : Pla
     record {
       ready = k.ready;
       config = ap (λ (x : WorkspaceValue). x.config) new_is ∙ k.config;
+      names = ap (λ (x : WorkspaceValue). x.names) new_is ∙ k.names;
       claim = subst (λ p. IsLargeAt p 0) (sym (ap (λ (x : WorkspaceValue). x.claim) new_is)) k.claim;
       cells = record { fits = k.cells.fits; count = k.cells.count; passes = k.cells.passes; shown = λ name number of. k.cells.shown name number of ∙ ap (λ ws. find nat_cmp name ws) (sym (ap (λ (x : WorkspaceValue). x.worker.won) new_is)) };
       draws = record { free = k.draws.free; seats = k.draws.seats; seat = k.draws.seat };

@@ -106,6 +106,7 @@ module _ (v : SerialValue) (k : IsSerial v) where
         record {
           ready = k.ready;
           config = k.config;
+          names = k.names;
           claim = k.claim;
           cells = record { fits = fits; count = k.cells.count; passes = k.cells.passes; shown = k.cells.shown };
           draws = record { free = k.draws.free; seats = k.draws.seats; seat = seat };

@@ -76,6 +76,7 @@ acted v act cells pass draws k can forwarded seat handed =
     record {
       ready = k.ready;
       config = k.config;
+      names = k.names;
       claim = k.claim;
       cells = forwarded;
       draws = record { free = k.draws.free; seats = k.draws.seats; seat = seat };

@@ -6,6 +6,7 @@ use Rattle.layout.specs.Place.{IsLargeAt}
 use Rattle.block_pool.specs.BlockValue.{BlockValue}
 use Rattle.block_pool.specs.ClaimsValue.{IsSeatOf}
 use Rattle.forwarding.specs.Plain.{IsFit, place_held}
+use Rattle.steps.specs.CollectionValue.{young_names}
 use Rattle.workers.specs.System.{opening_worker}
 use Rattle.workers.specs.WorkerRun.{WorkerRun, History}
 use Rattle.workers.specs.Joined.{Each}
@@ -46,6 +47,7 @@ pub record HasWorked (v : SerialValue) : Type 0 where
 pub record IsSerial (v : SerialValue) : Type 0 where
   pub ready : IsReadyToCollect v.heap v.collection
   pub config : v.workspace.config ≡ v.heap.config
+  pub names : v.workspace.names ≡ young_names v.heap.graph v.collection.generation
   pub claim : IsLargeAt v.workspace.claim 0
   pub cells : AreForwarded v
   pub draws : AreDrawn v

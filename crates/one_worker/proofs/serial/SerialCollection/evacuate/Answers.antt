@@ -1,5 +1,7 @@
 use Rattle.std.proofs.Common.{◌≡◌, None, sym, ap, subst, ◌∙◌}
 use Rattle.std.specs.Prelude.{IsSome}
+use Rattle.steps.specs.HeapValue.{HeapValue}
+use Rattle.steps.specs.CollectionValue.{CollectionValue, young_names}
 use Rattle.workers.specs.WorkerSteps.{current_slot}
 use Rattle.workers.specs.System.{Look}
 use Rattle.one_worker.specs.SerialValue.{SerialValue, Goes, Stays, IsLeft, LooksThenRaces, setting_in}
@@ -14,6 +16,11 @@ use Rattle.one_worker.proofs.serial.SerialCollection.evacuate.Goals as goal
 
 two_ways : {r : Evacuated} → r ≡ Looked → r ≡ Raced → ⊥
 two_ways p q = cc
+
+pub evacuate-requires-clause-names : goal.evacuate-requires-clause-names
+evacuate-requires-clause-names g c =
+    c.self.invariant.names ∙ ap (λ (h : HeapValue). young_names h.graph c.self.inside.collection.value.generation) (sym (c.requires.heap ∙ ap (λ (v : SerialValue). v.heap) (sym c.self.view_is)))
+    ∙ ap (λ (d : CollectionValue). young_names c.args.heap.now.graph d.generation) (sym (c.requires.collection ∙ ap (λ (v : SerialValue). v.collection) (sym c.self.view_is)))
 
 pub evacuate-requires-clause-closed : goal.evacuate-requires-clause-closed
 evacuate-requires-clause-closed g c =

@@ -6,7 +6,7 @@ use Rattle.forwarding.specs.Plain.{empty_cells}
 use Rattle.pending_queues.specs.PlainValue.{new_pending}
 use Rattle.scavenge.specs.ReadyToCollect.{IsReadyToCollect}
 use Rattle.one_worker.specs.SerialValue.{SerialValue}
-use Rattle.one_worker.proofs.Beginning.{key_of, first_of, begun, first_system}
+use Rattle.one_worker.proofs.Beginning.{key_of, names_of, first_of, begun, first_system}
 use Rattle.one_worker.proofs.serial.SerialCollection.new.Goals as goal
 
 pub invariant_of-result : goal.invariant_of-result
@@ -22,6 +22,7 @@ invariant_of-result g c =
     c.in_ok-cells.ensures.fits
     free c.in_ok-claims.ensures.count c.in_ok-claims.ensures.seat queues c.in_ok-queues.ensures.seat
     (c.in_ok-workspace.ensures.config ∙ ap (λ (h : HeapValue). h.config) (sym c.of.ensures))
+    (c.in_ok-workspace.ensures.names ∙ ap (names_of c.args.heap.now) (sym c.of-2.ensures) ∙ ap (λ h. names_of h c.of-2.result.value) (sym c.of.ensures))
     c.in_ok-workspace.ensures.claim worker
 
 pub returns-clause-first : goal.returns-clause-first

@@ -1,7 +1,7 @@
 use Rattle.std.proofs.Common.{sym, ap, subst, ◌∙◌}
 use Rattle.std.specs.Prelude.{IsSome}
 use Rattle.steps.specs.HeapValue.{HeapValue}
-use Rattle.steps.specs.CollectionValue.{CollectionValue}
+use Rattle.steps.specs.CollectionValue.{CollectionValue, young_names}
 use Rattle.model.specs.Live.{IsYoung}
 use Rattle.scavenge.specs.Shown.{name_of}
 use Rattle.workers.specs.System.{Race}
@@ -9,6 +9,11 @@ use Rattle.one_worker.specs.SerialValue.{SerialValue, Goes}
 use Rattle.one_worker.proofs.Raced.{few_of, young_of, race_goes, race_keeps, on_ok}
 use Rattle.one_worker.proofs.Readiness.{ready_of}
 use Rattle.one_worker.proofs.serial.SerialCollection.race.Goals as goal
+
+pub race-requires-clause-names : goal.race-requires-clause-names
+race-requires-clause-names g c =
+    c.self.invariant.names ∙ ap (λ (h : HeapValue). young_names h.graph c.self.inside.collection.value.generation) (sym (c.requires.heap ∙ ap (λ (v : SerialValue). v.heap) (sym c.self.view_is)))
+    ∙ ap (λ (d : CollectionValue). young_names c.args.heap.now.graph d.generation) (sym (c.requires.collection ∙ ap (λ (v : SerialValue). v.collection) (sym c.self.view_is)))
 
 pub race-requires-clause-young : goal.race-requires-clause-young
 race-requires-clause-young g c =
