@@ -160,6 +160,7 @@ module _ (v : InterleavedValue) (ready : IsReadyToCollect v.heap v.collection) (
       record {
         seat = is.seat;
         config = is.config;
+        names = is.names;
         claim = is.claim;
         worked = record {
           history = no_history;

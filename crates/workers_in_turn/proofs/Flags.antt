@@ -1,6 +1,7 @@
 -- A machine of which one member's flag changed.
 use Rattle.std.proofs.Common.{◌≡◌, ℕ, ◌+◌, ◌-◌, ◌≤◌, Bool, true, false, List, map, Some, refl, sym, ap, subst, ◌∙◌, arith}
 use Rattle.std.specs.Prelude.{slice_get, slice_set, slice_index_or, count_by}
+use Rattle.steps.specs.CollectionValue.{young_names}
 use Rattle.workers.specs.Worker.{Worker}
 use Rattle.workers.specs.System.{System, Idle, Wake, End}
 use Rattle.workers.specs.Lawful.{IsLawful}
@@ -36,6 +37,7 @@ module _ (v : InterleavedValue) (k : IsInterleaved v) (t : ℕ) (m m' : MemberVa
       record {
         seat = seat ∙ old.seat;
         config = subst (λ (w : WorkspaceValue). w.config ≡ v.heap.config) (sym workspace) old.config;
+        names = subst (λ (w : WorkspaceValue). w.names ≡ young_names v.heap.graph v.collection.generation) (sym workspace) old.names;
         claim = subst (λ (w : WorkspaceValue). IsLargeAt w.claim t) (sym workspace) old.claim;
         worked = subst (λ (w : WorkspaceValue). HasWorked v.heap v.collection v.workers t w.worker) (sym workspace) old.worked;
       }

@@ -52,7 +52,7 @@ module _ (v : InterleavedValue) (k : IsInterleaved v) (t : ℕ) (m : MemberValue
         let next = member_on v.heap v.collection v.workers t m Exported member i.can (λ h l. l) in
         let oldest : Begins shape m.workspace.worker.aside b = subst (λ c. Begins c.shape m.workspace.worker.aside b) member.config first in
         doing (Export t) v (sharing v lanes t sender) k (λ reached. renews v k t m sender i.there v.cells v.pass v.draws lanes k.cells k.draws (queued_on v.heap v.collection v.workers v.queues k.queue t (with_export lane t b) (lane_more shape t lane b all_noted is_lane)) refl
-        (record { seat = next.seat; config = next.config; claim = next.claim; worked = next.worked })
+        (record { seat = next.seat; config = next.config; names = next.names; claim = next.claim; worked = next.worked })
         (takers_lane v.queues.lanes (slice_set v.members t sender) t lane (with_export lane t b) at refl (takers_same v.members t m sender i.there v.queues.lanes refl k.takers)) reached)
         (record {
           heap = refl;
@@ -97,7 +97,7 @@ module _ (v : InterleavedValue) (k : IsInterleaved v) (t : ℕ) (m : MemberValue
       (subst (λ x. Kept (sharing v x t (record m { seat = seat; workspace = record m.workspace { spare = false } }))) (sym q)
       (subst (λ x. Kept (sharing v v.queues t (record m { seat = x; workspace = record m.workspace { spare = false } }))) (sym s)
       (staying v (sharing v v.queues t spared) k (λ reached. renews v k t m spared at v.cells v.pass v.draws v.queues k.cells k.draws k.queue refl
-      (let member : IsMember v.heap v.collection v.workers t m = k.each t m at in record { seat = member.seat; config = member.config; claim = member.claim; worked = member.worked }) (takers_same v.members t m spared at v.queues.lanes refl k.takers) reached)
+      (let member : IsMember v.heap v.collection v.workers t m = k.each t m at in record { seat = member.seat; config = member.config; names = member.names; claim = member.claim; worked = member.worked }) (takers_same v.members t m spared at v.queues.lanes refl k.takers) reached)
       (record {
         heap = refl;
         collection = refl;
@@ -149,7 +149,7 @@ module _ (v : InterleavedValue) (k : IsInterleaved v) (t : ℕ) (m : MemberValue
           let is_lane : IsLane u source = k.queue.each u source from.there in
           let shapes : named m.workspace.config.shape b ≡ named shape b = ap (λ c. named c.shape b) member.config in
           doing (Take t u) v (sharing v fewer t taker) k (λ reached. renews v k t m taker i.there v.cells v.pass v.draws fewer k.cells k.draws (queued_on v.heap v.collection v.workers v.queues k.queue u (with_taker source m.seat (Some b)) (lane_less u source b m.seat front is_lane)) refl
-          (record { seat = next.seat; config = next.config; claim = next.claim; worked = next.worked })
+          (record { seat = next.seat; config = next.config; names = next.names; claim = next.claim; worked = next.worked })
           (takers_more v.members t m taker i.there v.queues.lanes u source b m.seat from.there member.seat refl k.takers) reached)
           (record {
             heap = refl;

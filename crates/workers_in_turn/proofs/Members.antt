@@ -42,7 +42,7 @@ worked_on heap c n t w act k can handed = record { history = noted (setting_for 
 -- the member after an act, whose seat, sizes and claim are as before
 pub member_on : (heap : HeapValue) (c : CollectionValue) (n t : ℕ) (m : MemberValue) (act : Act) → IsMember heap c n t m → CanAct (setting_for heap c n) m.workspace.worker act
     → ((h : History) → AreTaken heap c n h → AreTaken heap c n (noted (setting_for heap c n) m.workspace.worker act h)) → IsMember heap c n t (acting m (after (setting_for heap c n) m.workspace.worker act))
-member_on heap c n t m act k can handed = record { seat = k.seat; config = k.config; claim = k.claim; worked = worked_on heap c n t m.workspace.worker act k.worked can handed }
+member_on heap c n t m act k can handed = record { seat = k.seat; config = k.config; names = k.names; claim = k.claim; worked = worked_on heap c n t m.workspace.worker act k.worked can handed }
 
 abbrev pub renewed : InterleavedValue → PlainCellsValue → PlainPassValue → SeatValue → PlainQueuesValue CopiesKeyValue → ℕ → MemberValue → InterleavedValue
 renewed v cells pass draws queues t m = record v { cells = cells; pass = pass; draws = draws; queues = queues; members = slice_set v.members t m }

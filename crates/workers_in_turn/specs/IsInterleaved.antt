@@ -11,7 +11,7 @@ use Rattle.forwarding.specs.Plain.{PlainValue as PlainCellsValue}
 use Rattle.pending_queues.specs.PlainValue.{PlainLane}
 use Rattle.pending_queues.specs.PlainValue.{PlainValue as PlainQueuesValue}
 use Rattle.steps.specs.HeapValue.{HeapValue}
-use Rattle.steps.specs.CollectionValue.{CollectionValue, target_of_slot}
+use Rattle.steps.specs.CollectionValue.{CollectionValue, target_of_slot, young_names}
 use Rattle.scavenge.specs.Handed.{CopiesKeyValue}
 use Rattle.workers.specs.System.{opening_worker, idle_count}
 use Rattle.workers.specs.Worker.{Worker}
@@ -63,6 +63,7 @@ pub record HasWorked (heap : HeapValue) (c : CollectionValue) (n t : ℕ) (worke
 pub record IsMember (heap : HeapValue) (c : CollectionValue) (n t : ℕ) (m : MemberValue) : Type 0 where
   pub seat : m.seat ≡ t
   pub config : m.workspace.config ≡ heap.config
+  pub names : m.workspace.names ≡ young_names heap.graph c.generation
   pub claim : IsLargeAt m.workspace.claim t
   pub worked : HasWorked heap c n t m.workspace.worker
 
@@ -98,6 +99,7 @@ pub record IsInterleaved (v : InterleavedValue) : Type 0 where
 pub record IsFirst (heap : HeapValue) (c : CollectionValue) (n t : ℕ) (m : MemberValue) : Type 0 where
   pub seat : m.seat ≡ t
   pub config : m.workspace.config ≡ heap.config
+  pub names : m.workspace.names ≡ young_names heap.graph c.generation
   pub claim : IsLargeAt m.workspace.claim t
   pub worker : m.workspace.worker ≡ begins heap c n t
   pub taken : m.taken ≡ []

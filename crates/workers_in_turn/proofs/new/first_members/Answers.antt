@@ -30,6 +30,7 @@ loop-seat-preserved g c =
           (record {
             seat = is;
             config = c.in_ok-workspace.ensures.config;
+            names = c.in_ok-workspace.ensures.names;
             claim = subst (IsLargeAt c.in_ok-workspace.workspace.claim) t c.in_ok-workspace.ensures.claim;
             worker = c.in_ok-workspace.ensures.worker ∙ ap (begins c.args.heap.now c.args.collection.now c.args.n) t;
             taken = c.new-taken.ensures.items;

@@ -1,6 +1,6 @@
 use Rattle.std.proofs.Common.{sym, ap, subst, ◌∙◌}
 use Rattle.steps.specs.HeapValue.{HeapValue}
-use Rattle.steps.specs.CollectionValue.{CollectionValue}
+use Rattle.steps.specs.CollectionValue.{CollectionValue, young_names}
 use Rattle.model.specs.Live.{IsYoung}
 use Rattle.scavenge.specs.Shown.{name_of}
 use Rattle.workers.specs.System.{Race}
@@ -9,6 +9,14 @@ use Rattle.workers_in_turn.proofs.Members.{lawful_as, goes_as, behind, is_in, on
 use Rattle.workers_in_turn.proofs.Readiness.{ready_of, young_of, few_of}
 use Rattle.workers_in_turn.proofs.Raced.{race_does, race_keeps}
 use Rattle.workers_in_turn.proofs.interleaved.InterleavedCollection.race.Goals as goal
+
+pub race-requires-clause-names : goal.race-requires-clause-names
+race-requires-clause-names g c =
+    let v : InterleavedValue = record { heap = c.self.inside.heap.value; collection = c.self.inside.collection.value; cells = c.self.inside.cells; pass = c.self.inside.pass; claims = c.self.inside.claims; draws = c.self.inside.draws; queues = c.self.inside.queues; workers = c.self.inside.workers; idlers = c.self.inside.idlers; members = c.self.inside.members.items } in
+    let i = is_in _ v c.args.t _ (behind c.self.inside.members.items c.args.t c.behind-self.view_is c.index_mut.ensures.value) (lawful_as (Race c.args.t) c.self.view_is c.requires.lawful) in
+    (c.self.invariant.each c.args.t _ i.there).names
+    ∙ ap (λ (h : HeapValue). young_names h.graph v.collection.generation) (sym (c.requires.heap ∙ ap (λ (x : InterleavedValue). x.heap) (sym c.self.view_is)))
+    ∙ ap (λ (d : CollectionValue). young_names c.args.heap.now.graph d.generation) (sym (c.requires.collection ∙ ap (λ (x : InterleavedValue). x.collection) (sym c.self.view_is)))
 
 pub race-requires-clause-young : goal.race-requires-clause-young
 race-requires-clause-young g c =
