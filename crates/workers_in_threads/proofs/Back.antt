@@ -1,15 +1,9 @@
 -- What the lists say that workers brought back.
-use Rattle.std.proofs.Common.{◌≡◌, ℕ, zero, suc, ◌+◌, ◌<◌, ◌≤◌, true, List, [], ◌∷◌, All, map, length, Option, Some, None, refl, sym, ap, subst, ◌∙◌, arith, nat_eq, Contains}
-use Rattle.std.proofs.lemmas.List.Elements.{All-nil, All-cons, filter_passes}
-use Rattle.std.specs.Prelude.{slice_get, slice_index, slice_index_or}
+use Rattle.std.proofs.Common.{◌≡◌, ℕ, zero, suc, ◌+◌, ◌<◌, ◌≤◌, List, [], ◌∷◌, All, map, length, Option, None, refl, sym, ap, subst, ◌∙◌, arith, nat_eq, Contains}
+use Rattle.std.proofs.lemmas.List.Elements.{All-nil, All-cons}
+use Rattle.std.specs.Prelude.{slice_index_or}
 use Rattle.std.specs.List.{IsDistinct}
-use Rattle.std.specs.FinMap.{keys}
-use Rattle.std.specs.Option.{option_map}
-use Rattle.model.specs.Live.{IsYoung}
-use Rattle.model.specs.OldSlots.{is_young_name}
-use Rattle.model.proofs.OldSlotsExact.{young_name}
 use Rattle.layout.specs.declared.place.Place.{Place}
-use Rattle.layout.specs.Place.{place_word}
 use Rattle.block_pool.specs.BlockValue.{BlockValue}
 use Rattle.block_pool.specs.ClaimsValue.{ClaimsValue, SeatValue, IsSeatOf, all_drawn}
 use Rattle.forwarding.specs.Passes.{AtEach}
@@ -20,9 +14,8 @@ use Rattle.pending_queues.specs.PendingValue.{SeatValue as QueueSeatValue}
 use Rattle.pending_queues.specs.PendingValue.{IsSeatOf as IsQueueSeat}
 use Rattle.pending_queues.specs.Delivered.{AreDelivered}
 use Rattle.steps.specs.HeapValue.{HeapValue}
-use Rattle.steps.specs.CollectionValue.{CollectionValue, young_names}
+use Rattle.steps.specs.CollectionValue.{CollectionValue}
 use Rattle.steps.specs.ReportValue.{WorkerLists, all_won}
-use Rattle.workers.specs.Worker.{Worker}
 use Rattle.workers.specs.Joined.{Each}
 use Rattle.scavenge.specs.Handed.{CopiesKeyValue}
 use Rattle.scavenge.specs.Shown.{WorkspaceValue}
@@ -33,12 +26,11 @@ use Rattle.settling.proofs.ShownLarge.{shown_in}
 use Rattle.workers_in_threads.specs.declared.kit.Brought.{Brought}
 use Rattle.workers_in_threads.specs.declared.sharing_worker.resting.Outcome.{Outcome}
 use Rattle.workers_in_threads.specs.declared.sharing_worker.resting.Outcome.TheVariants.{Ended}
-use Rattle.workers_in_threads.specs.SharingValue.{forwarded_in}
 use Rattle.workers_in_threads.specs.Threads.{ThreadValue, IsThread, AreThreads, HasEnded, Gathered, passes_of, draws_of, seats_of}
 use Rattle.workers_in_threads.specs.Kits.{IsBroughtBack, thread_of}
 use Rattle.workers_in_threads.specs.Reported.{Reported, workers_of}
 use Rattle.workers_in_threads.specs.CameBack.{CameBack}
-use Rattle.workers_in_threads.proofs.Lists.{each_map, each_and, each_get, all_each, length-map}
+use Rattle.workers_in_threads.proofs.Lists.{each_map, each_and, length-map}
 use Rattle.workers_in_threads.proofs.EachThread.{are_threads, have_ended}
 
 pub each_all : {X : Type 0} (F : X → Type 0) (xs : List X) → Each F xs → All F xs
@@ -53,17 +45,6 @@ each_of F G f xs h = each_place G xs (λ i x e. f i x (h i x e))
 fused : {X Y Z : Type 0} (f : X → Y) (g : Y → Z) (xs : List X) → map (λ x. g (f x)) xs ≡ map g (map f xs)
 fused f g [] = refl
 fused f g (x ∷ xs) = ap (λ ys. g (f x) ∷ ys) (fused f g xs)
-
-module _ (heap : HeapValue) (c : CollectionValue) (cells : c.cells ≡ length (young_names heap.graph c.generation)) where
-  -- what has a number is young
-  young_at : (number : ℕ) → number < c.cells → IsYoung heap.graph c.generation (slice_index (young_names heap.graph c.generation) number)
-  young_at number lt =
-      young_name heap.graph c.generation (slice_index (young_names heap.graph c.generation) number)
-      (filter_passes (is_young_name heap.graph c.generation) (keys heap.graph.objects) number 0 (omega (arith, lt, cells)))
-
-  young_each : (ws : List (ℕ × Place)) → Each (λ (e : ℕ × Place). e.0 < c.cells) ws → Each (λ (e : ℕ × ℕ). IsYoung heap.graph c.generation e.0) (forwarded_in heap c ws)
-  young_each [] h = tt
-  young_each (w ∷ ws) h = (young_at w.0 h.0, young_each ws h.1)
 
 module _ {P A : Type 0} (is_pass : ℕ → P → Type 0) (known : P → ℕ → Option Place) (won : P → List (ℕ × Place)) (heap : HeapValue) (c : CollectionValue) (n : ℕ) (ending : Outcome) (passes : List P) (claims : ClaimsValue) (queues : Source A CopiesKeyValue)
     (draws : List SeatValue) (seats : List (QueueSeatValue A CopiesKeyValue)) (workspaces : List WorkspaceValue) (k : CameBack is_pass known won heap c n ending passes claims queues draws seats workspaces) where
@@ -126,9 +107,8 @@ module _ {P A : Type 0} (is_pass : ℕ → P → Type 0) (known : P → ℕ → 
     rest_of r t e =
         record {
           config = t.1.config;
+          names = t.1.names;
           no_proposal = e.out.free.no_proposal;
-          young = subst (Each (λ (x : ℕ × ℕ). IsYoung heap.graph c.generation x.0)) t.1.worked.won_are
-              (young_each heap c k.ready.opened.cells (won r.pass) (all_each (λ (x : ℕ × Place). x.0 < c.cells) (won r.pass) t.1.worked.numbers));
         }
 
     -- what taking the workers apart asks for

@@ -6,6 +6,7 @@ use Rattle.block_pool.specs.ClaimsValue.{SeatValue, unused}
 use Rattle.pending_queues.specs.PendingValue.{new_seat, IsSeatOf}
 use Rattle.pending_queues.specs.PendingValue.{SeatValue as QueueSeatValue}
 use Rattle.scavenge.specs.Handed.{CopiesKeyValue}
+use Rattle.steps.specs.CollectionValue.{young_names}
 use Rattle.workers.specs.Worker.{Worker}
 use Rattle.workers.specs.WorkerRun.{WorkerRun, stay, no_history}
 use Rattle.scavenge.specs.Named.{named}
@@ -15,13 +16,14 @@ use Rattle.workers_in_threads.specs.Queued.{IsQueued}
 use Rattle.workers_in_threads.specs.IsSharing.{IsSharing, HasWorked}
 
 module _ {C P A : Type 0} (fits : C → P → Type 0) (limit : C → ℕ) (known : P → ℕ → Option Place) (won : P → List (ℕ × Place)) (v : SharingValue C P A) where
-  pub begun : IsReadyToCollect v.heap v.collection → v.seat.index < v.workers → v.workspace.config ≡ v.heap.config → fits v.cells v.pass → v.collection.cells ≤ limit v.cells → won v.pass ≡ [] → v.claims.source.free ≡ v.heap.free → v.draws ≡ unused v.claims.source
+  pub begun : IsReadyToCollect v.heap v.collection → v.seat.index < v.workers → v.workspace.config ≡ v.heap.config → v.workspace.names ≡ young_names v.heap.graph v.collection.generation → fits v.cells v.pass → v.collection.cells ≤ limit v.cells → won v.pass ≡ [] → v.claims.source.free ≡ v.heap.free → v.draws ≡ unused v.claims.source
       → v.seat ≡ new_seat v.queues v.seat.index → length v.queues.lanes ≡ v.workers → v.queues.key ≡ record { heap = v.heap; generation = v.collection.generation } → worker_of v ≡ begins_as v → IsSharing fits limit known won v
-  begun ready member config pass cells none free draws seat lanes key worker =
+  begun ready member config names pass cells none free draws seat lanes key worker =
       record {
         ready = ready;
         member = member;
         config = config;
+        names = names;
         fits_cells = pass;
         cells = cells;
         free = free;

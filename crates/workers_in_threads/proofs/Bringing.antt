@@ -3,7 +3,7 @@ use Rattle.std.proofs.Common.{◌≡◌, ℕ, true, None, List, Option, sym, ap,
 use Rattle.layout.specs.declared.place.Place.{Place}
 use Rattle.block_pool.specs.ClaimsValue.{ClaimsValue, SeatValue, IsSeatOf}
 use Rattle.steps.specs.HeapValue.{HeapValue}
-use Rattle.steps.specs.CollectionValue.{CollectionValue}
+use Rattle.steps.specs.CollectionValue.{CollectionValue, young_names}
 use Rattle.pending_queues.specs.PendingValue.{Source}
 use Rattle.pending_queues.specs.PendingValue.{SeatValue as QueueSeatValue}
 use Rattle.pending_queues.specs.PendingValue.{IsSeatOf as IsQueueSeat}
@@ -46,7 +46,7 @@ module _ {C P A : Type 0} {fits : C → P → Type 0} {limit : C → ℕ} {known
         pass = mine;
         draws = subst (λ (x : ClaimsValue). IsSeatOf x.source new.draws) (same.claims ∙ claims_are) k.draws;
         seat = subst (λ q. IsQueueSeat q new.seat) (same.queues ∙ queues_are) k.seat;
-        thread = record { index = same.number ∙ number_is; config = k.config ∙ ap (λ (h : HeapValue). h.config) (same.heap ∙ heap_is); queued = k.queued; worked = worked };
+        thread = record { index = same.number ∙ number_is; config = k.config ∙ ap (λ (h : HeapValue). h.config) (same.heap ∙ heap_is); names = k.names ∙ ap (λ (h : HeapValue). young_names h.graph new.collection.generation) (same.heap ∙ heap_is) ∙ ap (λ (d : CollectionValue). young_names heap.graph d.generation) (same.collection ∙ collection_is); queued = k.queued; worked = worked };
         ended = λ e. record { out = (ended e).out; cleared = (ended e).cleared };
         wanted = λ e. wants (full e).wanted;
         out = λ e. (full e).out;

@@ -50,13 +50,14 @@ module _ {C P A : Type 0} (fits : C → P → Type 0) (limit : C → ℕ) (known
   abbrev pub handing : QueueSeatValue A CopiesKeyValue → WorkspaceValue → SharingValue C P A
   handing seat new = record v { seat = seat; workspace = new }
 
-  handing_is : (seat : QueueSeatValue A CopiesKeyValue) (new : WorkspaceValue) → IsSeatOf v.queues seat → seat.index ≡ v.seat.index → new.config ≡ v.workspace.config → IsQueued seat
+  handing_is : (seat : QueueSeatValue A CopiesKeyValue) (new : WorkspaceValue) → IsSeatOf v.queues seat → seat.index ≡ v.seat.index → new.config ≡ v.workspace.config → new.names ≡ v.workspace.names → IsQueued seat
       → HasWorked v.heap v.collection v.workers v.seat.index (known v.pass) (won v.pass) v.draws seat new.worker → IsSharing fits limit known won (handing seat new)
-  handing_is seat new of index config queued worked =
+  handing_is seat new of index config names queued worked =
       record {
         ready = k.ready;
         member = subst (λ i. i < v.workers) (sym index) k.member;
         config = config ∙ k.config;
+        names = names ∙ k.names;
         fits_cells = k.fits_cells;
         cells = k.cells;
         free = k.free;
@@ -125,17 +126,17 @@ module _ {C P A : Type 0} (fits : C → P → Type 0) (limit : C → ℕ) (known
         }
 
     -- the block that was aside longest left for the worker's own queue
-    pub exported : (new : WorkspaceValue) (seat : QueueSeatValue A CopiesKeyValue) → IsSeatOf v.queues seat → seat ≡ after_export v.seat b → new.config ≡ v.workspace.config → new.worker ≡ after_aside (worker_of v) → IsSharing fits limit known won (handing seat new)
-    exported new seat of s config worker =
-        handing_is seat new of (ap (λ (x : QueueSeatValue A CopiesKeyValue). x.index) s) config
+    pub exported : (new : WorkspaceValue) (seat : QueueSeatValue A CopiesKeyValue) → IsSeatOf v.queues seat → seat ≡ after_export v.seat b → new.config ≡ v.workspace.config → new.names ≡ v.workspace.names → new.worker ≡ after_aside (worker_of v) → IsSharing fits limit known won (handing seat new)
+    exported new seat of s config names worker =
+        handing_is seat new of (ap (λ (x : QueueSeatValue A CopiesKeyValue). x.index) s) config names
         (subst IsQueued (sym s) (record { noted = each_more (λ (x : BlockValue). length x.origins ≡ length x.objects) v.seat.sent (next_export v.seat b) k.queued.noted is_whole.noted; rises = k.queued.rises }))
         (subst (λ x. HasWorked v.heap v.collection v.workers v.seat.index (known v.pass) (won v.pass) v.draws x new.worker) (sym s)
         (subst (HasWorked v.heap v.collection v.workers v.seat.index (known v.pass) (won v.pass) v.draws (after_export v.seat b)) (sym worker) exported_worked))
 
   -- nothing came, but what the seat knows of its exports, and the room to put a block back
-  pub stayed : (new : WorkspaceValue) (seat : QueueSeatValue A CopiesKeyValue) → IsSeatOf v.queues seat → seat.index ≡ v.seat.index → seat.sent ≡ v.seat.sent → seat.taken ≡ v.seat.taken → new.config ≡ v.workspace.config → new.worker ≡ worker_of v → IsSharing fits limit known won (handing seat new)
-  stayed new seat of index sent taken config worker =
-      handing_is seat new of index config
+  pub stayed : (new : WorkspaceValue) (seat : QueueSeatValue A CopiesKeyValue) → IsSeatOf v.queues seat → seat.index ≡ v.seat.index → seat.sent ≡ v.seat.sent → seat.taken ≡ v.seat.taken → new.config ≡ v.workspace.config → new.names ≡ v.workspace.names → new.worker ≡ worker_of v → IsSharing fits limit known won (handing seat new)
+  stayed new seat of index sent taken config names worker =
+      handing_is seat new of index config names
       (record { noted = subst (Each (λ (x : BlockValue). length x.origins ≡ length x.objects)) (sym sent) k.queued.noted; rises = λ u. subst (λ bs. IsRising (positions_in u bs)) (sym taken) (k.queued.rises u) })
       (subst (HasWorked v.heap v.collection v.workers v.seat.index (known v.pass) (won v.pass) v.draws seat) (sym worker)
       (record {
@@ -189,9 +190,9 @@ module _ {C P A : Type 0} (fits : C → P → Type 0) (limit : C → ℕ) (known
         }
 
     -- the block is in hand
-    pub took : (new : WorkspaceValue) (seat : QueueSeatValue A CopiesKeyValue) → IsSeatOf v.queues seat → seat ≡ after_take v.seat b → new.config ≡ v.workspace.config → new.worker ≡ after_take_of (worker_of v) (named v.workspace.config.shape b) → IsSharing fits limit known won (handing seat new)
-    took new seat of s config worker =
-        handing_is seat new of (ap (λ (x : QueueSeatValue A CopiesKeyValue). x.index) s) config
+    pub took : (new : WorkspaceValue) (seat : QueueSeatValue A CopiesKeyValue) → IsSeatOf v.queues seat → seat ≡ after_take v.seat b → new.config ≡ v.workspace.config → new.names ≡ v.workspace.names → new.worker ≡ after_take_of (worker_of v) (named v.workspace.config.shape b) → IsSharing fits limit known won (handing seat new)
+    took new seat of s config names worker =
+        handing_is seat new of (ap (λ (x : QueueSeatValue A CopiesKeyValue). x.index) s) config names
         (subst IsQueued (sym s) (record { noted = k.queued.noted; rises = rises_more v.seat.taken b exporter (position_of b) label above k.queued.rises }))
         (subst (λ x. HasWorked v.heap v.collection v.workers v.seat.index (known v.pass) (won v.pass) v.draws x new.worker) (sym s)
         (subst (HasWorked v.heap v.collection v.workers v.seat.index (known v.pass) (won v.pass) v.draws (after_take v.seat b)) (sym (worker ∙ ap (λ c. after_take_of (worker_of v) (named c.shape b)) k.config)) took_worked))

@@ -50,6 +50,7 @@ module _ {C P A : Type 0} (fits : C → P → Type 0) (limit : C → ℕ) (known
         ready = k.ready;
         member = k.member;
         config = k.config;
+        names = k.names;
         fits_cells = k.fits_cells;
         cells = k.cells;
         free = k.free;
@@ -80,12 +81,13 @@ module _ {C P A : Type 0} (fits : C → P → Type 0) (limit : C → ℕ) (known
           }
 
   -- the worker's part is as it was, but for the room to put a block back
-  pub stood : (v : SharingValue C P A) (new : WorkspaceValue) → IsSharing fits limit known won v → new.config ≡ v.workspace.config → new.worker ≡ v.workspace.worker → IsSharing fits limit known won (with_part v new)
-  stood v new k config worker =
+  pub stood : (v : SharingValue C P A) (new : WorkspaceValue) → IsSharing fits limit known won v → new.config ≡ v.workspace.config → new.names ≡ v.workspace.names → new.worker ≡ v.workspace.worker → IsSharing fits limit known won (with_part v new)
+  stood v new k config names worker =
       record {
         ready = k.ready;
         member = k.member;
         config = config ∙ k.config;
+        names = names ∙ k.names;
         fits_cells = k.fits_cells;
         cells = k.cells;
         free = k.free;

@@ -84,12 +84,13 @@ module _ {C P A : Type 0} (fits : C → P → Type 0) (limit : C → ℕ) (known
 
   module _ (v : SharingValue C P A) (k : Is v) (cells : C) (pass : P) (draws : SeatValue) (is_fit : fits cells pass) (few : v.collection.cells ≤ limit cells) (seat : IsSeatOf v.claims.source draws) where
     -- what it did is so still, and it knows at least as much
-    pub turned_is : (new : WorkspaceValue) → new.config ≡ v.workspace.config → HasWorked v.heap v.collection v.workers v.seat.index (known pass) (won pass) draws v.seat new.worker → Is (turned v cells pass draws new)
-    turned_is new config worked =
+    pub turned_is : (new : WorkspaceValue) → new.config ≡ v.workspace.config → new.names ≡ v.workspace.names → HasWorked v.heap v.collection v.workers v.seat.index (known pass) (won pass) draws v.seat new.worker → Is (turned v cells pass draws new)
+    turned_is new config names worked =
         record {
           ready = k.ready;
           member = k.member;
           config = config ∙ k.config;
+          names = names ∙ k.names;
           fits_cells = is_fit;
           cells = few;
           free = k.free;
@@ -139,7 +140,7 @@ module _ {C P A : Type 0} (fits : C → P → Type 0) (limit : C → ℕ) (known
 
         pub looks : Is (turned v cells pass draws new) × sharing.Looks v (turned v cells pass draws new)
         looks = (
-          turned_is new (ap (λ (w : WorkspaceValue). w.config) r.worker)
+          turned_is new (ap (λ (w : WorkspaceValue). w.config) r.worker) (ap (λ (w : WorkspaceValue). w.names) r.worker)
               (subst (HasWorked v.heap v.collection v.workers v.seat.index (known pass) (won pass) draws v.seat) (sym (ap (λ (w : WorkspaceValue). w.worker) r.worker)) looked_worked),
           record { cell = cell; number = r.number; acts = ap (λ (w : WorkspaceValue). w.worker) r.worker },
         )
@@ -147,7 +148,7 @@ module _ {C P A : Type 0} (fits : C → P → Type 0) (limit : C → ℕ) (known
       module _ (lasts : StillKnows (known v.pass) (known pass)) where
         pub still : (new : WorkspaceValue) → new ≡ v.workspace → draws.drawn ≡ v.draws.drawn → Is (turned v cells pass draws new)
         still new e drawn =
-            turned_is new (ap (λ (w : WorkspaceValue). w.config) e)
+            turned_is new (ap (λ (w : WorkspaceValue). w.config) e) (ap (λ (w : WorkspaceValue). w.names) e)
             (subst (HasWorked v.heap v.collection v.workers v.seat.index (known pass) (won pass) draws v.seat) (sym (ap (λ (w : WorkspaceValue). w.worker) e))
             (still_worked (pair_kept v.heap v.collection (known v.pass) (known pass) lasts) drawn))
 

@@ -117,7 +117,7 @@ module _ {C P A : Type 0} (fits : C → P → Type 0) (limit : C → ℕ) (known
 
     pub raced : IsSharing fits limit known won (turned fits limit known won (λ _ _. Unit {0}) v cells pass v.draws new) × sharing.Races v (turned fits limit known won (λ _ _. Unit {0}) v cells pass v.draws new)
     raced = (
-      turned_is fits limit known won (λ _ _. Unit {0}) v k cells pass v.draws is_fit few k.draws new (ap (λ (w : WorkspaceValue). w.config) r.worker)
+      turned_is fits limit known won (λ _ _. Unit {0}) v k cells pass v.draws is_fit few k.draws new (ap (λ (w : WorkspaceValue). w.config) r.worker) (ap (λ (w : WorkspaceValue). w.names) r.worker)
           (subst (HasWorked v.heap v.collection v.workers v.seat.index (known pass) (won pass) v.draws v.seat) (sym (ap (λ (w : WorkspaceValue). w.worker) r.worker)) raced_worked),
       record { lost = lost; acts = ap (λ (w : WorkspaceValue). w.worker) r.worker },
     )

@@ -4,7 +4,7 @@ use Rattle.layout.specs.declared.place.Place.{Place}
 use Rattle.block_pool.specs.ClaimsValue.{SeatValue, IsSeatOf}
 use Rattle.steps.specs.ConfigRange.{IsInRange}
 use Rattle.steps.specs.HeapValue.{HeapValue}
-use Rattle.steps.specs.CollectionValue.{CollectionValue}
+use Rattle.steps.specs.CollectionValue.{CollectionValue, young_names}
 use Rattle.pending_queues.specs.PendingValue.{IsSeatOf as IsQueueSeat}
 use Rattle.pending_queues.specs.PendingValue.{SeatValue as QueueSeatValue}
 use Rattle.scavenge.specs.Handed.{CopiesKeyValue}
@@ -46,6 +46,7 @@ module _ {C P A : Type 0} where
     pub ready : IsReadyToCollect v.heap v.collection
     pub member : v.seat.index < v.workers
     pub config : v.workspace.config ≡ v.heap.config
+    pub names : v.workspace.names ≡ young_names v.heap.graph v.collection.generation
     pub fits_cells : fits v.cells v.pass
     pub cells : v.collection.cells ≤ limit v.cells
     pub free : v.claims.source.free ≡ v.heap.free

@@ -4,7 +4,7 @@ use Rattle.layout.specs.declared.place.Place.{Place}
 use Rattle.forwarding.specs.Passes.{AtEach}
 use Rattle.block_pool.specs.ClaimsValue.{ClaimsValue, IsSeatOf, unused}
 use Rattle.steps.specs.HeapValue.{HeapValue}
-use Rattle.steps.specs.CollectionValue.{CollectionValue}
+use Rattle.steps.specs.CollectionValue.{CollectionValue, young_names}
 use Rattle.idle_count.specs.IdleValue.{IdleValue}
 use Rattle.idle_count.specs.IdleValue.{IsSeatOf as IsIdleSeat}
 use Rattle.idle_count.specs.VerdictValue.{VerdictValue}
@@ -34,6 +34,7 @@ module _ {P A : Type 0} where
     pub key : queues.key ≡ record { heap = heap; generation = c.generation }
     pub seat : k.seat ≡ new_seat queues t
     pub config : k.workspace.config ≡ heap.config
+    pub names : k.workspace.names ≡ young_names heap.graph c.generation
     pub worker : k.workspace.worker ≡ begins heap c n t
     pub rest : IsIdleSeat idle k.rest
     pub busy : k.rest.idle ≡ false

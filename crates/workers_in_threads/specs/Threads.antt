@@ -9,7 +9,7 @@ use Rattle.block_pool.specs.ClaimsValue.{Source, SeatValue, IsSeatOf, all_drawn}
 use Rattle.forwarding.specs.Settled.{IsSettled, all_pairs}
 use Rattle.pending_queues.specs.declared.exports.deliveries.Delivery.{Delivery}
 use Rattle.steps.specs.HeapValue.{HeapValue}
-use Rattle.steps.specs.CollectionValue.{CollectionValue}
+use Rattle.steps.specs.CollectionValue.{CollectionValue, young_names}
 use Rattle.pending_queues.specs.PendingValue.{SeatValue as QueueSeatValue}
 use Rattle.pending_queues.specs.Delivered.{AreDelivered}
 use Rattle.scavenge.specs.Handed.{CopiesKeyValue}
@@ -36,6 +36,7 @@ module _ {P A : Type 0} (known : P → ℕ → Option Place) (won : P → List (
   pub record IsThread (heap : HeapValue) (c : CollectionValue) (n t : ℕ) (r : ThreadValue P A) : Type 0 where
     pub index : r.seat.index ≡ t
     pub config : r.workspace.config ≡ heap.config
+    pub names : r.workspace.names ≡ young_names heap.graph c.generation
     pub queued : IsQueued r.seat
     pub worked : HasWorked heap c n t (known r.pass) (won r.pass) r.draws r.seat r.workspace.worker
 

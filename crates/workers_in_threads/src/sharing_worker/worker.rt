@@ -2,6 +2,7 @@
 ghost use Rattle.std.specs.Prelude.{◌≡◌, ◌<◌, ◌≤◌, [], length};
 ghost use Rattle.block_pool.specs.ClaimsValue.{unused};
 ghost use Rattle.pending_queues.specs.PendingValue.{IsSeatOf, new_seat};
+ghost use Rattle.steps.specs.CollectionValue.{young_names};
 ghost use Rattle.scavenge.specs.ReadyToCollect.{IsReadyToCollect};
 ghost use Rattle.workers_in_threads.specs.SharingValue.{begins};
 ghost use Rattle.workers_in_threads.specs.IsSharing.{IsSharing};
@@ -76,6 +77,7 @@ impl<'a, C: Cells, A: Allocator> SharingWorker<'a, C, A> {
         requires lanes { length queues.now.lanes ≡ workers }
         requires key { queues.now.key ≡ record { heap = heap.now; generation = collection.now.generation } }
         requires config { workspace.config ≡ heap.now.config }
+        requires names { workspace.names ≡ young_names heap.now.graph collection.now.generation }
         requires worker { workspace.worker ≡ begins heap.now collection.now workers seat.index }
         ensures { result ≡ record { heap = heap.now; collection = collection.now; claims = claims.now; queues = queues.now; workers = workers; cells = cells; pass = pass; draws = draws; seat = seat; workspace = workspace } }
     {

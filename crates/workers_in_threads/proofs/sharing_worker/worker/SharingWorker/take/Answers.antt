@@ -18,7 +18,7 @@ invariant_of-self-in-None g c =
     stayed _ _ _ _ _ c.self.invariant c.self.inside.workspace c.take.new.seat c.take.ensures.of
     (ap (λ (s : SeatValue g.row.A.Denot CopiesKeyValue). s.index) e ∙ none_index c.self.inside.seat c.args.exporter)
     (ap (λ (s : SeatValue g.row.A.Denot CopiesKeyValue). s.sent) e ∙ none_sent c.self.inside.seat c.args.exporter)
-    (ap (λ (s : SeatValue g.row.A.Denot CopiesKeyValue). s.taken) e ∙ none_taken c.self.inside.seat c.args.exporter) refl refl
+    (ap (λ (s : SeatValue g.row.A.Denot CopiesKeyValue). s.taken) e ∙ none_taken c.self.inside.seat c.args.exporter) refl refl refl
 
 pub invariant_of-self-in-Some : goal.invariant_of-self-in-Some
 invariant_of-self-in-Some g c =
@@ -29,4 +29,4 @@ invariant_of-self-in-Some g c =
     (subst (λ o. IfSome o (λ b. IsHandedFor c.self.inside.queues.now.key b)) c.in-Some.is c.in_ok-take.ensures.fact)
     (subst (λ o. IfSome o (λ b. c.args.exporter ≡ c.self.inside.seat.index → slice_get c.self.inside.seat.sent (position_of b) ≡ Some b)) c.in-Some.is c.in_ok-take.ensures.own)
     (subst (λ o. IfSome o (λ (b : BlockValue). All (λ (t : BlockValue). (p : ℕ) → t.sent ≡ Some (c.args.exporter, p) → p < position_of b) c.self.inside.seat.taken)) c.in-Some.is c.in_ok-take.ensures.rises)
-    c.taken.new.self c.take.new.seat c.take.ensures.of e (ap (λ (w : WorkspaceValue). w.config) c.taken.ensures) (ap (λ (w : WorkspaceValue). w.worker) c.taken.ensures)
+    c.taken.new.self c.take.new.seat c.take.ensures.of e (ap (λ (w : WorkspaceValue). w.config) c.taken.ensures) (ap (λ (w : WorkspaceValue). w.names) c.taken.ensures) (ap (λ (w : WorkspaceValue). w.worker) c.taken.ensures)
