@@ -5,8 +5,6 @@ use Rattle.std.specs.Prelude.{flat_map, slice_index}
 use Rattle.std.specs.Option.{option_map}
 use Rattle.std.specs.Ordering.{nat_cmp}
 use Rattle.std.specs.FinMap.{find}
-use Rattle.model.specs.Live.{IsYoung}
-use Rattle.model.proofs.LiveLemmas.{Live-young}
 use Rattle.layout.specs.declared.place.Place.{Place}
 use Rattle.layout.specs.Place.{place_word}
 use Rattle.block_pool.specs.BlockValue.{BlockValue}
@@ -39,7 +37,7 @@ use Rattle.workers_in_turn.proofs.Places.{get-map}
 use Rattle.settling.specs.Collects.{ScansOnce}
 use Rattle.scavenge.specs.Shown.{WorkspaceValue}
 use Rattle.settling.specs.Telling.{IsAtRest, AreBrought}
-use Rattle.settling.proofs.EndedLists.{joined_lists, joined_map, renamed_joined, same_places, parts_won, parts_left, parts_scanned, wins_among, each_name, each_place}
+use Rattle.settling.proofs.EndedLists.{joined_lists, joined_map, renamed_joined, same_places, parts_won, parts_left, parts_scanned, each_place}
 
 module _ (v : InterleavedValue) (k : IsInterleaved v) (ended : AllEnded (system_of v)) where
   empty : AreEmpty v.heap.graph v.heap.free
@@ -74,20 +72,12 @@ module _ (v : InterleavedValue) (k : IsInterleaved v) (ended : AllEnded (system_
   wins_are : (name : ℕ) → wins_of name (all_of (λ (w : Worker). w.won)) ≡ ones (placed name)
   wins_are name = ap (wins_of name) (sym won_is) ∙ parts_kept.won_once name
 
-  -- what was won is young
-  young : (name : ℕ) → 0 < wins_of name (all_of (λ (w : Worker). w.won)) → IsYoung v.heap.graph v.collection.generation name
-  young name l = go (placed name) refl (let e = wins_are name in omega (arith, l, e))
-    where
-      go : (o : Option ℕ) → placed name ≡ o → 0 < ones o → IsYoung v.heap.graph v.collection.generation name
-      go None e s = absurd (omega (arith, s))
-      go (Some place) e s = Live-young v.heap.graph v.collection.generation name (parts_kept.renaming.only_live name place (parts_kept.places name ∙ e))
-
   pub at_rest : Each (λ (m : MemberValue). IsAtRest v.heap v.collection m.workspace) v.members
   at_rest = each_place (λ (m : MemberValue). IsAtRest v.heap v.collection m.workspace) v.members (λ t m at.
       record {
         config = (k.each t m at).config;
+        names = (k.each t m at).names;
         no_proposal = (nothing_left.workers t m.workspace.worker (get-map worker_of v.members t m at)).0.free.no_proposal;
-        young = each_name (IsYoung v.heap.graph v.collection.generation) m.workspace.worker.won (λ name l. young name (let a = wins_among name (system_of v).workers t m.workspace.worker (get-map worker_of v.members t m at) in omega (arith, l, a)));
       })
 
   module _ (reports : List WorkerLists) (blocks : List BlockValue) (b : AreBrought v.heap v.collection (map worker_of v.members) reports blocks) where
