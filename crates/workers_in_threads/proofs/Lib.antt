@@ -23,6 +23,7 @@ pub mod Crossing
 pub mod EachThread
 pub mod Endings
 pub mod Back
+pub mod LastPlaces
 pub mod Told
 pub mod Concluding
 pub mod Taking

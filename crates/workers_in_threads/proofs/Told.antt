@@ -51,6 +51,7 @@ use Rattle.workers_in_threads.specs.Reports.{exports_from, label_first, labels_o
 use Rattle.workers_in_threads.proofs.Lists.{all_each, each_get, get-map, get-some, length-map, total-map, delivered-is}
 use Rattle.workers_in_threads.proofs.Back.{each_all}
 use Rattle.workers_in_threads.proofs.Knowing.{left_here, labelled_length}
+use Rattle.workers_in_threads.proofs.LastPlaces.{stand_in_order, each_unscanned}
 use Rattle.workers_in_threads.proofs.Parts.{Is, part_of, parts_of, finals_are, parts_length, part_first}
 use Rattle.workers_in_threads.proofs.Joined.{parts, joined, brought, turns, threads_keep, delivered_each, labels_each, deliveries_total}
 use Rattle.workers_in_threads.specs.Threads.{KeptBy, placed_in}
@@ -420,4 +421,6 @@ module _ {P A : Type 0} {known : P → ℕ → Option Place} {won : P → List (
         };
         in_order = scans;
         taken = taken_in_order;
+        unscanned = λ t part there. each_unscanned (setting_for heap c n) part (each_get (HasRun (setting_for heap c n)) ps t part (joined all).runs there);
+        lasts_in_order = λ t part there. stand_in_order (setting_for heap c n) part (each_get (HasRun (setting_for heap c n)) ps t part (joined all).runs there);
       }

@@ -13,4 +13,5 @@ pub mod Reported
 pub mod Refusing
 pub mod CameBack
 -- What they leave and report.
+pub mod LastPlaces
 pub mod Reports

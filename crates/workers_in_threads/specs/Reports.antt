@@ -7,8 +7,8 @@ use Rattle.steps.specs.HeapValue.{HeapValue}
 use Rattle.steps.specs.ReportValue.{WorkerLists}
 use Rattle.steps.specs.CollectionValue.{slots_of, target_of_slot}
 use Rattle.steps.specs.declared.heap_values.report.Delivery.{Delivery}
-use Rattle.workers.specs.Block.{Block}
-use Rattle.workers.specs.Joined.{Part}
+use Rattle.workers.specs.Block.{Block, has_unscanned}
+use Rattle.workers.specs.Joined.{Each, Part}
 use Rattle.workers.specs.Kept.{won_lists}
 use Rattle.workers.specs.Ordered.{TurnRun}
 use Rattle.workers.specs.Scans.{ScansInBlocks}
@@ -19,6 +19,7 @@ use Rattle.scavenge.specs.Waiting.{left_of}
 use Rattle.settling.specs.Collects.{Collects, ScansAlone, setting_at}
 use Rattle.settling.specs.Together.{Reports}
 use Rattle.workers_in_threads.specs.SharingValue.{labelled_from}
+use Rattle.workers_in_threads.specs.LastPlaces.{last_places, StandInOrder}
 
 -- all workers' exports, each with its label, from worker u on
 abbrev pub exports_from : ℕ → List Part → List (List Block)
@@ -53,7 +54,7 @@ state_of heap parts =
       ended = map (λ (p : Part). true) parts;
     }
 
--- n workers on threads of their own report: each went on by itself from its share of the start; the lists and deliveries are those of where they stand together; each copy was scanned in the order of its block; and each export was taken once, in its order
+-- n workers on threads of their own report: each went on by itself from its share of the start; the lists and deliveries are those of where they stand together; each copy was scanned in the order of its block; each export was taken once, in its order; and of the blocks that one worker took, each with a copy not yet scanned, the last places stand in its scanned list in the order in which it took them
 pub record ReportsApart (heap : HeapValue) (g n : ℕ) (reports : List WorkerLists) (deliveries : List Delivery) : Type 0 where
   pub parts : List Part
   pub many : length parts ≡ n
@@ -62,6 +63,8 @@ pub record ReportsApart (heap : HeapValue) (g n : ℕ) (reports : List WorkerLis
   pub reports_are : Reports heap g (state_of heap parts) reports deliveries
   pub in_order : ScansInBlocks (finals_of parts) heap.free
   pub taken : AreTakenInOrder (state_of heap parts)
+  pub unscanned : (t : ℕ) (part : Part) → slice_get parts t ≡ Some part → Each (λ (b : Block). has_unscanned b ≡ true) part.history.taken
+  pub lasts_in_order : (t : ℕ) (part : Part) → slice_get parts t ≡ Some part → StandInOrder (last_places part.history.taken) part.final.scanned
 
 -- fewer blocks were free than the space bound of the live words for n workers
 abbrev pub IsShortOfBlocksFor : HeapValue → ℕ → ℕ → Type 0
