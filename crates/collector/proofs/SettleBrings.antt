@@ -4,7 +4,6 @@ use Rattle.std.specs.Prelude.{All, slice_index, slice_index_or}
 use Rattle.std.specs.Option.{option_map}
 use Rattle.std.specs.Ordering.{nat_cmp}
 use Rattle.std.specs.FinMap.{find}
-use Rattle.model.specs.Live.{Live}
 use Rattle.model.specs.Reached.{has}
 use Rattle.layout.specs.declared.place.Place.{Place}
 use Rattle.layout.specs.Place.{place_word}
@@ -113,10 +112,6 @@ module _ (v : SerialValue) (k : IsSerial v) (r : IsReached (setting_in v) (desti
           let z : times place p.final.scanned + 0 ≡ times place p.final.scanned = omega arith in
           n ∙ sym z ∙ is
       by_workers place (p ∷ (q ∷ ps)) e is = absurd (cc)
-
-  -- what was won is young
-  pub won_live : (name place : ℕ) → placed name ≡ Some place → Live v.heap.graph v.collection.generation name
-  won_live name place is = parts_kept.renaming.only_live name place (parts_kept.places name ∙ is)
 
   -- what the worker holds may be committed
   pub settles : (places : List (Option Place)) (blocks : List BlockValue) (won : List (ℕ × ℕ))

@@ -73,7 +73,7 @@ fn scavenged<A: Allocator + Clone>(
 {
     let mut serial = SerialCollection::new(alloc.clone()?, heap, &collection)?;
     match run_to_end(alloc.clone()?, heap, &collection, &mut serial) {
-        Ok(()) => Ok(settle(alloc, heap, collection, serial)?),
+        Ok(()) => Ok(settle(alloc, collection, serial)?),
         Err(LookError::NoMemory) => Err(CollectError::NoMemory),
         Err(LookError::HeapFull) => {
             serial.count_drawn(alloc)?;

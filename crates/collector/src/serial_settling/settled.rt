@@ -12,12 +12,12 @@ ghost use Rattle.scavenge.specs.Waiting.{waiting_in};
 ghost use Rattle.collector.specs.Settling.{IsReportOf, ScansWhatItWon, exports_of};
 ghost use Rattle.settling.specs.OwnDeliveries.{deliveries_of_sizes, own_deliveries};
 
-use heap::{Collection, Delivery, Heap, Settled, Won, WorkerReport};
+use heap::{Collection, Delivery, Settled, Won, WorkerReport};
 use layout::Place;
 use one_worker::{SerialCollection, SerialParts};
 use pending_queues::{Delivery as Outcome, PlainPending, PlainSeat};
 use scavenge::{Copies, Parts};
-use settling::{in_one_list, numbered, places_in, show_large};
+use settling::{in_one_list, places_in, show_large};
 use std::alloc::{AllocError, Allocator};
 
 /// What became of the worker's exports: it took each itself.
@@ -65,11 +65,9 @@ fn reported<A: Allocator>(
 /// What the worker brings to the commit of its collection, once nothing is left to it. An error says that memory ran out.
 pub fn settle<A: Allocator + Clone>(
     alloc: A,
-    heap: &Heap<A>,
     collection: Collection<A>,
     serial: SerialCollection<A>,
 ) -> Result<Settled<A>, AllocError>
-    requires heap { heap.now ≡ serial.heap }
     requires collection { collection ≡ serial.collection }
     requires out { IsOutOfWork serial.workspace.worker }
     requires queue { waiting_in (lane_of serial) ≡ [] }
@@ -94,7 +92,6 @@ pub fn settle<A: Allocator + Clone>(
         won,
         scanned,
     } = workspace.into_parts();
-    let won = numbered(alloc.clone()?, heap, &collection, &won)?;
     let blocks = in_one_list(alloc.clone()?, allocation, done)?;
     let mut places = places_in(alloc.clone()?, cells, pass)?;
     show_large(&mut places, &won);
