@@ -1,5 +1,5 @@
 //! Collections by threads leave what a collection by one worker leaves, and are refused as it is.
-use crate::heaps::{seen, wide_heap};
+use crate::heaps::{old_heap, seen, wide_heap};
 use collector::{CellKind, ThreadsError, collect, collect_one};
 use forwarding::OpenGate;
 use heap::Heap;
@@ -40,7 +40,7 @@ fn together<R: Threads + Wait + Sync + AllocGlobal>(
 fn left_by_one(alloc: Global, objects: u32) -> Result<Left, Fail> {
     let (mut heap, top) = wide_heap(alloc, objects, 200)?;
     let counts = alone(alloc, &mut heap)?;
-    let text = seen(alloc, &heap, top)?;
+    let text = seen(alloc, alloc, &heap, &[top])?;
     Ok(Left {
         counts: Some(counts),
         text,
@@ -57,14 +57,14 @@ fn left_by_threads<R: Threads + Wait + Sync + AllocGlobal>(
 ) -> Result<Left, Fail> {
     let (mut heap, top) = wide_heap(rt.alloc(), objects, spare)?;
     let counts = together(rt, &mut heap, n, kind)?;
-    let text = seen(rt.alloc(), &heap, top)?;
+    let text = seen(rt.alloc(), rt.alloc(), &heap, &[top])?;
     Ok(Left { counts, text })
 }
 
 /// What such a heap is before it is collected.
 fn left_by_none(alloc: Global, objects: u32, spare: u64) -> Result<Left, Fail> {
     let (heap, top) = wide_heap(alloc, objects, spare)?;
-    let text = seen(alloc, &heap, top)?;
+    let text = seen(alloc, alloc, &heap, &[top])?;
     Ok(Left { counts: None, text })
 }
 
@@ -121,35 +121,57 @@ fn with_few_blocks(rt: HostRuntime) -> Result<(), Fail> {
     Ok(())
 }
 
-/// What a collection of a heap of one object answers.
-fn answer<R: Threads + Wait + Sync + AllocGlobal>(
+/// What a collection answers, whose report is dropped.
+fn answer_in<R: Threads + Wait + Sync + AllocGlobal>(
     rt: &R,
+    heap: &mut Heap,
     generation: u64,
     n: u32,
-) -> Result<Option<ThreadsError>, Fail> {
-    let (mut heap, _top) = wide_heap(rt.alloc(), 1, 2)?;
-    match collect(
+) -> Option<ThreadsError> {
+    collect(
         rt,
         rt.alloc(),
-        &mut heap,
+        heap,
         generation,
         n,
         CellKind::Word,
         &OpenGate,
-    ) {
-        Ok(_) => Ok(None),
-        Err(error) => Ok(Some(error)),
-    }
+    )
+    .err()
+}
+
+/// What a collection of a heap of two generations answers, and whether the heap is as before.
+fn answer<R: Threads + Wait + Sync + AllocGlobal>(
+    rt: &R,
+    generation: u64,
+    n: u32,
+) -> Result<(Option<ThreadsError>, bool), Fail> {
+    let (mut heap, top) = old_heap(rt.alloc())?;
+    let before = seen(rt.alloc(), rt.alloc(), &heap, &[top])?;
+    let answer = answer_in(rt, &mut heap, generation, n);
+    let after = seen(rt.alloc(), rt.alloc(), &heap, &[top])?;
+    Ok((answer, after == before))
 }
 
 #[test]
-fn refused_by_numbers(rt: HostRuntime) -> Result<(), Fail> {
-    assert_eq!(&rt; answer(&rt, 0, 0)?, Some(ThreadsError::BadConfig));
-    assert_eq!(&rt; answer(&rt, 1, 0)?, Some(ThreadsError::BadConfig));
-    assert_eq!(&rt; answer(&rt, 0, 17)?, Some(ThreadsError::BadConfig));
-    assert_eq!(&rt; answer(&rt, 1, 1)?, Some(ThreadsError::NoGeneration));
-    assert_eq!(&rt; answer(&rt, 1, 16)?, Some(ThreadsError::NoGeneration));
-    assert_eq!(&rt; answer(&rt, 0, 1)?, None);
-    assert_eq!(&rt; answer(&rt, 0, 16)?, None);
+fn bad_worker_counts(rt: HostRuntime) -> Result<(), Fail> {
+    for (generation, n, wanted) in [
+        (0, 0, Some(ThreadsError::BadConfig)),
+        (1, 0, Some(ThreadsError::BadConfig)),
+        (2, 0, Some(ThreadsError::BadConfig)),
+        (0, 17, Some(ThreadsError::BadConfig)),
+        (1, 17, Some(ThreadsError::BadConfig)),
+        (2, 17, Some(ThreadsError::BadConfig)),
+        (2, 1, Some(ThreadsError::NoGeneration)),
+        (2, 16, Some(ThreadsError::NoGeneration)),
+        (1, 1, None),
+        (0, 16, None),
+    ] {
+        let is_refused = wanted.is_some();
+        assert!(&rt;
+            answer(&rt, generation, n)? == (wanted, is_refused),
+            "generation {generation}, {n} workers"
+        );
+    }
     Ok(())
 }

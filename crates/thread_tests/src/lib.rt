@@ -4,10 +4,18 @@
 #[cfg(test)]
 mod apart;
 #[cfg(test)]
+mod drawn;
+#[cfg(test)]
 mod gates;
 #[cfg(test)]
 mod heaps;
 #[cfg(test)]
+mod in_a_row;
+#[cfg(test)]
+mod refused;
+#[cfg(test)]
 mod runs;
 #[cfg(test)]
 mod sharing;
+#[cfg(test)]
+mod texts;

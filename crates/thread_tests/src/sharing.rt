@@ -100,7 +100,7 @@ fn handed<R: Threads + Wait + Sync + AllocGlobal>(
 fn left_by_one(alloc: Global) -> Result<Vec<u8>, Fail> {
     let (mut heap, large) = ring(alloc)?;
     let _report = collect_one(alloc, &mut heap, 0)?;
-    seen(alloc, &heap, large)
+    seen(alloc, alloc, &heap, &[large])
 }
 
 /// What two workers leave of it, of whom worker 0 alone has a slot; how many objects they won, and whether worker 1 took a block.
@@ -111,7 +111,7 @@ fn left_by_two<R: Threads + Wait + Sync + AllocGlobal>(
 ) -> Result<(Vec<u8>, (u64, bool)), Fail> {
     let (mut heap, large) = ring(rt.alloc())?;
     let found = handed(rt, &mut heap, kind, gate)?;
-    Ok((seen(rt.alloc(), &heap, large)?, found))
+    Ok((seen(rt.alloc(), rt.alloc(), &heap, &[large])?, found))
 }
 
 /// Whether worker 1 took a block of worker 0, and all is as one worker leaves it.
