@@ -36,7 +36,11 @@ fn printed<R: Threads + Wait + Sync + AllocGlobal>(
 fn meet<R: Threads + Wait + Sync + AllocGlobal>(rt: &R, kind: CellKind) -> Result<bool, Fail> {
     let gate = Meeting::new();
     let text = printed(rt, kind, &gate)?;
-    Ok(gate.met() && gate.races() == 2 && text.as_slice() == b"collected 0: 2 kept, 0 freed\n")
+    Ok(
+        gate.met()
+            && gate.races() == 2
+            && text.as_slice() == b"collected 0: 2 kept, 0 freed\n".as_slice(),
+    )
 }
 
 #[test]
