@@ -2,7 +2,7 @@
 use crate::heaps::{old_heap, seen, wide_heap};
 use collector::{CellKind, ThreadsError, collect, collect_one};
 use forwarding::OpenGate;
-use heap::Heap;
+use heap::{Heap, RootId};
 use std::alloc::{AllocGlobal, Global};
 use std::process::Abort;
 use std::sync::Wait;
@@ -16,10 +16,19 @@ struct Left {
     text: Vec<u8>,
 }
 
-/// One worker collects. How many objects it kept and freed.
-fn alone(alloc: Global, heap: &mut Heap) -> Result<(u64, u64), Fail> {
+/// What one worker leaves of a heap.
+fn left_alone(alloc: Global, heap: &mut Heap, top: RootId) -> Result<Left, Fail> {
     let report = collect_one(alloc, heap, 0)?;
-    Ok((report.kept, report.freed))
+    Ok(Left {
+        counts: Some((report.kept, report.freed)),
+        text: seen(alloc, alloc, heap, &[top])?,
+    })
+}
+
+/// What one worker leaves of a wide heap.
+fn left_by_one(alloc: Global, objects: u32) -> Result<Left, Fail> {
+    let (mut heap, top) = wide_heap(alloc, objects, 200)?;
+    left_alone(alloc, &mut heap, top)
 }
 
 /// So many threads collect. How many objects they kept and freed.
@@ -36,18 +45,20 @@ fn together<R: Threads + Wait + Sync + AllocGlobal>(
     }
 }
 
-/// What one worker leaves of such a heap.
-fn left_by_one(alloc: Global, objects: u32) -> Result<Left, Fail> {
-    let (mut heap, top) = wide_heap(alloc, objects, 200)?;
-    let counts = alone(alloc, &mut heap)?;
-    let text = seen(alloc, alloc, &heap, &[top])?;
-    Ok(Left {
-        counts: Some(counts),
-        text,
-    })
+/// What so many threads leave of a heap.
+fn left_together<R: Threads + Wait + Sync + AllocGlobal>(
+    rt: &R,
+    heap: &mut Heap,
+    top: RootId,
+    n: u32,
+    kind: CellKind,
+) -> Result<Left, Fail> {
+    let counts = together(rt, heap, n, kind)?;
+    let text = seen(rt.alloc(), rt.alloc(), heap, &[top])?;
+    Ok(Left { counts, text })
 }
 
-/// What so many threads leave of it, with so many blocks to spare.
+/// What so many threads leave of a wide heap with so many blocks to spare.
 fn left_by_threads<R: Threads + Wait + Sync + AllocGlobal>(
     rt: &R,
     objects: u32,
@@ -56,16 +67,19 @@ fn left_by_threads<R: Threads + Wait + Sync + AllocGlobal>(
     kind: CellKind,
 ) -> Result<Left, Fail> {
     let (mut heap, top) = wide_heap(rt.alloc(), objects, spare)?;
-    let counts = together(rt, &mut heap, n, kind)?;
-    let text = seen(rt.alloc(), rt.alloc(), &heap, &[top])?;
-    Ok(Left { counts, text })
+    left_together(rt, &mut heap, top, n, kind)
 }
 
-/// What such a heap is before it is collected.
+/// What a heap is that is not collected.
+fn left_so(alloc: Global, heap: &Heap, top: RootId) -> Result<Left, Fail> {
+    let text = seen(alloc, alloc, heap, &[top])?;
+    Ok(Left { counts: None, text })
+}
+
+/// What a wide heap is before it is collected.
 fn left_by_none(alloc: Global, objects: u32, spare: u64) -> Result<Left, Fail> {
     let (heap, top) = wide_heap(alloc, objects, spare)?;
-    let text = seen(alloc, alloc, &heap, &[top])?;
-    Ok(Left { counts: None, text })
+    left_so(alloc, &heap, top)
 }
 
 /// Asserts that so many threads leave what one worker leaves, with both kinds of cells.
@@ -140,17 +154,28 @@ fn answer_in<R: Threads + Wait + Sync + AllocGlobal>(
     .err()
 }
 
-/// What a collection of a heap of two generations answers, and whether the heap is as before.
+/// What a collection answers, and whether the heap is as before.
+fn answer_and_rest<R: Threads + Wait + Sync + AllocGlobal>(
+    rt: &R,
+    heap: &mut Heap,
+    top: RootId,
+    generation: u64,
+    n: u32,
+) -> Result<(Option<ThreadsError>, bool), Fail> {
+    let before = seen(rt.alloc(), rt.alloc(), heap, &[top])?;
+    let answer = answer_in(rt, heap, generation, n);
+    let after = seen(rt.alloc(), rt.alloc(), heap, &[top])?;
+    Ok((answer, after == before))
+}
+
+/// The same, of a heap of two generations.
 fn answer<R: Threads + Wait + Sync + AllocGlobal>(
     rt: &R,
     generation: u64,
     n: u32,
 ) -> Result<(Option<ThreadsError>, bool), Fail> {
     let (mut heap, top) = old_heap(rt.alloc())?;
-    let before = seen(rt.alloc(), rt.alloc(), &heap, &[top])?;
-    let answer = answer_in(rt, &mut heap, generation, n);
-    let after = seen(rt.alloc(), rt.alloc(), &heap, &[top])?;
-    Ok((answer, after == before))
+    answer_and_rest(rt, &mut heap, top, generation, n)
 }
 
 #[test]

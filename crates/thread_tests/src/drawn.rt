@@ -193,9 +193,10 @@ fn go_on<R: Threads + Wait + Sync + AllocGlobal>(
     Ok(())
 }
 
-/// What is seen of the heap of a drawing, whose collections these workers carry out.
-pub(crate) fn told_of<R: Threads + Wait + Sync + AllocGlobal>(
+/// What is seen of a graph that is empty at first, whose collections these workers carry out.
+fn told_in<R: Threads + Wait + Sync + AllocGlobal>(
     rt: &R,
+    graph: &mut Graph,
     drawing: Drawing,
     workers: Workers,
 ) -> Result<Told, Fail> {
@@ -204,15 +205,22 @@ pub(crate) fn told_of<R: Threads + Wait + Sync + AllocGlobal>(
         text: Vec::new(rt.alloc()),
         remembered: 0,
     };
+    let mut draws = Draws::new(drawing.seed);
+    for number in 0..drawing.collections {
+        go_on(rt, graph, &mut draws, drawing, number, workers, &mut told)?;
+    }
+    Ok(told)
+}
+
+/// What is seen of the heap of a drawing.
+pub(crate) fn told_of<R: Threads + Wait + Sync + AllocGlobal>(
+    rt: &R,
+    drawing: Drawing,
+    workers: Workers,
+) -> Result<Told, Fail> {
     let mut graph = Graph {
         heap: heap_of(rt.alloc(), sizes_of(drawing))?,
         roots: Vec::new(rt.alloc()),
     };
-    let mut draws = Draws::new(drawing.seed);
-    for number in 0..drawing.collections {
-        go_on(
-            rt, &mut graph, &mut draws, drawing, number, workers, &mut told,
-        )?;
-    }
-    Ok(told)
+    told_in(rt, &mut graph, drawing, workers)
 }
