@@ -38,10 +38,16 @@ fn wanted_by_one(alloc: Global) -> Result<Wanted, Fail> {
     wanted_of(alloc, &mut heap, top)
 }
 
+/// Makes the heap, and drops it.
+fn make(refusing: &Refusing<Global>) -> Result<(), Fail> {
+    let _heap = old_heap(refusing)?;
+    Ok(())
+}
+
 /// How many requests the making of the heap takes.
 fn requests_of_making(alloc: Global) -> Result<u64, Fail> {
     let refusing = Refusing::new(alloc, MANY);
-    let _heap = old_heap(&refusing)?;
+    make(&refusing)?;
     Ok(refusing.asked())
 }
 
@@ -186,7 +192,7 @@ fn refuse_each<R: Threads + Wait + Sync + AllocGlobal + Abort>(
     for refused in requests_of_making(rt.alloc())?..MANY {
         let answer = answered(rt, Trial { refused, kind }, &wanted)?;
         if !answer.was_refused {
-            // Each of two workers makes requests for a copy's block and for lists of slots, of copies and of what it scanned.
+            // Each of two workers makes some for its pass, its draws, its queue and its lists.
             assert!(rt; refusals >= 8);
             return Ok(());
         }

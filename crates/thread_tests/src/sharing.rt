@@ -61,16 +61,22 @@ fn add_spoke(heap: &mut Heap, large: RootId, field: u64) -> Result<(), Fail> {
 }
 
 /// A large object with 13 fields, each of which leads to an object that leads back.
+fn add_ring(heap: &mut Heap) -> Result<RootId, Fail> {
+    let large = heap.allocate(0, 13, 0)?;
+    for field in 0..13 {
+        add_spoke(heap, large, field)?;
+    }
+    Ok(large)
+}
+
+/// A heap with such a ring, and the root of its large object.
 fn ring(alloc: Global) -> Result<(Heap, RootId), Fail> {
     let sizes = Sizes {
         block_words: 16,
         ..Sizes::default()
     };
     let mut heap = heap_of(alloc, sizes)?;
-    let large = heap.allocate(0, 13, 0)?;
-    for field in 0..13 {
-        add_spoke(&mut heap, large, field)?;
-    }
+    let large = add_ring(&mut heap)?;
     Ok((heap, large))
 }
 
@@ -103,15 +109,27 @@ fn left_by_one(alloc: Global) -> Result<Vec<u8>, Fail> {
     seen(alloc, alloc, &heap, &[large])
 }
 
-/// What two workers leave of it, of whom worker 0 alone has a slot; how many objects they won, and whether worker 1 took a block.
+/// What two workers leave of a ring, of whom worker 0 alone has a slot; how many objects they won, and whether worker 1 took a
+/// block.
+fn left_in_two<R: Threads + Wait + Sync + AllocGlobal>(
+    rt: &R,
+    heap: &mut Heap,
+    large: RootId,
+    kind: CellKind,
+    gate: &Handover,
+) -> Result<(Vec<u8>, (u64, bool)), Fail> {
+    let found = handed(rt, heap, kind, gate)?;
+    Ok((seen(rt.alloc(), rt.alloc(), heap, &[large])?, found))
+}
+
+/// The same, of a heap of its own.
 fn left_by_two<R: Threads + Wait + Sync + AllocGlobal>(
     rt: &R,
     kind: CellKind,
     gate: &Handover,
 ) -> Result<(Vec<u8>, (u64, bool)), Fail> {
     let (mut heap, large) = ring(rt.alloc())?;
-    let found = handed(rt, &mut heap, kind, gate)?;
-    Ok((seen(rt.alloc(), rt.alloc(), &heap, &[large])?, found))
+    left_in_two(rt, &mut heap, large, kind, gate)
 }
 
 /// Whether worker 1 took a block of worker 0, and all is as one worker leaves it.
