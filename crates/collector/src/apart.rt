@@ -11,7 +11,7 @@ ghost use Rattle.workers_in_threads.specs.Reports.{CollectsApart, ReportsApart, 
 
 use crate::{CollectError, collect_one};
 use forwarding::{BoxCells, Forwards, Gate, SettleError, SharedCells, WordCells};
-use heap::{Collection, Heap, OpenError, Report, Settled};
+use heap::{Collection, Heap, OpenError, Report, Settled, Spare};
 use scavenge::LookError;
 use std::alloc::{AllocError, AllocGlobal, Allocator};
 use std::sync::Wait;
@@ -84,7 +84,7 @@ fn ended<R: Wait, S: SharedCells, A: Allocator + Clone>(
     requires some { 0 < length seats.workspaces.items }
     requires few { length seats.workspaces.items ≤ 16 }
     requires settled { WereSettled S.is_pass S.known S.won heap.now collection (length seats.workspaces.items) Outcome.Ended seats.claims seats.queues seats.draws.items seats.seats.items seats.workspaces.items settled }
-    ensures settled { IfOk result (λ s. IsSettled heap.now s.collection s.places.items s.blocks.items (all_won s.workers.items)) }
+    ensures settled { IfOk result (λ s. IsSettled heap.now s.collection s.places s.blocks.items (all_won s.workers.items)) }
     ensures collection { IfOk result (λ s. s.collection ≡ collection) }
     ensures once { IfOk result (λ s. ScansOnce heap.now collection.generation s.workers.items) }
     ensures apart { IfOk result (λ s. ReportsApart heap.now collection.generation (length seats.workspaces.items) s.workers.items s.deliveries.items) }
@@ -93,8 +93,7 @@ fn ended<R: Wait, S: SharedCells, A: Allocator + Clone>(
 {
     match settled {
         Ok(forwards) => {
-            let places = forwards.into_places();
-            let brought = gathered::<R, S, A>(rt, alloc, heap, collection, seats, places)?;
+            let brought = gathered::<R, S, A>(rt, alloc, heap, collection, seats, forwards)?;
             Ok(brought)
         }
         Err(SettleError::Unsettled) => Err(ThreadsError::Unsettled),
@@ -150,7 +149,7 @@ fn concluded<R: Wait, S: SharedCells, A: Allocator + Clone>(
     requires some { 0 < length seats.workspaces.items }
     requires few { length seats.workspaces.items ≤ 16 }
     requires settled { WereSettled S.is_pass S.known S.won heap.now collection (length seats.workspaces.items) ending seats.claims seats.queues seats.draws.items seats.seats.items seats.workspaces.items settled }
-    ensures settled { IfOk result (λ o. IfSome o (λ s. IsSettled heap.now s.collection s.places.items s.blocks.items (all_won s.workers.items))) }
+    ensures settled { IfOk result (λ o. IfSome o (λ s. IsSettled heap.now s.collection s.places s.blocks.items (all_won s.workers.items))) }
     ensures collection { IfOk result (λ o. IfSome o (λ s. s.collection ≡ collection)) }
     ensures once { IfOk result (λ o. IfSome o (λ s. ScansOnce heap.now collection.generation s.workers.items)) }
     ensures apart { IfOk result (λ o. IfSome o (λ s. ReportsApart heap.now collection.generation (length seats.workspaces.items) s.workers.items s.deliveries.items)) }
@@ -183,11 +182,12 @@ fn with_words<
     collection: Collection<A>,
     n: u32,
     gate: &G,
+    mut spare: Spare<A>,
 ) -> Result<Option<Settled<A>>, ThreadsError>
     requires ready { IsReadyToCollect heap.now collection }
     requires some { 0 < n }
     requires few { n ≤ 16 }
-    ensures settled { IfOk result (λ o. IfSome o (λ s. IsSettled heap.now s.collection s.places.items s.blocks.items (all_won s.workers.items))) }
+    ensures settled { IfOk result (λ o. IfSome o (λ s. IsSettled heap.now s.collection s.places s.blocks.items (all_won s.workers.items))) }
     ensures collection { IfOk result (λ o. IfSome o (λ s. s.collection ≡ collection)) }
     ensures once { IfOk result (λ o. IfSome o (λ s. ScansOnce heap.now collection.generation s.workers.items)) }
     ensures apart { IfOk result (λ o. IfSome o (λ s. ReportsApart heap.now collection.generation n s.workers.items s.deliveries.items)) }
@@ -195,13 +195,23 @@ fn with_words<
     ensures never_unsettled { result ≢ Err ThreadsError.Unsettled }
     ensures others { (result ≢ Err ThreadsError.NoGeneration) × (result ≢ Err ThreadsError.BadConfig) }
 {
-    let (cells, passes) = WordCells::new(alloc.clone()?, collection.cells(), n as usize)?;
+    let words = spare.words(alloc.clone()?);
+    let (cells, passes) = WordCells::within(alloc.clone()?, words, collection.cells(), n as usize)?;
     let Apart {
         ending,
         passes,
         seats,
-    } = scavenged_apart(rt, alloc.clone()?, heap, &collection, &cells, passes, gate)?;
-    let settled = cells.settle(alloc.clone()?, passes);
+    } = scavenged_apart(
+        rt,
+        alloc.clone()?,
+        heap,
+        &collection,
+        &cells,
+        passes,
+        gate,
+        spare,
+    )?;
+    let settled = cells.settle(passes);
     concluded::<R, WordCells<A>, A>(rt, alloc, heap, collection, ending, settled, seats)
 }
 
@@ -217,11 +227,12 @@ fn with_boxes<
     collection: Collection<A>,
     n: u32,
     gate: &G,
+    spare: Spare<A>,
 ) -> Result<Option<Settled<A>>, ThreadsError>
     requires ready { IsReadyToCollect heap.now collection }
     requires some { 0 < n }
     requires few { n ≤ 16 }
-    ensures settled { IfOk result (λ o. IfSome o (λ s. IsSettled heap.now s.collection s.places.items s.blocks.items (all_won s.workers.items))) }
+    ensures settled { IfOk result (λ o. IfSome o (λ s. IsSettled heap.now s.collection s.places s.blocks.items (all_won s.workers.items))) }
     ensures collection { IfOk result (λ o. IfSome o (λ s. s.collection ≡ collection)) }
     ensures once { IfOk result (λ o. IfSome o (λ s. ScansOnce heap.now collection.generation s.workers.items)) }
     ensures apart { IfOk result (λ o. IfSome o (λ s. ReportsApart heap.now collection.generation n s.workers.items s.deliveries.items)) }
@@ -234,7 +245,16 @@ fn with_boxes<
         ending,
         passes,
         seats,
-    } = scavenged_apart(rt, alloc.clone()?, heap, &collection, &cells, passes, gate)?;
+    } = scavenged_apart(
+        rt,
+        alloc.clone()?,
+        heap,
+        &collection,
+        &cells,
+        passes,
+        gate,
+        spare,
+    )?;
     let settled = cells.settle(alloc.clone()?, passes);
     concluded::<R, BoxCells, A>(rt, alloc, heap, collection, ending, settled, seats)
 }
@@ -252,11 +272,12 @@ fn scavenged_by<
     n: u32,
     kind: CellKind,
     gate: &G,
+    spare: Spare<A>,
 ) -> Result<Option<Settled<A>>, ThreadsError>
     requires ready { IsReadyToCollect heap.now collection }
     requires some { 0 < n }
     requires few { n ≤ 16 }
-    ensures settled { IfOk result (λ o. IfSome o (λ s. IsSettled heap.now s.collection s.places.items s.blocks.items (all_won s.workers.items))) }
+    ensures settled { IfOk result (λ o. IfSome o (λ s. IsSettled heap.now s.collection s.places s.blocks.items (all_won s.workers.items))) }
     ensures collection { IfOk result (λ o. IfSome o (λ s. s.collection ≡ collection)) }
     ensures once { IfOk result (λ o. IfSome o (λ s. ScansOnce heap.now collection.generation s.workers.items)) }
     ensures apart { IfOk result (λ o. IfSome o (λ s. ReportsApart heap.now collection.generation n s.workers.items s.deliveries.items)) }
@@ -265,8 +286,8 @@ fn scavenged_by<
     ensures others { (result ≢ Err ThreadsError.NoGeneration) × (result ≢ Err ThreadsError.BadConfig) }
 {
     match kind {
-        CellKind::Box => with_boxes(rt, alloc, heap, collection, n, gate),
-        CellKind::Word => with_words(rt, alloc, heap, collection, n, gate),
+        CellKind::Box => with_boxes(rt, alloc, heap, collection, n, gate, spare),
+        CellKind::Word => with_words(rt, alloc, heap, collection, n, gate, spare),
     }
 }
 
@@ -299,8 +320,9 @@ pub fn collect<
     if generation >= heap.config().generations() as u64 {
         return Err(ThreadsError::NoGeneration);
     }
+    let spare = heap.take_spare();
     let collection = heap.open_collection(alloc.clone()?, generation)?;
-    let brought = scavenged_by(rt, alloc.clone()?, heap, collection, n, kind, gate)?;
+    let brought = scavenged_by(rt, alloc.clone()?, heap, collection, n, kind, gate, spare)?;
     let Some(settled) = brought else {
         return match collect_one(alloc, heap, generation) {
             Ok(report) => Ok(report),

@@ -14,7 +14,7 @@ mod serial_settling;
 pub use crate::apart::{CellKind, ThreadsError, collect};
 pub use crate::crew::Crew;
 use crate::serial_settling::settle;
-use heap::{Collection, Heap, OpenError, Report, Settled};
+use heap::{Collection, Heap, OpenError, Report, Settled, Spare};
 use one_worker::{SerialCollection, run_to_end};
 use scavenge::LookError;
 use std::alloc::{AllocError, Allocator};
@@ -62,17 +62,19 @@ fn scavenged<A: Allocator + Clone>(
     alloc: A,
     heap: &Heap<A>,
     collection: Collection<A>,
+    spare: Spare<A>,
 ) -> Result<Settled<A>, CollectError>
     requires { IsReadyToCollect heap.now collection }
     ensures collection { IfOk result (λ s. s.collection ≡ collection) }
-    ensures settled { IfOk result (λ s. IsSettled heap.now s.collection s.places.items s.blocks.items (all_won s.workers.items)) }
+    ensures settled { IfOk result (λ s. IsSettled heap.now s.collection s.places s.blocks.items (all_won s.workers.items)) }
     ensures scanned { IfOk result (λ s. ScansAlone heap.now collection.generation s.workers.items s.deliveries.items) }
     ensures once { IfOk result (λ s. ScansOnce heap.now collection.generation s.workers.items) }
     ensures full { result ≡ Err CollectError.HeapFull → IsShortOfBlocks heap.now collection.generation }
     ensures opened { result ≢ Err CollectError.NoGeneration }
 {
-    let mut serial = SerialCollection::new(alloc.clone()?, heap, &collection)?;
-    match run_to_end(alloc.clone()?, heap, &collection, &mut serial) {
+    let serial = SerialCollection::new(alloc.clone()?, heap, &collection, spare)?;
+    let (serial, ended) = run_to_end(alloc.clone()?, heap, &collection, serial);
+    match ended {
         Ok(()) => Ok(settle(alloc, collection, serial)?),
         Err(LookError::NoMemory) => Err(CollectError::NoMemory),
         Err(LookError::HeapFull) => {
@@ -96,7 +98,8 @@ pub fn collect_one<A: Allocator + Clone>(
     if generation >= heap.config().generations() as u64 {
         return Err(CollectError::NoGeneration);
     }
+    let spare = heap.take_spare();
     let collection = heap.open_collection(alloc.clone()?, generation)?;
-    let settled = scavenged(alloc.clone()?, heap, collection)?;
+    let settled = scavenged(alloc.clone()?, heap, collection, spare)?;
     Ok(heap.commit(alloc, settled)?)
 }

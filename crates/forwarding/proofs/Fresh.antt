@@ -1,10 +1,16 @@
 -- New passes are numbered, and have won nothing.
-use Rattle.std.proofs.Common.{◌≡◌, ℕ, zero, suc, ◌+◌, List, [], ◌∷◌, All, map, length, Some, Result, Ok, Err, refl, sym, ap, subst, ◌∙◌, arith}
+use Rattle.std.proofs.Common.{◌≡◌, ℕ, zero, suc, ◌+◌, ◌-◌, List, [], ◌++◌, All, map, take, replicate, get_or, length, Some, Result, Ok, Err, refl, sym, ap, subst, ◌∙◌, arith}
 use Rattle.std.specs.Prelude.{slice_get, IfOk}
 use Rattle.std.specs.List.{range_with_len}
 use Rattle.std.proofs.lemmas.List.Elements.{All-nil, All-cons}
-use Rattle.forwarding.specs.Noted.{NotedValue, IsPassOf, new_pass, new_passes}
+use Rattle.forwarding.specs.Noted.{NotedValue, new_pass, new_passes}
 use Rattle.forwarding.specs.Passes.{AtEach, IsBoxPass}
+use Rattle.atomic_table.specs.Table.{opening}
+use Rattle.std.proofs.lemmas.List.{length-replicate}
+use Rattle.forwarding.specs.declared.word_cells.plays.Plan.{Plan}
+use Rattle.forwarding.specs.Kept.{mind, IsKeptWords}
+use Rattle.forwarding.proofs.Gathered.{zeros}
+use Rattle.forwarding.proofs.Keeps.{opens}
 
 from : (cells : List ℕ) (a n i : ℕ) (p : NotedValue) → slice_get (map (new_pass cells) (range_with_len a n)) i ≡ Some p → IsBoxPass cells (a + i) p
 from cells a zero i p e = absurd (cc)
@@ -30,3 +36,15 @@ unused cells n ps e = subst (All (λ (p : NotedValue). p.won ≡ [])) (sym e) (n
 pub on_ok : {X E : Type 0} (P Q : X → Type 0) → ((x : X) → P x → Q x) → (r : Result X E) → IfOk r P → IfOk r Q
 on_ok P Q f (Ok x) h = f x h
 on_ok P Q f (Err e) h = tt
+
+take-nil : (n : ℕ) (ys : List ℕ) → take n [] ++ ys ≡ ys
+take-nil zero ys = refl
+take-nil (suc n) ys = refl
+
+-- the list is emptied, and filled with zeros again
+pub filled : (n len : ℕ) (emptied new : List ℕ) → emptied ≡ [] → len ≡ 0 → new ≡ take n emptied ++ replicate (n - len) 0 → new ≡ replicate n 0
+filled n len emptied new e l is = is ∙ (ap (λ (xs : List ℕ). take n xs ++ replicate (n - len) 0) e ∙ (take-nil n (replicate (n - len) 0) ∙ ap (λ (k : ℕ). replicate k 0) (omega (arith, l))))
+
+-- words of zeros hold no place
+pub opens_zero : (plan : Plan) (words : List ℕ) → words ≡ replicate (plan.count + 1) 0 → IsKeptWords plan (opening words [] (mind plan.passes [] []))
+opens_zero plan words e = opens plan words (ap length e ∙ length-replicate (plan.count + 1) 0) (λ name. ap (λ (ws : List ℕ). get_or ws name 0) e ∙ zeros (plan.count + 1) name)

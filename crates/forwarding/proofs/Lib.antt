@@ -5,6 +5,8 @@ pub mod PairLemmas
 pub mod Few
 pub mod Wins
 pub mod Agreeing
+-- Words that settling answers with show the places that they are the words of.
+pub mod ShownPlace
 -- Plain cells keep what they are, and settle.
 pub mod PlainKeeps
 pub mod PlainStart

@@ -1,25 +1,21 @@
 -- What plain cells answer in the end.
 use Rattle.std.proofs.Common.{◌≡◌, ℕ, zero, suc, ◌+◌, ◌<◌, List, [], ◌∷◌, All, length, map, get_or, Some, None, refl, sym, ap, ◌∙◌, subst, arith}
-use Rattle.std.specs.Prelude.{Option, Result, Ok, Err, IfOk, OnOk, slice_index_or}
+use Rattle.std.specs.Prelude.{Option, slice_index_or}
 use Rattle.std.specs.List.{AllPairs}
 use Rattle.std.proofs.lemmas.List.{get_or_past}
 use Rattle.std.proofs.lemmas.List.Elements.{All-nil, All-cons, All-head, All-tail, All-append, All-weaker, All-get_or}
 use mathlib.Core.Logic.{dite}
 use native.Mathlib.Decide.{dec_le}
 use Rattle.layout.specs.declared.place.Place.{Place}
-use Rattle.layout.specs.Place.{pointer_word}
 use Rattle.forwarding.specs.declared.plain_cells.held.Held.{Held}
 use Rattle.forwarding.specs.Settled.{Pairs, wins_of, ones, all_pairs, KnowsOnly, Agree, IsSettled}
 use Rattle.model.specs.Total.{times}
 use Rattle.forwarding.specs.Plain.{PlainValue, PlainPassValue, known_by, place_of, by_of, IsWinOf, IsFit, Differ, IsWonBelow, word_of, ArePlainCells}
+use Rattle.forwarding.specs.Forwards.{shown_place}
 use Rattle.forwarding.proofs.Agreeing.{agrees}
+use Rattle.forwarding.proofs.ShownPlace.{shown_each}
 use Rattle.forwarding.proofs.Few.{once_each}
 use Rattle.forwarding.proofs.PairLemmas.{wins_of-append}
-
--- the words are those of the places that the cells hold
-pub words_of_places : (held : List (Option Held)) → map pointer_word (map place_of held) ≡ map word_of held
-words_of_places [] = refl
-words_of_places (x ∷ xs) = ap (λ (ws : List ℕ). word_of x ∷ ws) (words_of_places xs)
 
 -- the places that the cells hold
 abbrev places : List (Option Held) → ℕ → Option Place
@@ -87,19 +83,15 @@ module _ (cells : PlainValue) (ps : List PlainPassValue) (words : List ℕ) (are
     none_past = λ name high. places-at cells.held name ∙ ap place_of (get_or_past cells.held name None high);
   }
 
-  pub settles_if : {E : Type 0} (r : Result (List (Option Place)) E) → IfOk r (λ f. f ≡ map place_of cells.held) → IfOk r (λ f. IsSettled known_by won_of ps (length cells.held) (λ name. slice_index_or f name None))
-  settles_if (Ok f) is = subst (λ (g : List (Option Place)). IsSettled known_by won_of ps (length cells.held) (λ name. slice_index_or g name None)) (sym is) plain_settles
-  settles_if (Err x) is = tt
+  pub settles_as : (f : List (Option Place)) → f ≡ map place_of cells.held → IsSettled known_by won_of ps (length cells.held) (λ name. slice_index_or f name None)
+  settles_as f is = subst (λ (g : List (Option Place)). IsSettled known_by won_of ps (length cells.held) (λ name. slice_index_or g name None)) (sym is) plain_settles
 
-  pub agrees_if : {E : Type 0} (r : Result (List (Option Place)) E) → OnOk r (Agree known_by ps)
-  agrees_if (Ok f) = agrees known_by (places cells.held) ps plain_settles.known_settled
-  agrees_if (Err x) = tt
+  pub they_agree : Agree known_by ps
+  they_agree = agrees known_by (places cells.held) ps plain_settles.known_settled
 
--- the only answer that has these words
-pub exact_if : {E : Type 0} (held : List (Option Held)) (words : List ℕ) (r : Result (List (Option Place)) E) → map pointer_word (map place_of held) ≡ words
-    → IfOk r (λ f. (pointers : List (Option Place)) → map pointer_word pointers ≡ words → f ≡ pointers) → IfOk r (λ f. f ≡ map place_of held)
-exact_if held words (Ok f) shown is = is (map place_of held) shown
-exact_if held words (Err x) shown is = tt
+-- the words show what the cells hold
+pub exact_as : (held : List (Option Held)) (words : List ℕ) → words ≡ map word_of held → map shown_place words ≡ map place_of held
+exact_as held words shown = shown_each place_of held words shown
 
 -- a pass alone is all of them
 pub fits_alone : (cells : PlainValue) (p : PlainPassValue) → IsFit cells p → All (IsFit cells) (p ∷ [])

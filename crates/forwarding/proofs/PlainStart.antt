@@ -1,9 +1,8 @@
 -- Plain cells and passes as they are made.
-use Rattle.std.proofs.Common.{◌≡◌, ℕ, zero, suc, List, map, take, ◌+◌, ◌/◌, ◌≢◌, Some, ◌<◌, ◌≤◌, ◌^◌, [], ◌∷◌, ◌++◌, All, length, get_or, None, replicate, refl, sym, ap, ◌∙◌, subst, arith}
+use Rattle.std.proofs.Common.{◌≡◌, ℕ, zero, suc, List, map, ◌+◌, ◌/◌, ◌≢◌, Some, ◌<◌, ◌≤◌, ◌^◌, [], ◌∷◌, ◌++◌, All, length, get_or, None, replicate, refl, sym, ap, ◌∙◌, subst, arith}
 use Rattle.std.specs.Prelude.{Option}
 use Rattle.std.specs.List.{AllPairs}
-use Rattle.std.proofs.Math.ListN.{get_or-map}
-use Rattle.std.proofs.lemmas.List.{length-replicate, length-map, get_or-replicate, get_or_past, take_more}
+use Rattle.std.proofs.lemmas.List.{length-replicate, get_or-replicate, get_or_past}
 use Rattle.std.proofs.lemmas.List.Elements.{All-nil, All-replicate}
 use Rattle.std.proofs.lemmas.List.FromFn.{length-map-range_with_len, get_or-map-range_with_len, map-range_with_len_more}
 use mathlib.Core.Logic.{dite}
@@ -12,7 +11,7 @@ use Rattle.layout.specs.declared.place.Place.{Place}
 use Rattle.layout.specs.declared.place.Place.TheVariants.{Small, Large}
 use Rattle.layout.specs.Place.{pointer_word}
 use Rattle.forwarding.specs.declared.plain_cells.held.Held.{Held}
-use Rattle.forwarding.specs.Plain.{PlainPassValue, by_of, IsWinOf, IsFit, Differ, empty_cells, fresh_pass, fresh_passes, IsWonBelow, word_of, IsPointer, ArePlainCells}
+use Rattle.forwarding.specs.Plain.{PlainPassValue, by_of, IsWinOf, IsFit, Differ, empty_cells, fresh_pass, fresh_passes, IsWonBelow, word_of, ArePlainCells}
 
 pub length-fresh_passes : (count n many : ℕ) → length (fresh_passes count n many) ≡ many
 length-fresh_passes count n many = length-map-range_with_len (fresh_pass count n) 0 many
@@ -59,19 +58,6 @@ empty_are count n l = record {
   few = (let m = length-replicate {A = Option Held} count None in omega arith);
   winners = All-replicate (IsWonBelow n) count None tt;
 }
-
--- where the words are those of pointers, so is each one
-pub is_pointer : (words : List ℕ) (k : ℕ) → (pointers : List (Option Place)) × (map pointer_word pointers ≡ words) → IsPointer (get_or words k 0)
-is_pointer words k shown = (get_or shown.0 k None, sym (get_or-map pointer_word shown.0 k None) ∙ ap (λ (ws : List ℕ). get_or ws k 0) shown.1)
-
--- one more place is read
-pub one_more_place : (words : List ℕ) (pointers places : List (Option Place)) (k : ℕ) (place : Option Place) → map pointer_word pointers ≡ words → k < length words → places ≡ take k pointers
-    → ((o : Option Place) → pointer_word o ≡ get_or words k 0 → place ≡ o) → places ++ place ∷ [] ≡ take (k + 1) pointers
-one_more_place words pointers places k place shown below made is =
-    let many : length words ≡ length pointers = sym (ap length shown) ∙ length-map pointers pointer_word in
-    let l : k < length pointers = omega arith in
-    let this : place ≡ get_or pointers k None = is (get_or pointers k None) (sym (get_or-map pointer_word pointers k None) ∙ ap (λ (ws : List ℕ). get_or ws k 0) shown) in
-    ap (λ (ps : List (Option Place)). ps ++ place ∷ []) made ∙ (ap (λ (p : Option Place). take k pointers ++ p ∷ []) this ∙ sym (take_more pointers k None l))
 
 -- a word that is not 0, and below the first of a large object, has its block's number and one in its upper part
 pub has_block : (word : ℕ) (pointer : Option Place) → pointer_word pointer ≡ word → word ≢ 0 → word < 9223372036854775808 → 1 ≤ word / 65536

@@ -4,6 +4,8 @@
 pub mod Learned
 pub mod Settled
 pub mod Known
+-- The words that settling answers with.
+pub mod Forwards
 -- Plain cells as contracts see them.
 pub mod Plain
 pub mod Minds

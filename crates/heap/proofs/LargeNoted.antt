@@ -1,7 +1,7 @@
 -- Large objects that are noted where a collection takes them.
-use Rattle.std.proofs.Common.{◌≡◌, ℕ, ◌<◌, true, false, List, length, get_or, Option, Some, None, sym, ap, subst, ◌∙◌}
+use Rattle.std.proofs.Common.{◌≡◌, ℕ, true, false, List, get_or, Option, Some, None, sym, ap, subst, ◌∙◌}
 use Rattle.std.proofs.lemmas.Bool.{true≢false}
-use Rattle.std.specs.Prelude.{is_some}
+use Rattle.std.specs.Prelude.{is_some, slice_index_or}
 use Rattle.std.specs.Option.{option_map}
 use Rattle.std.specs.FinMap.{get}
 use Rattle.model.specs.Destination.{dest}
@@ -11,7 +11,6 @@ use Rattle.model.proofs.Options.{some_is, some_not_none}
 use Rattle.model.proofs.RisingKeys.{same_index, keys-filter_rise}
 use Rattle.layout.specs.declared.place.Place.{Place}
 use Rattle.layout.specs.Place.{large_word}
-use Rattle.nursery.proofs.TableSteps.{get_or_any}
 use Rattle.steps.specs.StepPairs.{stands_at}
 use Rattle.steps.specs.CollectionValue.{young_names}
 use Rattle.heap_objects.specs.Objects.{ObjectsValue, graph_in}
@@ -36,10 +35,10 @@ module _ (objects : ObjectsValue) (g : ℕ) (places : List (Option Place)) where
     noted_older not = λ o n there young numbered kept. absurd (not (record { object = o; there = there; young = young }))
 
     -- one that is gone
-    pub noted_gone : (m : ℕ) (place : Option Place) → IsNumbered objects g (large_word number) m → m < length places → place ≡ get_or places m place → is_some place ≡ false → IsLargeNoted sets objects g places number
-    noted_gone m place at lt is none = λ o n there young numbered kept.
+    pub noted_gone : (m : ℕ) (place : Option Place) → IsNumbered objects g (large_word number) m → place ≡ slice_index_or places m None → is_some place ≡ false → IsLargeNoted sets objects g places number
+    noted_gone m place at is none = λ o n there young numbered kept.
         let same : n ≡ m = same_index (young_names (graph_in objects) g) n m (keys-filter_rise objects.objects _) numbered.in_range at.in_range (numbered.is ∙ sym at.is) in
-        let here : get_or places n None ≡ place = ap (λ k. get_or places k None) same ∙ get_or_any places m None place lt ∙ sym is in
+        let here : get_or places n None ≡ place = ap (λ k. get_or places k None) same ∙ sym is in
         absurd (true≢false (sym kept ∙ ap is_some here ∙ none))
 
     -- one that is a member of the set of the generation that it goes to

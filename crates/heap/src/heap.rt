@@ -31,7 +31,7 @@ use layout::{ObjectRef, Place};
 use remembered_set::Remembered;
 use std::alloc::{AllocError, Allocator, Global};
 use std::marker::Model;
-use steps::{Census, Collection, Config, Report, RootId, Settled, StepId};
+use steps::{Census, Collection, Config, Report, RootId, Settled, Spare, StepId};
 use thiserror::Error;
 
 /// The most pointers, and the most plain words, that an object may have.
@@ -314,6 +314,19 @@ impl<A: Allocator + Clone> Heap<A> {
         self.objects.step_of(place)
     }
 
+    /// How many blocks' memory is kept for the next collection: at most as many as were in use after the last one. It counts
+    /// as neither free nor used.
+    pub fn spare_blocks(&self) -> usize {
+        self.objects.spare_blocks()
+    }
+
+    /// The memory that is kept for the next collection, for its workers.
+    pub fn take_spare(&mut self) -> Spare<A>
+        ensures { self.new ≡ self.old }
+    {
+        self.objects.take_spare()
+    }
+
     /// Opens a collection of the generations 0 to `generation`. The heap stays as it is.
     pub fn open_collection(&self, alloc: A, generation: u64) -> Result<Collection<A>, OpenError>
         ensures ok { IfOk result (λ collection. IsOpened self.now generation collection) }
@@ -377,7 +390,7 @@ impl<A: Allocator + Clone> Heap<A> {
 
     /// Ends a collection: the heap is what the workers brought back. Where memory runs out the heap is as before.
     pub fn commit(&mut self, alloc: A, settled: Settled<A>) -> Result<Report<A>, AllocError>
-        requires { IsSettled self.old settled.collection settled.places.items settled.blocks.items (all_won settled.workers.items) }
+        requires { IsSettled self.old settled.collection settled.places settled.blocks.items (all_won settled.workers.items) }
         ensures ok { IfOk result (λ _. CollectedHeap self.old settled.collection.generation
             (renaming_of (young_names self.old.graph settled.collection.generation) (all_won settled.workers.items)) self.new) }
         ensures kept { IfOk result (λ report. LiveCount self.old.graph settled.collection.generation report.kept) }

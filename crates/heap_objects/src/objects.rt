@@ -25,11 +25,12 @@ use crate::heap_space::Space;
 use crate::large::{count_large, large_numbers};
 use crate::renewing::renew;
 use block_pool::{Block, GrantError, RankedSet};
+use forwarding::Forwards;
 use large_objects::LargeTable;
 use layout::{LargeNumber, ObjectRef, Place, word_of};
 use std::alloc::{AllocError, Allocator, Global};
 use std::marker::Model;
-use steps::{Config, LargeCount, Numbering, Slot, StepCount, StepId};
+use steps::{Config, LargeCount, Numbering, Slot, Spare, StepCount, StepId};
 
 /// The objects of a heap. Small ones stand in blocks, one after the other. Each large one has blocks of its own, and never
 /// moves.
@@ -362,31 +363,46 @@ impl<A: Allocator + Clone> HeapObjects<A> {
         self.space.config()
     }
 
+    /// How many spare blocks it keeps for the next collection.
+    pub fn spare_blocks(&self) -> usize {
+        self.space.spare_blocks()
+    }
+
+    /// The memory that it keeps for the next collection.
+    pub fn take_spare(&mut self) -> Spare<A>
+        ensures { self.new ≡ self.old }
+    {
+        self.space.take_spare()
+    }
+
     /// Puts blocks in the place of all small objects of generation at most `generation`. The large ones of them that have a new place
-    /// go to their destinations, and the others are gone. Where memory runs out nothing changes.
+    /// go to their destinations, and the others are gone. Memory that isn't needed any more is kept with `spare` for the next
+    /// collection: that of as many blocks at most as are in use then. Where memory runs out nothing changes.
     pub fn replace(
         &mut self,
         alloc: A,
         generation: u8,
         blocks: Vec<Block<A>, A>,
         numbering: &Numbering<A>,
-        places: &[Option<Place>],
+        places: Forwards<A>,
+        spare: Spare<A>,
     ) -> Result<(), AllocError>
         requires blocks { CanReplace self.old blocks.items }
         requires numbering { IsNumbering (graph_in self.old) generation numbering.now }
-        requires count { length places.now ≡ length (young_names (graph_in self.old) generation) }
-        ensures ok { OnOk result (IsReplaced self.old generation blocks.items places.now self.new) }
+        requires count { length places ≡ length (young_names (graph_in self.old) generation) }
+        ensures ok { OnOk result (IsReplaced self.old generation blocks.items places self.new) }
         ensures err { OnErr result (self.new ≡ self.old) }
     {
-        self.space.replace(alloc, generation, blocks)?;
+        self.space.replace(alloc, generation, blocks, spare)?;
         let _free = self.space.free_count();
         renew(
             &mut self.space,
             &mut self.large,
             generation,
             numbering.large(),
-            places,
+            &places,
         );
+        self.space.keep_spare(places.into_words());
         Ok(())
     }
 }

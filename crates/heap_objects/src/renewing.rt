@@ -6,8 +6,9 @@ ghost use Rattle.heap_objects.specs.Inside.{AreApart};
 ghost use Rattle.heap_objects.specs.Renewing.{renewed, CoversNumbers};
 
 use crate::heap_space::Space;
+use forwarding::Forwards;
 use large_objects::LargeTable;
-use layout::{LargeNumber, Place};
+use layout::LargeNumber;
 use std::alloc::Allocator;
 use steps::StepId;
 
@@ -18,7 +19,7 @@ fn renew_one<A: Allocator + Clone>(
     large: &mut LargeTable<A>,
     g: u8,
     numbers: &[u32],
-    places: &[Option<Place>],
+    places: &Forwards<A>,
     number: LargeNumber,
 )
     requires apart { AreApart space.old large.old }
@@ -36,7 +37,7 @@ fn renew_one<A: Allocator + Clone>(
     if generation > g {
         return;
     }
-    match places[numbers[number.number as usize] as usize] {
+    match places.place(numbers[number.number as usize]) {
         Some(_) => {
             let at = space.config().dest(StepId { generation, step });
             large.relabel(number, at.generation, at.step);
@@ -56,7 +57,7 @@ pub(crate) fn renew<A: Allocator + Clone>(
     large: &mut LargeTable<A>,
     g: u8,
     numbers: &[u32],
-    places: &[Option<Place>],
+    places: &Forwards<A>,
 )
     requires apart { AreApart space.old large.old }
     requires numbers { CoversNumbers g large.old.slots numbers.now (length places.now) }

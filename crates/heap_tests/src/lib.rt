@@ -14,4 +14,6 @@ mod many_roots;
 #[cfg(test)]
 mod pointers;
 #[cfg(test)]
+mod spare;
+#[cfg(test)]
 mod texts;

@@ -168,6 +168,10 @@ stepped_or (Ok true) between new some none err h = some refl
 stepped_or (Ok false) between new some none err h = subst HasStepped (sym (none refl)) h
 stepped_or (Err e) between new some none err h = subst HasStepped (sym err) h
 
+pub went_or : (did : Bool) (between new : SerialValue) → (did ≡ true → HasStepped new) → (did ≡ false → new ≡ between) → HasStepped between → HasStepped new
+went_or true between new some none h = some refl
+went_or false between new some none h = subst HasStepped (sym (none refl)) h
+
 pub stepped_on : {E : Type 0} (r : Result Bool E) (between new : SerialValue) → (r ≡ Ok true → GoesOn between new) → (r ≡ Ok false → IsDone between × (new ≡ between)) → OnErr r (Stays between new) → HasStepped between → HasStepped new
 stepped_on (Ok true) between new some none err h = one_more between new h (some refl)
 stepped_on (Ok false) between new some none err h = subst HasStepped (sym (none refl).1) h

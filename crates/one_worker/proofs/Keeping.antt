@@ -52,3 +52,7 @@ pub either_or : {E : Type 0} (v : SerialValue) (r : Result Bool E) (new next : W
 either_or v (Ok true) new next k some none err f = f (some refl)
 either_or v (Ok false) new next k some none err f = subst (λ (w : WorkspaceValue). IsSerial (record v { workspace = w })) (sym (none refl)) k
 either_or v (Err e) new next k some none err f = subst (λ (w : WorkspaceValue). IsSerial (record v { workspace = w })) (sym err) k
+
+pub acted_or : (v : SerialValue) (did : Bool) (new next : WorkspaceValue) → IsSerial v → (did ≡ true → new ≡ next) → (did ≡ false → new ≡ v.workspace) → (new ≡ next → IsSerial (record v { workspace = new })) → IsSerial (record v { workspace = new })
+acted_or v true new next k some none f = f (some refl)
+acted_or v false new next k some none f = subst (λ (w : WorkspaceValue). IsSerial (record v { workspace = w })) (sym (none refl)) k

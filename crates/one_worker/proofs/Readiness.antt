@@ -1,5 +1,5 @@
 -- What the worker's calls may rely on.
-use Rattle.std.proofs.Common.{◌≡◌, ℕ, ◌-◌, ◌<◌, true}
+use Rattle.std.proofs.Common.{◌≡◌, ℕ, ◌<◌, true}
 use Rattle.workers.specs.Setting.{is_collected, destination_of}
 use Rattle.workers.specs.System.{opening_worker}
 use Rattle.workers.specs.Joined.{Roomy}

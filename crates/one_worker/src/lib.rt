@@ -9,6 +9,7 @@ mod racing;
 mod readers;
 mod serial;
 mod serial_steps;
+mod sweep;
 mod taking;
 
 pub use parts::SerialParts;

@@ -2,6 +2,7 @@
 ghost use Rattle.std.specs.Prelude.{◌≡◌, ◌≢◌, ◌↔◌, [], None, IsSome, IsTrue};
 ghost use Rattle.workers.specs.Worker.{Nothing};
 ghost use Rattle.workers.specs.Lawful.{lowest_open};
+ghost use Rattle.scavenge.specs.Swept.{is_holding};
 
 use crate::serial::SerialCollection;
 use std::alloc::Allocator;
@@ -19,6 +20,14 @@ impl<A: Allocator> SerialCollection<A> {
         ensures { IsTrue result ↔ (self.now.workspace.worker.hand ≢ Nothing) }
     {
         self.workspace.has_hand()
+    }
+
+    /// Whether a block is held in hand that was retired or taken.
+    #[inline(always)]
+    pub fn holds_block(&self) -> bool
+        ensures { result ≡ is_holding self.now.workspace.worker.hand }
+    {
+        self.workspace.holds_block()
     }
 
     /// Whether something is aside.

@@ -6,7 +6,7 @@ use Rattle.model.specs.Destination.{Shape}
 use Rattle.layout.specs.Object.{Raw, raw_size}
 use Rattle.block_pool.specs.BlockValue.{BlockValue}
 use Rattle.steps.specs.Words.{target_of_word}
-use Rattle.workers.specs.Block.{Block, Copy, front_copy}
+use Rattle.workers.specs.Block.{Copy, front_copy}
 use Rattle.workers.specs.Worker.{Hand, Open, Holding}
 use Rattle.workers.specs.Joined.{OnSome}
 use Rattle.scavenge.specs.Named.{named, named_copies, named_copy}

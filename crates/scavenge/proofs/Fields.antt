@@ -130,6 +130,21 @@ finish_held w v block e h = ap (finish_first v w) e ∙ ap (write_hand v w) h
 pub finish_large : (w : Worker) (v : Option ℕ) (name : ℕ) → w.starts ≡ [] → w.hand ≡ HoldingLarge name → finish_slot v w ≡ record w { fields = w.fields + 1 }
 finish_large w v name e h = ap (finish_first v w) e ∙ ap (write_hand v w) h
 
+-- the workspace with its slot finished
+abbrev pub finished : Option Place → WorkspaceValue → WorkspaceValue
+finished value v = record v { worker = finish_slot (option_map place_word value) v.worker }
+
+-- and the whole workspace then
+pub held_finished : {V N : WorkspaceValue} (value : Option Place) (block : Block) → V ≡ N → (h : Hand) → h ≡ Holding (with_field V.worker.fields (option_map place_word value) block) → V.worker.starts ≡ [] → V.worker.hand ≡ Holding block
+    → (let x : WorkspaceValue = record V { worker = record V.worker { fields = V.worker.fields + 1; hand = h } } in x) ≡ finished value N
+held_finished {V = V} value block same h he e k =
+    ap (λ z. (let x : WorkspaceValue = record V { worker = record V.worker { fields = V.worker.fields + 1; hand = z } } in x)) he
+    ∙ ap (λ (w : Worker). (let x : WorkspaceValue = record V { worker = w } in x)) (sym (finish_held V.worker (option_map place_word value) block e k))
+    ∙ ap (finished value) same
+
+pub value_written : (word : ℕ) (value : Option Place) → word ≡ pointer_word value → target_of_word word ≡ option_map place_word value
+value_written word value e = ap target_of_word e ∙ target_of_pointer value
+
 -- the object that a slot is of
 pub record Ready (slots : List (Option BlockValue)) (d i : ℕ) : Type 0 where
   pub block : BlockValue

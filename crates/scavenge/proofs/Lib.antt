@@ -24,3 +24,4 @@ mod Placing
 mod Reserved
 mod Empty
 mod AtOnce
+pub mod Swept

@@ -10,10 +10,10 @@ use Rattle.heap.specs.StepPairs.{stands_at}
 use Rattle.heap.specs.Words.{target_of_word, IsShownAs}
 use Rattle.workers.specs.Block.{Block, Copy, used_words, empty_block}
 use Rattle.workers.specs.Setting.{Setting, words_of, old_pointers, old_plain, is_large_name, fits_in, destination_of, destination_number}
-use Rattle.workers.specs.Worker.{Worker, Proposal, Copied, Claimed, allocation_at}
+use Rattle.workers.specs.Worker.{Worker, Copied, Claimed, allocation_at}
 use Rattle.workers.specs.WorkerSteps.{propose_copy, propose_into, draws_for, with_new_block, look_at}
 use Rattle.layout.specs.Place.{small_word}
-use Rattle.scavenge.specs.Shown.{has_place_for, copied_into, propose_in, with_copy_proposed}
+use Rattle.scavenge.specs.Shown.{has_place_for, propose_in, with_copy_proposed}
 use Rattle.scavenge.specs.Slots.{objects_of}
 use Rattle.scavenge.proofs.Fields.{length-map}
 

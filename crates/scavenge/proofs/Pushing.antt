@@ -13,7 +13,7 @@ use Rattle.layout.specs.Place.{place_word, small_word}
 use Rattle.block_pool.specs.BlockValue.{BlockValue, used_of, words_of as raw_words}
 use Rattle.steps.specs.Words.{target_of_word}
 use Rattle.workers.specs.Block.{Block, Copy, copy_words, used_words, has_unscanned}
-use Rattle.workers.specs.Worker.{Worker, Proposal, Copied, allocation_at}
+use Rattle.workers.specs.Worker.{Proposal, Copied, allocation_at}
 use Rattle.workers.specs.Joined.{OnSome}
 use Rattle.workers.proofs.Lists.{at-set_same, at-set_other}
 use Rattle.scavenge.specs.Named.{named, named_copies, named_copy}

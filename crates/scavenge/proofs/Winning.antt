@@ -17,11 +17,11 @@ use Rattle.steps.specs.ReportValue.{renaming_of}
 use Rattle.steps.specs.ReportView.{won_value}
 use Rattle.workers.specs.Block.{Block, Copy, updated, with_copy}
 use Rattle.workers.specs.Worker.{Worker, Proposal, Copied, Claimed, Hand, Nothing, Open, Holding, HoldingLarge, allocation_at}
-use Rattle.workers.specs.WorkerSteps.{finish_slot, race_of, after_race}
+use Rattle.workers.specs.WorkerSteps.{finish_slot, race_of}
 use Rattle.workers.proofs.Lists.{at-updated_same, at-updated_other, get-append, get-lt}
 use Rattle.scavenge.specs.Named.{named, named_copies, named_copy}
 use Rattle.scavenge.specs.declared.workspace.proposed.Proposed.{Proposed}
-use Rattle.scavenge.specs.Shown.{WorkspaceValue, IsNoted, AreNoted, HasField, CanFinish, CanWrite, proposal_of, proposal_at, copied_of, unnoted, IsBid, name_of}
+use Rattle.scavenge.specs.Shown.{WorkspaceValue, IsNoted, AreNoted, HasField, CanFinish, CanWrite, proposal_of, proposal_at, IsBid, name_of}
 use Rattle.scavenge.proofs.Fields.{Last, last_there, over, raced}
 
 -- the proposal is this one

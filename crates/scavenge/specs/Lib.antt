@@ -14,3 +14,5 @@ pub mod Codes
 pub mod Waiting
 pub mod Slots
 pub mod Evacuates
+-- A worker that is opened for a sweep.
+pub mod Swept

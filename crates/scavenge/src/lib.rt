@@ -8,6 +8,7 @@ mod looking;
 mod proposing;
 mod racing;
 mod slots;
+mod sweep;
 mod to_space;
 mod workspace;
 
@@ -17,5 +18,6 @@ pub use evacuating::{Evacuated, evacuate};
 pub use looking::{LookError, look};
 pub use racing::race;
 pub use slots::has_slot;
+pub use sweep::Sweep;
 pub use to_space::AllocationBlocks;
 pub use workspace::{Parts, Workspace};

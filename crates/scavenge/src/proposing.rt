@@ -17,14 +17,14 @@ ghost use Rattle.scavenge.specs.Evacuates.{WantsMore, ProposesThere};
 
 use crate::looking::LookError;
 use crate::workspace::Workspace;
-use block_pool::{Block, ClaimSeat, Claims};
+use block_pool::{ClaimSeat, Claims};
 use heap::{Found, Heap, StepId};
 use layout::Place;
 use std::alloc::Allocator;
 
 /// Where a small object goes, and the number of that destination. A large one stays.
 #[inline(always)]
-fn goes_to<A: Allocator + Clone>(
+pub(crate) fn goes_to<A: Allocator + Clone>(
     heap: &Heap<A>,
     name: Place,
     found: Found<'_>,
@@ -93,7 +93,7 @@ fn draw_block<A: Allocator + Clone>(
     ensures memory { result ≡ Err LookError.NoMemory → seat.new ≡ seat.old }
     ensures err { OnErr result (workspace.new ≡ workspace.old) }
 {
-    let mut block = Block::new(alloc, heap.config().block_words())?;
+    let mut block = workspace.new_block(alloc, heap.config().block_words())?;
     workspace.reserve_block()?;
     let Some(number) = claims.draw(seat) else {
         workspace.release_block();

@@ -1,7 +1,7 @@
 -- What each number shows once the large objects that were won stand at their own places.
-use Rattle.std.proofs.Common.{◌≡◌, ℕ, ◌+◌, ◌<◌, ◌≤◌, Bool, true, false, cond, List, [], ◌∷◌, ◌++◌, length, map, take, drop, set, get_or, nat_eq, nat_le, Option, Some, None, refl, sym, ap, subst, ◌∙◌, ⊎_elim, arith, true≢false, eq-eqb, eqb-true, ne_eqb}
+use Rattle.std.proofs.Common.{◌≡◌, ℕ, ◌+◌, ◌<◌, ◌≤◌, Bool, true, false, cond, List, [], ◌∷◌, ◌++◌, length, map, take, set, get_or, nat_eq, nat_le, Option, Some, None, refl, sym, ap, subst, ◌∙◌, ⊎_elim, arith, true≢false, eq-eqb, eqb-true, ne_eqb}
 use Rattle.std.proofs.lemmas.Bool.{cases_eq}
-use Rattle.std.proofs.lemmas.List.{take_more, take_all, drop_all, append-nil, length-map, get_or-map, map-append, get_or-set_same, get_or-set_other}
+use Rattle.std.proofs.lemmas.List.{take_more, length-map, get_or-map, map-append, get_or-set_same, get_or-set_other}
 use Rattle.std.proofs.lemmas.List.Elements.{All-head, All-tail, All-get_or, All-weaker}
 use Rattle.std.specs.Prelude.{All, slice_index, slice_index_or, unwrap_or}
 use Rattle.std.specs.Option.{option_map, option_map_or}
@@ -76,13 +76,6 @@ small_word_below place at is = let word : place_word place ≡ small_word at.blo
 
 pub large_word_above : (place : Place) (of : LargeNumber) → place ≡ Large of → large_word 0 ≤ place_word place
 large_word_above place of is = let word : place_word place ≡ large_word of.number = ap place_word is in omega (arith, word)
-
--- what a borrowed list leaves where it was borrowed whole
-pub written_back : (new old : List (Option Place)) (n : ℕ) → n ≡ length old → length new ≡ length old → take n (new ++ drop (length new) old) ≡ new
-written_back new old n all same =
-    ap (λ rest. take n (new ++ rest)) (drop_all (length new) old (omega (arith, same)))
-    ∙ ap (take n) (append-nil new)
-    ∙ take_all n new (omega (arith, all, same))
 
 -- the places after so many wins
 abbrev pub ShownSoFar : List Won → ℕ → List (Option Place) → List (Option Place) → Type 0

@@ -8,5 +8,5 @@ mod told;
 
 pub use law::parts_settle;
 pub use parts::{brought, in_one_list};
-pub use places::{places_in, show_all, show_large};
+pub use places::{show_all, show_large};
 pub use told::all_delivered;

@@ -5,7 +5,7 @@ ghost use Rattle.workers.specs.Joined.{Each, somes};
 ghost use Rattle.settling.specs.Telling.{IsAtRest, IsPartOf, AreBrought};
 
 use block_pool::Block;
-use heap::{Collection, Heap, WorkerReport};
+use heap::{Collection, Heap, Spare, WorkerReport};
 use scavenge::{Parts, Workspace};
 use std::alloc::{AllocError, Allocator};
 
@@ -27,13 +27,13 @@ pub fn in_one_list<A: Allocator>(
     Ok(blocks)
 }
 
-/// One worker's report, and the blocks that it leaves.
+/// One worker's report, the blocks that it leaves, and the memory that it did not need.
 fn part_of<A: Allocator + Clone>(
     alloc: A,
     heap: &Heap<A>,
     collection: &Collection<A>,
     workspace: Workspace<A>,
-) -> Result<(WorkerReport<A>, Vec<Block<A>, A>), AllocError>
+) -> Result<(WorkerReport<A>, Vec<Block<A>, A>, Spare<A>), AllocError>
     requires opened { IsOpened heap.now collection.now.generation collection.now }
     requires rest { IsAtRest heap.now collection.now workspace }
     ensures { IfOk result (λ r. IsPartOf heap.now collection.now workspace.worker r.0 r.1.items) }
@@ -44,28 +44,32 @@ fn part_of<A: Allocator + Clone>(
         large: _,
         won,
         scanned,
+        spare,
     } = workspace.into_parts();
     let blocks = in_one_list(alloc, allocation, done)?;
-    Ok((WorkerReport::new(won, scanned), blocks))
+    Ok((WorkerReport::new(won, scanned), blocks, spare))
 }
 
-/// The workers' reports, and the blocks that they leave, one worker after another. An error says that memory ran out.
+/// The workers' reports, and the blocks that they leave, one worker after another, with the memory that they did not need. An
+/// error says that memory ran out.
 pub fn brought<A: Allocator + Clone>(
     alloc: A,
     heap: &Heap<A>,
     collection: &Collection<A>,
     workspaces: Vec<Workspace<A>, A>,
-) -> Result<(Vec<WorkerReport<A>, A>, Vec<Block<A>, A>), AllocError>
+) -> Result<(Vec<WorkerReport<A>, A>, Vec<Block<A>, A>, Spare<A>), AllocError>
     requires opened { IsOpened heap.now collection.now.generation collection.now }
     requires rest { Each (IsAtRest heap.now collection.now) workspaces.items }
     ensures { IfOk result (λ r. AreBrought heap.now collection.now (map (λ w. w.worker) workspaces.items) r.0.items r.1.items) }
 {
     let mut reports = Vec::new(alloc.clone()?);
     let mut blocks = Vec::new(alloc.clone()?);
+    let mut spare = Spare::none();
     for workspace in workspaces {
-        let (report, mut left) = part_of(alloc.clone()?, heap, collection, workspace)?;
+        let (report, mut left, more) = part_of(alloc.clone()?, heap, collection, workspace)?;
         reports.push(report)?;
         blocks.append(&mut left)?;
+        spare.join(alloc.clone()?, more, 0)?;
     }
-    Ok((reports, blocks))
+    Ok((reports, blocks, spare))
 }

@@ -148,7 +148,7 @@ fn assert_won_once(rt: &impl Abort, forwards: &Forwards, won: &[&[(u32, Place)]]
         wins = wins.wrapping_add(pairs.len() as u64);
     }
     assert_eq!(rt; wins, 1000);
-    assert!(rt; forwards.as_slice().iter().all(|place| place.is_some()));
+    assert!(rt; forwards.len() == 1000 && (0..1000).all(|name| forwards.place(name).is_some()));
 }
 
 // No two threads propose one place: so a name that shows the place of each pair that was won was won once. As many

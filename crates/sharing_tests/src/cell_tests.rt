@@ -33,12 +33,12 @@ pub(crate) fn first_place_stays<C: Cells>(
     Ok(nothing.is_none() && won == Outcome::Won && lost == Outcome::Lost(a) && seen == Some(a))
 }
 
-/// Word cells for two names, and two passes.
-fn two_word_passes(alloc: Global) -> Result<(WordCells, WordPass, WordPass), Fail>
+/// Word cells for two names in that memory, and two passes.
+fn two_word_passes(alloc: Global, memory: Vec<u64>) -> Result<(WordCells, WordPass, WordPass), Fail>
     ensures cells { IfOk result (λ r. (r.0.count ≡ 2) × (r.0.passes ≡ 2)) }
     ensures passes { IfOk result (λ r. (r.1.id ≡ r.0.id) × (r.2.id ≡ r.0.id)) }
 {
-    let (cells, mut passes) = WordCells::new(alloc, 2, 2)?;
+    let (cells, mut passes) = WordCells::within(alloc, memory, 2, 2)?;
     let (Some(one), Some(zero)) = (passes.pop(), passes.pop()) else {
         return Err(Fail::from("two passes were asked for"));
     };
@@ -66,7 +66,7 @@ pub(crate) fn is_second(forwards: &Forwards, place: Place) -> bool {
     forwards.place(0).is_none()
         && forwards.place(1) == Some(place)
         && forwards.place(2).is_none()
-        && forwards.as_slice() == [None, Some(place)].as_slice()
+        && forwards.len() == 2
 }
 
 /// The places that two passes of word cells settle on.
@@ -84,7 +84,7 @@ fn settle_words(
     };
     passes.push_reserved(zero);
     passes.push_reserved(one);
-    cells.settle(alloc, passes)
+    cells.settle(passes)
 }
 
 /// The places that two passes of plain cells settle on.
@@ -103,13 +103,13 @@ fn settle_plain(
     };
     passes.push_reserved(zero);
     passes.push_reserved(one);
-    cells.settle(alloc, passes)
+    cells.settle(passes)
 }
 
 #[test]
 fn two_passes_race_for_a_word(rt: HostRuntime) -> Result<(), Fail> {
     let (a, b) = (Place::small(0, 4), Place::large(65534));
-    let (cells, mut zero, mut one) = two_word_passes(rt.alloc())?;
+    let (cells, mut zero, mut one) = two_word_passes(rt.alloc(), Vec::new(rt.alloc()))?;
     let stays = first_word_stays(&cells, &mut zero, &mut one, a, b)?;
     assert!(rt; stays);
     let forwards = settle_words(rt.alloc(), cells, zero, one)?;
@@ -126,8 +126,7 @@ fn two_passes_race_for_a_plain_cell(rt: HostRuntime) -> Result<(), Fail> {
     let stays = first_place_stays(&mut cells, &mut zero, &mut one, a, b)?;
     assert!(rt; stays);
     let forwards = settle_plain(rt.alloc(), cells, zero, one)?;
-    let places = forwards.into_places();
-    assert!(rt; places.as_slice() == [None, Some(a)].as_slice());
+    assert!(rt; is_second(&forwards, a));
     Ok(())
 }
 
@@ -154,8 +153,25 @@ fn a_pass_alone_settles_what_it_won(rt: HostRuntime) -> Result<(), Fail> {
     let (mut cells, mut pass) = PlainCells::alone(rt.alloc(), 2)?;
     let stays = first_of_two_stays(&mut cells, &mut pass, a, b)?;
     assert!(rt; stays);
-    let places = cells.settle_alone(rt.alloc(), pass)?.into_places();
-    assert!(rt; places.as_slice() == [None, Some(a)].as_slice());
+    assert!(rt; is_second(&cells.settle_alone(pass), a));
+    Ok(())
+}
+
+#[test]
+fn cells_in_used_memory_hold_nothing(rt: HostRuntime) -> Result<(), Fail> {
+    let (a, b) = (Place::small(1, 2), Place::large(0));
+    let used = vec![in rt.alloc(); b.to_word(); 3]?;
+    let (mut cells, mut pass) = PlainCells::alone_within(used, 2)?;
+    let stays = first_of_two_stays(&mut cells, &mut pass, a, b)?;
+    assert!(rt; stays);
+    assert!(rt; is_second(&cells.settle_alone(pass), a));
+
+    let used = vec![in rt.alloc(); b.to_word(); 3]?;
+    let (cells, mut zero, mut one) = two_word_passes(rt.alloc(), used)?;
+    let stays = first_word_stays(&cells, &mut zero, &mut one, a, b)?;
+    assert!(rt; stays);
+    let forwards = settle_words(rt.alloc(), cells, zero, one)?;
+    assert!(rt; is_second(&forwards, a));
     Ok(())
 }
 

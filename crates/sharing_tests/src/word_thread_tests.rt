@@ -111,7 +111,7 @@ fn settle_all(
         passes.push_reserved(pass);
         won = won.wrapping_add(more);
     }
-    Ok((cells.settle(alloc, passes)?, won))
+    Ok((cells.settle(passes)?, won))
 }
 
 #[test]
@@ -121,13 +121,7 @@ fn each_name_is_won_once(rt: HostRuntime) -> Result<(), Fail> {
     let Ok((forwards, won)) = settle_all(rt.alloc(), cells, all) else {
         return Err(Fail::from("not settled"));
     };
-    let places = forwards.as_slice();
-    assert!(rt; won == 1000 && places.len() == 1000);
-    assert!(rt;
-        places
-            .iter()
-            .enumerate()
-            .all(|(name, place)| is_proposed(*place, name))
-    );
+    assert!(rt; won == 1000 && forwards.len() == 1000);
+    assert!(rt; (0..1000).all(|name| is_proposed(forwards.place(name), name as usize)));
     Ok(())
 }

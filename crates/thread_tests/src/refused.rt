@@ -95,8 +95,11 @@ fn answer_of<'a, R: Threads + Wait + Sync + AllocGlobal>(
     heap: &mut Heap<&'a Refusing<Global>>,
     trial: Trial,
 ) -> Result<Answer, Fail> {
+    drop(heap.take_spare());
     let before = outstanding(refusing);
     let counts = counts_of(rt, refusing, heap, trial.kind)?;
+    // What the heap keeps for its next collection isn't lost.
+    drop(heap.take_spare());
     Ok(Answer {
         counts,
         was_refused: refusing.asked() > trial.refused,

@@ -9,7 +9,7 @@ use crate::separating::{Apart, separated};
 use crate::threads::work_in_threads;
 use block_pool::Claims;
 use forwarding::{Gate, SharedCells};
-use heap::{Collection, Heap};
+use heap::{Collection, Heap, Spare};
 use idle_count::{Idle, Verdict};
 use pending_queues::RuledPending;
 use scavenge::CopiesKey;
@@ -20,7 +20,7 @@ use std::thread::Threads;
 /// The most workers that share a collection.
 pub const MOST_WORKERS: u32 = 16;
 
-/// A worker on a thread of its own for each pass of the cells; all are joined. An error says that a thread could not be
+/// A worker on a thread of its own for each pass of the cells, among which the spare memory is divided; all are joined. An error says that a thread could not be
 /// started, or that memory ran out before they were or once all had come back.
 pub fn scavenged_apart<
     R: Threads + Wait + Sync + AllocGlobal,
@@ -35,6 +35,7 @@ pub fn scavenged_apart<
     cells: &S,
     passes: Vec<S::Pass, A>,
     gate: &G,
+    spare: Spare<A>,
 ) -> Result<Apart<S::Pass, A>, AllocError>
     requires ready { IsReadyToCollect heap.now collection.now }
     requires some { 0 < length passes.items }
@@ -68,6 +69,7 @@ pub fn scavenged_apart<
         seats,
         rests,
         voices,
+        spare,
     )?;
     let brought = work_in_threads(
         rt,

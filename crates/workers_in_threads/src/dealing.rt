@@ -12,13 +12,14 @@ use crate::kit::Kit;
 use crate::packing::pack;
 use block_pool::{ClaimSeat, Claims};
 use forwarding::SharedCells;
-use heap::{Collection, Heap};
+use heap::{Collection, Heap, Spare};
 use idle_count::{Idle, IdleSeat, Verdict, VerdictSeat};
 use pending_queues::{PendingSeat, RuledPending};
 use scavenge::Copies;
 use std::alloc::{AllocError, Allocator, Global};
 
-/// A kit for each worker: its pass, and one of each kind of seats. An error says that memory ran out.
+/// A kit for each worker: its pass, one of each kind of seats, and its share of the spare memory. An error says that memory
+/// ran out.
 pub fn dealt<S: SharedCells, A: Allocator + Clone>(
     alloc: A,
     heap: &Heap<A>,
@@ -34,6 +35,7 @@ pub fn dealt<S: SharedCells, A: Allocator + Clone>(
     seats: Vec<PendingSeat<Copies<A>, A>, A>,
     mut rests: Vec<IdleSeat, A>,
     mut voices: Vec<VerdictSeat, Global>,
+    mut spare: Spare<A>,
 ) -> Result<Vec<Kit<S::Pass, A>, A>, AllocError>
     requires ready { IsReadyToCollect heap.now collection.now }
     requires few { workers < 65536 }
@@ -51,6 +53,7 @@ pub fn dealt<S: SharedCells, A: Allocator + Clone>(
     ensures many { IfOk result (λ ks. length ks.items ≡ workers) }
     ensures kits { IfOk result (λ ks. AreKits (S.limit cells.now) (S.is_pass cells.now) S.won heap.now collection.now claims.now queues.now idle.now verdict.now workers ks.items) }
 {
+    let share = (spare.block_count() / (workers as usize).max(1)).saturating_add(1);
     let mut kits = Vec::with_capacity(alloc.clone()?, workers as usize)?;
     let mut places = seats.into_iter();
     for pass in passes {
@@ -67,9 +70,10 @@ pub fn dealt<S: SharedCells, A: Allocator + Clone>(
         let Some(voice) = voices.pop() else {
             unreachable!();
         };
+        let part = spare.split(alloc.clone()?, share)?;
         kits.push_reserved(pack(
             &alloc, heap, collection, cells, claims, queues, idle, verdict, workers, number, pass,
-            own_draws, seat, rest, voice,
+            own_draws, seat, rest, voice, part,
         )?);
     }
     Ok(kits)

@@ -8,9 +8,8 @@ ghost use Rattle.workers_in_threads.specs.CameBack.{ArePlaced};
 ghost use Rattle.workers_in_threads.specs.Reports.{ReportsApart};
 
 use crate::separating::Seats;
-use forwarding::SharedCells;
+use forwarding::{Forwards, SharedCells};
 use heap::{Collection, Heap, Settled};
-use layout::Place;
 use settling::{all_delivered, brought, show_all};
 use std::alloc::{AllocError, Allocator};
 use std::sync::Wait;
@@ -23,12 +22,12 @@ pub fn gathered<R: Wait, S: SharedCells, A: Allocator + Clone>(
     heap: &Heap<A>,
     collection: Collection<A>,
     seats: Seats<A>,
-    mut places: Vec<Option<Place>, A>,
+    mut places: Forwards<A>,
 ) -> Result<Settled<A>, AllocError>
     requires some { 0 < length seats.workspaces.items }
     requires few { length seats.workspaces.items ≤ 16 }
-    requires placed { ArePlaced S.is_pass S.known S.won heap.now collection (length seats.workspaces.items) Ended seats.claims seats.queues seats.draws.items seats.seats.items seats.workspaces.items places.items }
-    ensures settled { IfOk result (λ s. IsSettled heap.now s.collection s.places.items s.blocks.items (all_won s.workers.items)) }
+    requires placed { ArePlaced S.is_pass S.known S.won heap.now collection (length seats.workspaces.items) Ended seats.claims seats.queues seats.draws.items seats.seats.items seats.workspaces.items places }
+    ensures settled { IfOk result (λ s. IsSettled heap.now s.collection s.places s.blocks.items (all_won s.workers.items)) }
     ensures collection { IfOk result (λ s. s.collection ≡ collection) }
     ensures once { IfOk result (λ s. ScansOnce heap.now collection.generation s.workers.items) }
     ensures apart { IfOk result (λ s. ReportsApart heap.now collection.generation (length seats.workspaces.items) s.workers.items s.deliveries.items) }
@@ -42,7 +41,7 @@ pub fn gathered<R: Wait, S: SharedCells, A: Allocator + Clone>(
     } = seats;
     let workers = workspaces.len() as u32;
     let _drawn = claims.close(draws);
-    let (reports, blocks) = brought(alloc.clone()?, heap, &collection, workspaces)?;
+    let (reports, blocks, spare) = brought(alloc.clone()?, heap, &collection, workspaces)?;
     show_all(&mut places, &reports);
     let told = queues.close(rt, alloc.clone()?, seats)?;
     let deliveries = all_delivered(alloc, &told, workers)?;
@@ -52,5 +51,6 @@ pub fn gathered<R: Wait, S: SharedCells, A: Allocator + Clone>(
         blocks,
         workers: reports,
         deliveries,
+        spare,
     })
 }

@@ -9,7 +9,7 @@ ghost use Rattle.workers_in_threads.specs.Kits.{IsKit};
 use crate::kit::Kit;
 use block_pool::{ClaimSeat, Claims};
 use forwarding::SharedCells;
-use heap::{Collection, Heap};
+use heap::{Collection, Heap, Spare};
 use idle_count::{Idle, IdleSeat, Verdict, VerdictSeat};
 use pending_queues::{PendingSeat, RuledPending};
 use scavenge::{Copies, Workspace};
@@ -32,6 +32,7 @@ pub fn pack<S: SharedCells, A: Allocator + Clone>(
     seat: PendingSeat<Copies<A>, A>,
     rest: IdleSeat,
     voice: VerdictSeat,
+    spare: Spare<A>,
 ) -> Result<Kit<S::Pass, A>, AllocError>
     requires ready { IsReadyToCollect heap.now collection.now }
     requires member { number < workers }
@@ -49,7 +50,8 @@ pub fn pack<S: SharedCells, A: Allocator + Clone>(
     requires voice { voice.name ≡ verdict.now.name }
     ensures { IfOk result (λ k. IsKit (S.limit cells.now) (S.is_pass cells.now) S.won heap.now collection.now claims.now queues.now idle.now verdict.now workers number k) }
 {
-    let workspace = Workspace::new(alloc.clone()?, heap, collection, number, workers)?;
+    let mut workspace = Workspace::new(alloc.clone()?, heap, collection, number, workers)?;
+    workspace.supply(spare);
     let alloc = alloc.clone()?;
     Ok(Kit {
         alloc,

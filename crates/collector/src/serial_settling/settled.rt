@@ -17,7 +17,7 @@ use layout::Place;
 use one_worker::{SerialCollection, SerialParts};
 use pending_queues::{Delivery as Outcome, PlainPending, PlainSeat};
 use scavenge::{Copies, Parts};
-use settling::{in_one_list, places_in, show_large};
+use settling::{in_one_list, show_large};
 use std::alloc::{AllocError, Allocator};
 
 /// What became of the worker's exports: it took each itself.
@@ -72,7 +72,7 @@ pub fn settle<A: Allocator + Clone>(
     requires out { IsOutOfWork serial.workspace.worker }
     requires queue { waiting_in (lane_of serial) ≡ [] }
     requires reached { IsReached (setting_in serial) (destinations_in serial) 1 (targets_in serial) serial.heap.free (system_of serial) }
-    ensures settled { IfOk result (λ s. IsSettled serial.heap s.collection s.places.items s.blocks.items (all_won s.workers.items)) }
+    ensures settled { IfOk result (λ s. IsSettled serial.heap s.collection s.places s.blocks.items (all_won s.workers.items)) }
     ensures collection { IfOk result (λ s. s.collection ≡ serial.collection) }
     ensures lists { IfOk result (λ s. IsReportOf serial s.workers.items) }
     ensures once { OnOk result (ScansWhatItWon serial.workspace.worker) }
@@ -91,9 +91,10 @@ pub fn settle<A: Allocator + Clone>(
         large: _,
         won,
         scanned,
+        spare,
     } = workspace.into_parts();
     let blocks = in_one_list(alloc.clone()?, allocation, done)?;
-    let mut places = places_in(alloc.clone()?, cells, pass)?;
+    let mut places = cells.settle_alone(pass);
     show_large(&mut places, &won);
     let deliveries = exported(alloc.clone()?, queues, seat)?;
     let workers = reported(alloc, won, scanned)?;
@@ -103,5 +104,6 @@ pub fn settle<A: Allocator + Clone>(
         blocks,
         workers,
         deliveries,
+        spare,
     })
 }

@@ -4,10 +4,11 @@ ghost use Rattle.forwarding.specs.Boxed.{note_cell, note_known, Joined, Joins};
 ghost use Rattle.forwarding.specs.Noted.{IsStep, IsSoundNotes, place_of};
 ghost use Rattle.forwarding.specs.Settled.{ones};
 ghost use Rattle.std.specs.List.{sum_by};
+ghost use Rattle.layout.specs.Place.{pointer_word};
 
 use crate::box_cells::bid::Bid;
 use crate::box_cells::box_cells::BoxPass;
-use layout::Place;
+use layout::word_of;
 use once_cell::race::Note;
 use std::alloc::{AllocError, Allocator};
 
@@ -96,14 +97,14 @@ impl BoxPass {
         count
     }
 
-    // The place that the pass knows for each name.
-    pub(crate) fn places<B: Allocator>(&self, alloc: B) -> Result<Vec<Option<Place>, B>, AllocError>
-        ensures { IfOk result (λ v. v.items ≡ map place_of self.now.known) }
+    // The word of the place that the pass knows for each name.
+    pub(crate) fn words<B: Allocator>(&self, alloc: B) -> Result<Vec<u64, B>, AllocError>
+        ensures { IfOk result (λ v. v.items ≡ map (λ known. pointer_word (place_of known)) self.now.known) }
     {
-        let mut places = Vec::with_capacity(alloc, self.known.len())?;
+        let mut words = Vec::with_capacity(alloc, self.known.len())?;
         for known in &self.known {
-            places.push_reserved(known.map(|bid| bid.place));
+            words.push_reserved(word_of(known.map(|bid| bid.place)));
         }
-        Ok(places)
+        Ok(words)
     }
 }

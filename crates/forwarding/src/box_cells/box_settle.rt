@@ -68,8 +68,8 @@ impl BoxCells {
         if !is_each_won(&all, &passes) {
             return Err(SettleError::Unsettled);
         }
-        match all.places(alloc) {
-            Ok(places) => Ok(Forwards::of(places)),
+        match all.words(alloc) {
+            Ok(words) => Ok(Forwards::of(words)),
             Err(_) => Err(SettleError::NoMemory),
         }
     }

@@ -1,7 +1,5 @@
 //! Plain cells as they are made, and what they answer in the end.
-ghost use Rattle.std.specs.Prelude.{◌≡◌, ◌≢◌, ◌≤◌, ◌∷◌, List, [], Option, None, Err, All, length, map, slice_index_or, vec_capacity, IfOk, OnOk};
-ghost use Rattle.layout.specs.declared.place.Place.{Place as At};
-ghost use Rattle.layout.specs.Place.{pointer_word};
+ghost use Rattle.std.specs.Prelude.{◌≡◌, ◌≢◌, ◌∷◌, [], None, Err, All, length, map, slice_index_or, IsOk, IfOk, OnOk};
 ghost use Rattle.std.specs.List.{AllPairs};
 ghost use Rattle.forwarding.specs.Settled.{Agree, IsSettled};
 ghost use Rattle.forwarding.specs.Plain.{IsFit, Differ, known_by, place_of, empty_cells, fresh_pass, fresh_passes};
@@ -11,43 +9,15 @@ use crate::plain_cells::minds::Empty;
 use crate::plain_cells::plain_cells::PlainCells;
 use crate::plain_cells::plain_pass::PlainPass;
 use crate::plain_cells::remembered::Remembered;
-use crate::plain_cells::words::place_in;
-use layout::Place;
 use std::alloc::{AllocError, Allocator};
 
-/// The places whose words these are.
-fn places_of<A: Allocator>(
-    words: &[u64],
-    mut places: Vec<Option<Place>, A>,
-) -> Vec<Option<Place>, A>
-    requires shown { (pointers : List (Option At)) × (map pointer_word pointers ≡ words.now) }
-    requires room { (places.items ≡ []) × (length words.now ≤ vec_capacity places) }
-    ensures { (pointers : List (Option At)) → map pointer_word pointers ≡ words.now → result.items ≡ pointers }
-{
-    for &word in words {
-        places.push_reserved(place_in(word));
-    }
-    places
-}
-
-/// The places whose words these are. `NoMemory` says that memory ran out.
-fn forwards_of<A: Allocator>(alloc: A, words: &[u64]) -> Result<Forwards<A>, SettleError>
-    requires { (pointers : List (Option At)) × (map pointer_word pointers ≡ words.now) }
-    ensures exact { IfOk result (λ f. (pointers : List (Option At)) → map pointer_word pointers ≡ words.now → f ≡ pointers) }
-    ensures never_unsettled { result ≢ Err SettleError.Unsettled }
-{
-    let Ok(places) = Vec::with_capacity(alloc, words.len()) else {
-        return Err(SettleError::NoMemory);
-    };
-    Ok(Forwards::of(places_of(words, places)))
-}
-
 impl<A: Allocator> PlainCells<A> {
-    /// Cells that hold nothing, of so many passes.
-    fn empty(alloc: A, count: u32, passes: usize) -> Result<PlainCells<A>, AllocError>
+    /// Cells that hold nothing, of so many passes, in that memory as far as it goes.
+    fn empty(mut words: Vec<u64, A>, count: u32, passes: usize) -> Result<PlainCells<A>, AllocError>
         ensures { IfOk result (λ cells. cells ≡ empty_cells count passes) }
     {
-        let words = vec![in alloc; 0; count as usize]?;
+        words.clear();
+        words.resize(count as usize, 0)?;
         let held = Remembered::of::<u32, Empty>(&count);
         Ok(PlainCells {
             words,
@@ -77,7 +47,7 @@ impl<A: Allocator> PlainCells<A> {
         for number in 0..passes {
             made.push_reserved(PlainPass::new(count, passes, number));
         }
-        let cells = PlainCells::empty(alloc, count, passes)?;
+        let cells = PlainCells::empty(Vec::new(alloc), count, passes)?;
         Ok((cells, made))
     }
 
@@ -89,36 +59,50 @@ impl<A: Allocator> PlainCells<A> {
         // What follows for the pass.
         ensures fits { IfOk result (λ r. IsFit r.0 r.1) }
     {
-        let cells = PlainCells::empty(alloc, count, 1)?;
+        PlainCells::alone_within(Vec::new(alloc), count)
+    }
+
+    /// The same in the memory that is given, whatever stands in it, with more where it is too little.
+    pub fn alone_within(
+        memory: Vec<u64, A>,
+        count: u32,
+    ) -> Result<(PlainCells<A>, PlainPass), AllocError>
+        ensures cells { IfOk result (λ r. r.0 ≡ empty_cells count 1) }
+        ensures pass { IfOk result (λ r. r.1 ≡ fresh_pass count 1 0) }
+
+        // What follows for the pass.
+        ensures fits { IfOk result (λ r. IsFit r.0 r.1) }
+    {
+        let cells = PlainCells::empty(memory, count, 1)?;
         Ok((cells, PlainPass::new(count, 1, 0)))
     }
 
     /// The place of each name that was won. It takes the passes that `new` gave with these cells, each once: each name
-    /// that has a place was won once, by one pass, and what the passes know is what they won. `NoMemory` says that
-    /// memory ran out; `Unsettled` never comes.
-    pub fn settle(self, alloc: A, passes: Vec<PlainPass, A>) -> Result<Forwards<A>, SettleError>
+    /// that has a place was won once, by one pass, and what the passes know is what they won. It takes no memory, and no
+    /// error comes.
+    pub fn settle<B: Allocator>(self, passes: Vec<PlainPass, B>) -> Result<Forwards<A>, SettleError>
         requires fits { All (IsFit self) passes.items }
         requires apart { AllPairs Differ passes.items }
         requires all { length passes.items ≡ self.passes }
+        ensures ok { IsOk result }
         ensures settled { IfOk result (λ f. IsSettled known_by (λ p. p.won) passes.items (length self.held) (λ name. slice_index_or f name None)) }
         ensures exact { IfOk result (λ f. f ≡ map place_of self.held) }
         ensures agree { OnOk result (Agree known_by passes.items) }
         ensures never_unsettled { result ≢ Err SettleError.Unsettled }
     {
         let _ = passes;
-        forwards_of(alloc, &self.words)
+        Ok(Forwards::of(self.words))
     }
 
     /// As `settle`, with the pass that `alone` gave with these cells.
-    pub fn settle_alone(self, alloc: A, pass: PlainPass) -> Result<Forwards<A>, SettleError>
+    pub fn settle_alone(self, pass: PlainPass) -> Forwards<A>
         requires fits { IsFit self pass }
         requires alone { self.passes ≡ 1 }
-        ensures settled { IfOk result (λ f. IsSettled known_by (λ p. p.won) (pass ∷ []) (length self.held) (λ name. slice_index_or f name None)) }
-        ensures exact { IfOk result (λ f. f ≡ map place_of self.held) }
-        ensures agree { OnOk result (Agree known_by (pass ∷ [])) }
-        ensures never_unsettled { result ≢ Err SettleError.Unsettled }
+        ensures settled { IsSettled known_by (λ p. p.won) (pass ∷ []) (length self.held) (λ name. slice_index_or result name None) }
+        ensures exact { result ≡ map place_of self.held }
+        ensures agree { Agree known_by (pass ∷ []) }
     {
         let _ = pass;
-        forwards_of(alloc, &self.words)
+        Forwards::of(self.words)
     }
 }

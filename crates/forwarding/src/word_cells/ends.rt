@@ -1,17 +1,14 @@
 //! Word cells as they are made, and what they answer in the end.
-ghost use Rattle.std.specs.Prelude.{◌≡◌, ◌≢◌, ◌<◌, ◌≤◌, ℕ, [], All, Option, None, Err, length, slice_index, slice_index_or, IfOk, OnOk, vec_len, vec_capacity};
+ghost use Rattle.std.specs.Prelude.{◌≡◌, ◌≢◌, ◌<◌, ◌≤◌, ℕ, [], All, None, Err, length, slice_index, slice_index_or, IfOk, OnOk, vec_len, vec_capacity};
 ghost use Rattle.std.specs.Slots.{slots_items, slots_len, IsFull};
-ghost use Rattle.layout.specs.Place.{pointer_word};
-ghost use Rattle.layout.specs.declared.place.Place.{Place as At};
 ghost use Rattle.forwarding.specs.Known.{known_in};
 ghost use Rattle.forwarding.specs.Settled.{all_pairs, Agree, IsSettled};
 ghost use Rattle.forwarding.specs.Words.{fresh_pass};
 
 use crate::cells::{Forwards, SettleError};
 use crate::word_cells::plays::{Deal, Gather, Mind, Plan, Rule};
-use crate::word_cells::word_cells::{WordCells, WordPass, place_in};
+use crate::word_cells::word_cells::{WordCells, WordPass};
 use atomic_table::{Closed, Seat, Table};
-use layout::Place;
 use std::alloc::{AllocError, Allocator};
 
 /// One pass after another, until the seat has one part.
@@ -59,21 +56,21 @@ fn gather<A: Allocator, B: Allocator>(
     seat
 }
 
-/// The places of the first words.
-fn read_places<A: Allocator, B: Allocator>(
+/// The first words, in the list that has room for them.
+fn read_words<A: Allocator, B: Allocator>(
     closed: &Closed<(), A>,
     count: u32,
-    mut places: Vec<Option<Place>, B>,
-) -> Vec<Option<Place>, B>
+    mut words: Vec<u64, B>,
+) -> Vec<u64, B>
     requires words { (count ≤ slots_len closed.now.words) × (length (slots_items closed.now.words) ≡ slots_len closed.now.words) × IsFull closed.now.words }
-    requires room { (places.items ≡ []) × (count ≤ vec_capacity places) }
+    requires room { (words.items ≡ []) × (count ≤ vec_capacity words) }
     ensures many { length result.items ≡ count }
-    ensures shown { (name : ℕ) → name < count → (o : Option At) → pointer_word o ≡ slice_index (slots_items closed.now.words) name → slice_index_or result.items name None ≡ o }
+    ensures shown { (name : ℕ) → name < count → slice_index result.items name ≡ slice_index (slots_items closed.now.words) name }
 {
     for name in 0..count {
-        places.push_reserved(place_in(closed.word(name as usize)));
+        words.push_reserved(closed.word(name as usize));
     }
-    places
+    words
 }
 
 impl<A: Allocator> WordCells<A> {
@@ -90,22 +87,43 @@ impl<A: Allocator> WordCells<A> {
         ensures many { IfOk result (λ r. length r.1.items ≡ passes) }
         ensures fresh { IfOk result (λ r. All (λ p. p ≡ fresh_pass r.0.id) r.1.items) }
     {
+        let memory = Vec::new(alloc.clone()?);
+        WordCells::within(alloc, memory, count, passes)
+    }
+
+    /// The same, which answer in the end in the memory that is given, whatever stands in it, and ask for more where it is
+    /// too little.
+    pub fn within(
+        alloc: A,
+        mut memory: Vec<u64, A>,
+        count: u32,
+        passes: usize,
+    ) -> Result<(WordCells<A>, Vec<WordPass, A>), AllocError>
+    where
+        A: Clone,
+        requires { 0 < passes }
+        ensures cells { IfOk result (λ r. (r.0.count ≡ count) × (r.0.passes ≡ passes)) }
+        ensures many { IfOk result (λ r. length r.1.items ≡ passes) }
+        ensures fresh { IfOk result (λ r. All (λ p. p ≡ fresh_pass r.0.id) r.1.items) }
+    {
         let plan = Plan { count, passes };
         let made = Vec::with_capacity(alloc.clone()?, passes)?;
-        let words = Vec::from_elem(alloc.clone()?, 0u64, count as usize + 1)?;
-        let (table, seat) = Table::of_words(alloc, words.as_slice(), &plan)?;
+        memory.clear();
+        memory.resize(count as usize + 1, 0)?;
+        let (table, seat) = Table::of_words(alloc, memory.as_slice(), &plan)?;
         let made = deal(&table, seat, made, passes);
-        Ok((WordCells { table, plan }, made))
+        let cells = WordCells {
+            table,
+            plan,
+            memory,
+        };
+        Ok((cells, made))
     }
 
     /// The place of each name that was won. It takes the passes that `new` gave with these cells, each once: each name
     /// that has a place was won once, by one pass, and what the passes know is what they won. `NoMemory` says that
     /// memory ran out; `Unsettled` never comes.
-    pub fn settle<B: Allocator>(
-        self,
-        alloc: B,
-        passes: Vec<WordPass, B>,
-    ) -> Result<Forwards<B>, SettleError>
+    pub fn settle<B: Allocator>(self, passes: Vec<WordPass, B>) -> Result<Forwards<A>, SettleError>
         requires passes { All (λ p. p.id ≡ self.id) passes.items }
         requires all { length passes.items ≡ self.passes }
         ensures settled { IfOk result (λ f. IsSettled (λ p. known_in p.known) (λ p. p.won) passes.items self.count (λ name. slice_index_or f name None)) }
@@ -113,14 +131,19 @@ impl<A: Allocator> WordCells<A> {
         ensures agree { OnOk result (Agree (λ p. known_in p.known) passes.items) }
         ensures never_unsettled { result ≢ Err SettleError.Unsettled }
     {
-        let Ok(places) = Vec::with_capacity(alloc, self.plan.count as usize) else {
+        let WordCells {
+            table,
+            plan,
+            memory: mut words,
+        } = self;
+        words.clear();
+        if words.reserve(plan.count as usize).is_err() {
             return Err(SettleError::NoMemory);
-        };
-        let WordCells { table, plan } = self;
+        }
         let seat = gather(&table, passes);
         let closed = table.close_with(seat);
-        let places = read_places(&closed, plan.count, places);
+        let words = read_words(&closed, plan.count, words);
         closed.free();
-        Ok(Forwards::of(places))
+        Ok(Forwards::of(words))
     }
 }

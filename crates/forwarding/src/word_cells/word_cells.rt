@@ -18,6 +18,8 @@ use std::marker::Model;
 pub struct WordCells<A: Allocator = Global> {
     pub(crate) table: Table<(), Mind, Plan, Rule, A>,
     pub(crate) plan: Plan,
+    /// Where they answer in the end.
+    pub(crate) memory: Vec<u64, A>,
 }
 
 impl<A: Allocator> Model for WordCells<A> {

@@ -28,7 +28,7 @@ pub fn commit<A: Allocator + Clone>(
 ) -> Result<Report<A>, AllocError>
     requires closed { IsClosed (heap_of objects.old roots.old.slots).graph }
     requires settled { IsSettled (heap_of objects.old roots.old.slots)
-        settled.collection settled.places.items settled.blocks.items (all_won settled.workers.items) }
+        settled.collection settled.places settled.blocks.items (all_won settled.workers.items) }
     ensures ok { IfOk result (λ _. IsEnded (heap_of objects.old roots.old.slots) settled.collection.generation
         (renaming_of (young_names (heap_of objects.old roots.old.slots).graph settled.collection.generation) (all_won settled.workers.items))
         (heap_of objects.new roots.new.slots)) }
@@ -49,6 +49,7 @@ pub fn commit<A: Allocator + Clone>(
         blocks,
         workers,
         deliveries,
+        spare,
     } = settled;
     let g = collection.generation();
     let numbering = collection.numbering();
@@ -57,7 +58,7 @@ pub fn commit<A: Allocator + Clone>(
     let fields = moved_fields(alloc.clone()?, objects, slots, numbering, g, &places)?;
     let _fit = all_fit(&blocks);
     install(
-        alloc, objects, roots, g, blocks, numbering, &places, &renamed, &fields,
+        alloc, objects, roots, g, blocks, numbering, places, spare, &renamed, &fields,
     )?;
     let _after = objects.free_count();
     Ok(report_of(workers, deliveries, collection.cells() as u64))

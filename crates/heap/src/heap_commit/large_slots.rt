@@ -10,6 +10,7 @@ ghost use Rattle.heap_objects.specs.Objects.{graph_in, heap_in};
 ghost use Rattle.heap_objects.specs.Sound.{AreObjects};
 ghost use Rattle.heap.specs.LargeSlots.{AreLargeSlots, kept_slots};
 
+use forwarding::Forwards;
 use heap_objects::HeapObjects;
 use layout::{LargeNumber, Place};
 use std::alloc::{AllocError, Allocator};
@@ -22,7 +23,7 @@ fn push_kept<A: Allocator + Clone>(
     objects: &HeapObjects<A>,
     numbering: &Numbering<A>,
     g: u8,
-    places: &[Option<Place>],
+    places: &Forwards<A>,
     number: LargeNumber,
 ) -> Result<(), AllocError>
     requires closed { IsClosed (graph_in objects.now) }
@@ -35,7 +36,7 @@ fn push_kept<A: Allocator + Clone>(
     let place = Place::Large(number);
     let (_object, at, named) = objects.find(numbering, g, place);
     match named {
-        Some(n) if places[n as usize].is_some() => {
+        Some(n) if places.place(n).is_some() => {
             objects.push_slots_of(slots, g, at.generation, place)
         }
         _ => Ok(()),
@@ -49,7 +50,7 @@ pub(crate) fn large_slots<A: Allocator + Clone>(
     objects: &HeapObjects<A>,
     numbering: &Numbering<A>,
     g: u8,
-    places: &[Option<Place>],
+    places: &Forwards<A>,
 ) -> Result<Vec<Slot, A>, AllocError>
     requires sound { AreObjects (heap_in objects.now) }
     requires closed { IsClosed (graph_in objects.now) }

@@ -13,8 +13,8 @@ ghost use Rattle.heap.specs.Moves.{Moves, field_write, writes_by};
 
 use crate::heap_commit::large_slots::large_slots;
 use crate::heap_commit::moves::{RenamedField, push_renamed};
+use forwarding::Forwards;
 use heap_objects::HeapObjects;
-use layout::Place;
 use std::alloc::{AllocError, Allocator};
 use steps::{Numbering, Slot};
 
@@ -26,7 +26,7 @@ pub(crate) fn moved_fields<A: Allocator + Clone>(
     slots: &[Slot],
     numbering: &Numbering<A>,
     g: u8,
-    places: &[Option<Place>],
+    places: &Forwards<A>,
 ) -> Result<Vec<RenamedField, A>, AllocError>
     requires sound { AreObjects (heap_in objects.now) }
     requires closed { IsClosed (graph_in objects.now) }

@@ -11,6 +11,7 @@ ghost use Rattle.heap.specs.HeapView.{SlotsLeadToObjects};
 ghost use Rattle.heap.specs.Moves.{Moves, field_write, roots_by, writes_by, with_writes};
 ghost use Rattle.heap.specs.RootView.{root_pair};
 
+use forwarding::Forwards;
 use heap_objects::HeapObjects;
 use layout::Place;
 use std::alloc::{AllocError, Allocator};
@@ -37,7 +38,7 @@ fn place_after<A: Allocator + Clone>(
     objects: &HeapObjects<A>,
     numbering: &Numbering<A>,
     g: u8,
-    places: &[Option<Place>],
+    places: &Forwards<A>,
     place: Place,
 ) -> Place
     requires numbering { IsNumbering (graph_in objects.now) g numbering.now }
@@ -48,10 +49,7 @@ fn place_after<A: Allocator + Clone>(
 {
     let (_object, _step, number) = objects.find(numbering, g, place);
     match number {
-        Some(number) => match places[number as usize] {
-            Some(new_place) => new_place,
-            None => place,
-        },
+        Some(number) => places.place(number).unwrap_or(place),
         None => place,
     }
 }
@@ -63,7 +61,7 @@ pub(crate) fn renamed_roots<A: Allocator + Clone>(
     slots: &[Slot],
     numbering: &Numbering<A>,
     g: u8,
-    places: &[Option<Place>],
+    places: &Forwards<A>,
 ) -> Result<Vec<RenamedRoot, A>, AllocError>
     requires numbering { IsNumbering (graph_in objects.now) g numbering.now }
     requires leads { SlotsLeadToObjects objects.now (map slot_value slots.now) }
@@ -91,7 +89,7 @@ pub(crate) fn push_renamed<A: Allocator + Clone>(
     slots: &[Slot],
     numbering: &Numbering<A>,
     g: u8,
-    places: &[Option<Place>],
+    places: &Forwards<A>,
 ) -> Result<(), AllocError>
     requires numbering { IsNumbering (graph_in objects.now) g numbering.now }
     requires leads { SlotsLeadToObjects objects.now (map slot_value slots.now) }

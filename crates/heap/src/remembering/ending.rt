@@ -32,10 +32,10 @@ fn note_all<A: Allocator + Clone>(
     settled: &Settled<A>,
 ) -> Result<(), AllocError>
     requires numbering { IsNumbering (graph_in objects.now) settled.now.collection.generation settled.now.collection.numbering }
-    requires count { length settled.now.places.items ≡ length (young_names (graph_in objects.now) settled.now.collection.generation) }
+    requires count { length settled.now.places ≡ length (young_names (graph_in objects.now) settled.now.collection.generation) }
     ensures grown { AreGrown sets.old sets.new }
     ensures copies { OnOk result (AreNoted sets.new (copies_of settled.now.blocks.items)) }
-    ensures large { OnOk result (AreLargeNoted sets.new objects.now settled.now.collection.generation settled.now.places.items) }
+    ensures large { OnOk result (AreLargeNoted sets.new objects.now settled.now.collection.generation settled.now.places) }
 {
     note_copies(sets, &settled.blocks)?;
     note_large(sets, objects, &settled.collection, &settled.places)
@@ -52,7 +52,7 @@ pub fn commit<A: Allocator + Clone>(
 ) -> Result<Report<A>, AllocError>
     requires closed { IsClosed (heap_with objects.old roots.old.slots sets.old).graph }
     requires settled { IsSettled (heap_with objects.old roots.old.slots sets.old)
-        settled.collection settled.places.items settled.blocks.items (all_won settled.workers.items) }
+        settled.collection settled.places settled.blocks.items (all_won settled.workers.items) }
     requires covers { CoversYounger (heap_with objects.old roots.old.slots sets.old).graph sets.old }
     requires generations { length sets.old ≡ objects.old.config.shape.generations }
     ensures ok { IfOk result (λ _. CollectedHeap (heap_with objects.old roots.old.slots sets.old) settled.collection.generation

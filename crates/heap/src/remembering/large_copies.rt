@@ -8,6 +8,7 @@ ghost use Rattle.heap.specs.Growth.{AreGrown};
 ghost use Rattle.heap.specs.Noted.{IsLargeNoted, AreLargeNoted};
 
 use crate::remembering::copies::has_pointer;
+use forwarding::Forwards;
 use heap_objects::HeapObjects;
 use layout::{LargeNumber, Place};
 use remembered_set::Remembered;
@@ -20,7 +21,7 @@ fn note_kept<A: Allocator + Clone>(
     sets: &mut Remembered<A>,
     objects: &HeapObjects<A>,
     collection: &Collection<A>,
-    places: &[Option<Place>],
+    places: &Forwards<A>,
     of: LargeNumber,
 ) -> Result<(), AllocError>
     requires numbering { IsNumbering (graph_in objects.now) collection.now.generation collection.now.numbering }
@@ -34,7 +35,7 @@ fn note_kept<A: Allocator + Clone>(
     let Some(number) = number else {
         return Ok(());
     };
-    if places[number as usize].is_none() {
+    if places.place(number).is_none() {
         return Ok(());
     }
     if !has_pointer(object.pointers) {
@@ -53,7 +54,7 @@ pub(crate) fn note_large<A: Allocator + Clone>(
     sets: &mut Remembered<A>,
     objects: &HeapObjects<A>,
     collection: &Collection<A>,
-    places: &[Option<Place>],
+    places: &Forwards<A>,
 ) -> Result<(), AllocError>
     requires numbering { IsNumbering (graph_in objects.now) collection.now.generation collection.now.numbering }
     requires count { length places.now ≡ length (young_names (graph_in objects.now) collection.now.generation) }

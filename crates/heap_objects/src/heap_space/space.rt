@@ -33,7 +33,7 @@ use nursery::{
 };
 use std::alloc::{AllocError, Allocator, Global};
 use std::marker::Model;
-use steps::{Config, StepCount, StepId};
+use steps::{Config, Spare, StepCount, StepId};
 
 /// The blocks of a heap, and which numbers are free.
 #[derive(Drop)]
@@ -46,6 +46,8 @@ pub struct Space<A: Allocator = Global> {
     pool: Pool<A>,
     // By generation the numbers of the blocks that hold objects, so that a collection needn't look at the others.
     areas: AreaFlags<A>,
+    // Memory for the next collection.
+    spare: Spare<A>,
 }
 
 impl<A: Allocator> Model for Space<A> {
@@ -101,6 +103,7 @@ impl<A: Allocator + Clone> Space<A> {
             nurseries,
             pool,
             areas,
+            spare: Spare::none(),
         })
     }
 
@@ -363,25 +366,58 @@ impl<A: Allocator + Clone> Space<A> {
         self.config
     }
 
-    /// Puts blocks in the place of all objects of generation at most `generation`. Where memory runs out nothing changes.
+    /// How many spare blocks it keeps for the next collection.
+    pub fn spare_blocks(&self) -> usize {
+        self.spare.block_count()
+    }
+
+    /// The memory that it keeps for the next collection.
+    pub fn take_spare(&mut self) -> Spare<A>
+        ensures { self.new ≡ self.old }
+    {
+        self.spare.take()
+    }
+
+    /// Keeps memory for the next collection: of its spare blocks at most as many as are in use, and that of these words if it is
+    /// no more than the memory of the blocks in use.
+    pub fn keep_spare(&mut self, words: Vec<u64, A>)
+        ensures { self.new ≡ self.old }
+    {
+        let used = self.config.blocks() - self.pool.free_count();
+        self.spare.keep_blocks(used);
+        self.spare
+            .keep_words(words, used * self.config.block_words());
+    }
+
+    /// Puts blocks in the place of all objects of generation at most `generation`. The memory of the blocks that are given up is
+    /// kept with `spare`. Where memory runs out nothing changes.
     pub fn replace(
         &mut self,
         alloc: A,
         generation: u8,
         blocks: Vec<Block<A>, A>,
+        spare: Spare<A>,
     ) -> Result<(), AllocError>
         requires { CanReplace self.old blocks.items }
         ensures ok { OnOk result (IsReplaced self.old generation blocks.items self.new) }
         ensures err { OnErr result (self.new ≡ self.old) }
     {
-        let old = young_blocks(alloc, &self.areas, generation)?;
+        let old = young_blocks(alloc.clone()?, &self.areas, generation)?;
+        self.spare.join(alloc, spare, old.len())?;
         let end = end_of(&blocks);
         grow(&mut self.table, end)?;
         self.areas.reserve(end)?;
         remove_blocks(&mut self.areas, &old);
         add_blocks(&mut self.areas, &blocks);
         let count = nursery_blocks(self.config);
-        exchange(&mut self.table, &mut self.pool, count, &old, blocks);
+        exchange(
+            &mut self.table,
+            &mut self.pool,
+            count,
+            &old,
+            blocks,
+            &mut self.spare,
+        );
         reset_all(&mut self.nurseries);
         Ok(())
     }

@@ -11,7 +11,7 @@ ghost use Rattle.settling.specs.Together.{Reports};
 use crate::interleaved_settling::settle_error::SettleError;
 use heap::{Collection, Heap, Settled};
 use scavenge::Workspace;
-use settling::{all_delivered, brought, places_in, show_all};
+use settling::{all_delivered, brought, show_all};
 use std::alloc::{AllocError, Allocator};
 use workers_in_turn::{InterleavedCollection, InterleavedParts, Member};
 
@@ -40,7 +40,7 @@ fn gathered<A: Allocator + Clone>(
     requires heap { heap.now ≡ workers.heap }
     requires collection { collection ≡ workers.collection }
     requires ended { AllEnded (system_of workers) }
-    ensures settled { IfOk result (λ s. IsSettled workers.heap s.collection s.places.items s.blocks.items (all_won s.workers.items)) }
+    ensures settled { IfOk result (λ s. IsSettled workers.heap s.collection s.places s.blocks.items (all_won s.workers.items)) }
     ensures collection { IfOk result (λ s. s.collection ≡ workers.collection) }
     ensures once { IfOk result (λ s. ScansOnce workers.heap workers.collection.generation s.workers.items) }
     ensures reports { IfOk result (λ s. Reports workers.heap workers.collection.generation (system_of workers) s.workers.items s.deliveries.items) }
@@ -54,8 +54,8 @@ fn gathered<A: Allocator + Clone>(
     } = workers.into_parts();
     let n = members.len() as u32;
     let workspaces = workspaces_of(alloc.clone()?, members)?;
-    let (reports, blocks) = brought(alloc.clone()?, heap, &collection, workspaces)?;
-    let mut places = places_in(alloc.clone()?, cells, pass)?;
+    let (reports, blocks, spare) = brought(alloc.clone()?, heap, &collection, workspaces)?;
+    let mut places = cells.settle_alone(pass);
     show_all(&mut places, &reports);
     let told = queues.close(alloc.clone()?, Vec::new(alloc.clone()?))?;
     let deliveries = all_delivered(alloc, &told, n)?;
@@ -65,6 +65,7 @@ fn gathered<A: Allocator + Clone>(
         blocks,
         workers: reports,
         deliveries,
+        spare,
     })
 }
 
@@ -79,7 +80,7 @@ pub fn settle<A: Allocator + Clone>(
     requires heap { heap.now ≡ workers.heap }
     requires collection { collection ≡ workers.collection }
     ensures ended { (result ≡ Err SettleError.NotEnded) ↔ ¬ AllEnded (system_of workers) }
-    ensures settled { IfOk result (λ s. IsSettled workers.heap s.collection s.places.items s.blocks.items (all_won s.workers.items)) }
+    ensures settled { IfOk result (λ s. IsSettled workers.heap s.collection s.places s.blocks.items (all_won s.workers.items)) }
     ensures collection { IfOk result (λ s. s.collection ≡ workers.collection) }
     ensures once { IfOk result (λ s. ScansOnce workers.heap workers.collection.generation s.workers.items) }
     ensures reports { IfOk result (λ s. Reports workers.heap workers.collection.generation (system_of workers) s.workers.items s.deliveries.items) }

@@ -8,6 +8,7 @@ ghost use Rattle.nursery.specs.Installed.{installed};
 use crate::block_table::table::Table;
 use block_pool::{Block, Pool};
 use std::alloc::{AllocError, Allocator};
+use steps::Spare;
 
 fn clear_slot<A: Allocator>(slot: &mut Option<Block<A>>)
     ensures { slot.new ≡ cleared slot.old }
@@ -17,11 +18,13 @@ fn clear_slot<A: Allocator>(slot: &mut Option<Block<A>>)
     }
 }
 
-fn drop_block<A: Allocator>(table: &mut [Option<Block<A>>], number: usize)
+fn drop_block<A: Allocator>(table: &mut [Option<Block<A>>], number: usize, spare: &mut Spare<A>)
     requires { number < length table.old }
     ensures { table.new ≡ slice_set table.old number None }
 {
-    table[number] = None;
+    if let Some(block) = table[number].take() {
+        spare.keep(block);
+    }
 }
 
 fn put_block<A: Allocator>(table: &mut [Option<Block<A>>], block: Block<A>)
@@ -38,6 +41,7 @@ fn give_up<A: Allocator>(
     pool: &mut Pool<A>,
     count: usize,
     number: u32,
+    spare: &mut Spare<A>,
 )
     requires in_table { number < length table.old }
     requires in_pool { count ≤ number → number < pool.old.limit }
@@ -50,7 +54,7 @@ fn give_up<A: Allocator>(
         clear_slot(&mut table[number as usize]);
         return;
     }
-    drop_block(table, number as usize);
+    drop_block(table, number as usize, spare);
     pool.give_back(number);
 }
 
@@ -60,6 +64,7 @@ fn give_up_area<A: Allocator>(
     pool: &mut Pool<A>,
     count: usize,
     area: &[u32],
+    spare: &mut Spare<A>,
 )
     requires in_table { (n : ℕ) → has area.now n ≡ true → n < length table.old }
     requires in_pool { (n : ℕ) → has area.now n ≡ true → count ≤ n → n < pool.old.limit }
@@ -71,7 +76,7 @@ fn give_up_area<A: Allocator>(
     ensures limit { pool.new.limit ≡ pool.old.limit }
 {
     for number in area {
-        give_up(table, pool, count, *number);
+        give_up(table, pool, count, *number, spare);
     }
 }
 
@@ -124,13 +129,15 @@ fn install<A: Allocator>(
     }
 }
 
-/// Empties the blocks of the old area that are among the first, drops its others, and puts in the new ones.
+/// Empties the blocks of the old area that are among the first, drops its others, and puts in the new ones. The memory of
+/// the blocks that it drops is spare, as far as there is room.
 pub fn exchange<A: Allocator>(
     table: &mut [Option<Block<A>>],
     pool: &mut Pool<A>,
     count: usize,
     old_area: &[u32],
     blocks: Vec<Block<A>, A>,
+    spare: &mut Spare<A>,
 )
     requires in_table { (n : ℕ) → has old_area.now n ≡ true → n < length table.old }
     requires in_pool { (n : ℕ) → has old_area.now n ≡ true → count ≤ n → n < pool.old.limit }
@@ -147,6 +154,6 @@ pub fn exchange<A: Allocator>(
         ≡ (((nat_le count n && has old_area.now n) || has pool.old.free n) && not (is_some (installed blocks.items n))) }
     ensures limit { pool.new.limit ≡ pool.old.limit }
 {
-    give_up_area(table, pool, count, old_area);
+    give_up_area(table, pool, count, old_area, spare);
     install(table, pool, blocks);
 }

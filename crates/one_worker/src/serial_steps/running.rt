@@ -6,6 +6,7 @@ ghost use Rattle.one_worker.specs.Stepping.{IsOf, IsDone, IsFullForLook, IsLeftT
 
 use crate::SerialCollection;
 use crate::serial_steps::events::step;
+use crate::serial_steps::sweeping::swept;
 use heap::{Collection, Heap};
 use scavenge::{Evacuated, LookError};
 use std::alloc::{AllocError, Allocator};
@@ -85,21 +86,36 @@ fn scavenge_and_step<A: Allocator + Clone>(
     step(alloc, heap, collection, serial)
 }
 
-/// Carries the collection on until nothing is left to do.
+/// Carries the collection on until nothing is left to do. Where a block is held in hand, a sweep goes over it first. An error
+/// leaves what didn't come as the next event.
 pub fn run_to_end<A: Allocator + Clone>(
     alloc: A,
     heap: &Heap<A>,
     collection: &Collection<A>,
-    serial: &mut SerialCollection<A>,
-) -> Result<(), LookError>
+    mut serial: SerialCollection<A>,
+) -> (SerialCollection<A>, Result<(), LookError>)
     requires ready { IsReadyToCollect heap.now collection.now }
-    requires same { IsOf heap.now collection.now serial.old }
-    requires stepped { HasStepped serial.old }
-    ensures same { IsOf heap.now collection.now serial.new }
-    ensures stepped { HasStepped serial.new }
-    ensures ok { OnOk result (IsDone serial.new) }
-    ensures full { result ≡ Err LookError.HeapFull → IsFullForLook serial.new serial.new }
+    requires same { IsOf heap.now collection.now serial }
+    requires stepped { HasStepped serial }
+    ensures same { IsOf heap.now collection.now result.0 }
+    ensures stepped { HasStepped result.0 }
+    ensures ok { OnOk result.1 (IsDone result.0) }
+    ensures full { result.1 ≡ Err LookError.HeapFull → IsFullForLook result.0 result.0 }
 {
-    while scavenge_and_step(alloc.clone()?, heap, collection, serial)? {}
-    Ok(())
+    loop {
+        if serial.holds_block() && !serial.has_proposal() {
+            if serial.reserve_sweep().is_err() {
+                return (serial, Err(LookError::NoMemory));
+            }
+            serial = swept(heap, collection, serial);
+        }
+        let Ok(own) = alloc.clone() else {
+            return (serial, Err(LookError::NoMemory));
+        };
+        match scavenge_and_step(own, heap, collection, &mut serial) {
+            Ok(true) => {}
+            Ok(false) => return (serial, Ok(())),
+            Err(error) => return (serial, Err(error)),
+        }
+    }
 }

@@ -1,5 +1,5 @@
 //! The blocks that a worker copies into.
-ghost use Rattle.std.specs.Prelude.{◌≡◌, ◌+◌, ◌≤◌, ◌<◌, ◌++◌, ◌∷◌, [], true, Some, None, length, slice_get, slice_set, nat_lt, replicate, IfOk, IsSomeAnd, IsTrue, ◌↔◌};
+ghost use Rattle.std.specs.Prelude.{◌≡◌, ◌+◌, ◌≤◌, ◌<◌, ◌++◌, ◌∷◌, [], true, Some, None, length, slice_get, slice_set, nat_lt, replicate, IfOk, IsSome, IsSomeAnd, IsTrue, ◌↔◌};
 ghost use Rattle.std.specs.Option.{option_map};
 ghost use Rattle.layout.specs.Object.{Raw, raw_size};
 ghost use Rattle.layout.specs.ObjectRef.{raw_of};
@@ -29,7 +29,8 @@ impl<A: Allocator> Model for AllocationBlocks<A> {
     ghost view = { λ table. table.blocks.items };
 }
 
-fn take_back<A: Allocator>(block: &mut Block<A>)
+#[inline(always)]
+pub(crate) fn take_back<A: Allocator>(block: &mut Block<A>)
     ensures { block.old.front < length block.old.objects → block.new ≡ record block.old { objects = without_last block.old.objects } }
 {
     if block.front() < block.len() {
@@ -38,7 +39,7 @@ fn take_back<A: Allocator>(block: &mut Block<A>)
 }
 
 #[inline(always)]
-fn note<A: Allocator>(block: &mut Block<A>, origin: u64)
+pub(crate) fn note<A: Allocator>(block: &mut Block<A>, origin: u64)
     requires { length block.old.origins < length block.old.objects }
     ensures { block.new ≡ record block.old { origins = block.old.origins ++ origin ∷ [] } }
 {
@@ -48,7 +49,7 @@ fn note<A: Allocator>(block: &mut Block<A>, origin: u64)
 }
 
 #[inline(always)]
-fn push<A: Allocator>(block: &mut Block<A>, object: ObjectRef<'_>) -> Place
+pub(crate) fn push<A: Allocator>(block: &mut Block<A>, object: ObjectRef<'_>) -> Place
     requires { used_of block.old + raw_size (raw_of object) ≤ block.old.words }
     ensures place { place_word result ≡ small_word block.old.number (used_of block.old) }
     ensures pushed { block.new ≡ record block.old { objects = block.old.objects ++ raw_of object.entry ∷ [] } }
@@ -85,6 +86,26 @@ impl<A: Allocator> AllocationBlocks<A> {
     {
         let slot = &mut self.blocks[d];
         slot.replace(block)
+    }
+
+    /// Whether there is a block for a destination.
+    pub fn has_block(&self, d: usize) -> bool
+        ensures { IsTrue result ↔ IsSome (slot_at self.now d) }
+    {
+        match self.blocks.get(d) {
+            Some(slot) => slot.is_some(),
+            None => false,
+        }
+    }
+
+    /// Takes out the block for a destination.
+    pub fn take(&mut self, d: usize) -> Option<Block<A>>
+        requires { d < length self.old }
+        ensures old { result ≡ slot_at self.old d }
+        ensures table { self.new ≡ slice_set self.old d None }
+    {
+        let slot = &mut self.blocks[d];
+        slot.take()
     }
 
     /// Pointer `i` of the first unscanned object of the block for a destination, where there is one.

@@ -3,4 +3,5 @@ mod allocation;
 mod fronts;
 
 pub use allocation::AllocationBlocks;
+pub(crate) use allocation::{note, push, take_back};
 pub use fronts::{front_pointer, pass_front, pointer_of, write_front};

@@ -12,4 +12,6 @@ mod scanning;
 mod workspace;
 
 pub use current::Current;
+pub use hand::Hand;
+pub use proposed::Proposed;
 pub use workspace::{Parts, Workspace};

@@ -10,7 +10,7 @@ use crate::workspace::hand::Hand;
 use crate::workspace::opening::every_target;
 use crate::workspace::workspace::Workspace;
 use boxcar::tag::{Names, Tag};
-use heap::{Collection, Heap};
+use heap::{Collection, Heap, Spare};
 use layout::Place;
 use std::alloc::{AllocError, Allocator};
 use std::collections::VecDeque;
@@ -65,6 +65,7 @@ impl<A: Allocator + Clone> Workspace<A> {
             won_room: 0,
             block_room: 0,
             names: Tag::of::<(&Heap<A>, &Collection<A>), Numbered>(&(heap, collection)),
+            memory: Spare::none(),
         })
     }
 }

@@ -3,6 +3,7 @@ ghost use Rattle.std.specs.Prelude.{◌≡◌, ◌≢◌, ◌↔◌, [], true, N
 ghost use Rattle.workers.specs.Worker.{Nothing};
 ghost use Rattle.workers.specs.WorkerSteps.{has_open_work};
 ghost use Rattle.scavenge.specs.Shown.{CanRead, known_of, known_slot};
+ghost use Rattle.scavenge.specs.Swept.{is_holding};
 
 use crate::to_space::front_pointer;
 use crate::workspace::current::Current;
@@ -70,6 +71,14 @@ impl<A: Allocator> Workspace<A> {
         ensures { IsTrue result ↔ (self.now.worker.hand ≢ Nothing) }
     {
         !matches!(self.hand, Hand::Nothing)
+    }
+
+    /// Whether a block is held in hand that was retired or taken.
+    #[inline(always)]
+    pub fn holds_block(&self) -> bool
+        ensures { result ≡ is_holding self.now.worker.hand }
+    {
+        matches!(self.hand, Hand::Holding(_))
     }
 
     /// Whether the start list is finished.

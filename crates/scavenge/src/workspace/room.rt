@@ -42,4 +42,13 @@ impl<A: Allocator> Workspace<A> {
     {
         self.block_room -= 1;
     }
+
+    /// Reserves room for what a sweep over one block brings, beside what is reserved. An error says that memory ran out.
+    pub fn reserve_sweep(&mut self) -> Result<(), AllocError>
+        ensures { self.new ≡ self.old }
+    {
+        let most = self.config.block_words();
+        self.won.reserve(self.won_room.saturating_add(most))?;
+        self.scanned.reserve(most)
+    }
 }

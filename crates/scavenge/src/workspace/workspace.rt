@@ -1,7 +1,8 @@
 //! `Workspace`: one worker's part, what comes in hand, and what it brings back.
-ghost use Rattle.std.specs.Prelude.{◌≡◌, ◌≢◌, ◌<◌, ◌∷◌, [], true, false, None, is_some, All, IfSome, MatchOption, ℕ, length, map};
+ghost use Rattle.std.specs.Prelude.{◌≡◌, ◌≢◌, ◌<◌, ◌≤◌, ◌∷◌, [], true, false, None, is_some, All, IfOk, IfSome, MatchOption, ℕ, length, map};
 ghost use Rattle.std.specs.Option.{option_map};
 ghost use Rattle.layout.specs.Place.{place_word};
+ghost use Rattle.block_pool.specs.BlockValue.{empty_block};
 ghost use Rattle.steps.specs.ReportValue.{renaming_of};
 ghost use Rattle.steps.specs.ReportView.{won_value};
 ghost use Rattle.workers.specs.Block.{has_unscanned};
@@ -16,9 +17,9 @@ use crate::workspace::hand::Hand;
 use crate::workspace::proposed::Proposed;
 use block_pool::Block;
 use boxcar::tag::Tag;
-use heap::Won;
+use heap::{Spare, Won};
 use layout::Place;
-use std::alloc::{Allocator, Global};
+use std::alloc::{AllocError, Allocator, Global};
 use std::collections::VecDeque;
 use std::marker::Model;
 use steps::Config;
@@ -52,6 +53,8 @@ pub struct Workspace<A: Allocator = Global> {
     pub(crate) block_room: usize,
     /// The names that the collection numbers, by number: for contracts alone.
     pub(crate) names: Tag,
+    /// Memory for blocks that it draws.
+    pub(crate) memory: Spare<A>,
 }
 
 /// What one worker brings back.
@@ -65,6 +68,8 @@ pub struct Parts<A: Allocator = Global> {
     /// Each object that it won, by number, and its place.
     pub won: Vec<Won, A>,
     pub scanned: Vec<Place, A>,
+    /// Memory that it did not need.
+    pub spare: Spare<A>,
 }
 
 impl<A: Allocator> Model for Workspace<A> {
@@ -105,6 +110,25 @@ impl<A: Allocator> Model for Workspace<A> {
 }
 
 impl<A: Allocator> Workspace<A> {
+    /// Gives it memory for the blocks that it draws.
+    pub fn supply(&mut self, memory: Spare<A>)
+        ensures { self.new ≡ self.old }
+    {
+        self.memory = memory;
+    }
+
+    /// An empty block of so many words. An error says that memory ran out.
+    pub fn new_block(&mut self, alloc: A, words: usize) -> Result<Block<A>, AllocError>
+    where
+        A: Clone,
+        requires words_from { 16 ≤ words }
+        requires words_to { words ≤ 512 }
+        ensures block { IfOk result (λ block. block ≡ empty_block words) }
+        ensures same { self.new ≡ self.old }
+    {
+        self.memory.block(alloc, words)
+    }
+
     /// Takes the allocation block for a destination in hand.
     pub fn own(&mut self, d: usize)
         requires free { IsFree self.old.worker }
@@ -187,6 +211,7 @@ impl<A: Allocator> Workspace<A> {
             won_room: _,
             block_room: _,
             names: _,
+            memory,
         } = self;
         Parts {
             allocation: allocation.into_blocks(),
@@ -194,6 +219,7 @@ impl<A: Allocator> Workspace<A> {
             large: claimed_done,
             won,
             scanned,
+            spare: memory,
         }
     }
 }

@@ -5,7 +5,9 @@ ghost use Rattle.steps.specs.SlotView.{slot_value};
 use crate::heap_values::numbering::Numbering;
 use crate::heap_values::report::{Delivery, WorkerReport};
 use crate::heap_values::root_id::RootId;
+use crate::heap_values::spare::Spare;
 use block_pool::{Block, RankedSet};
+use forwarding::Forwards;
 use layout::Place;
 use std::alloc::{Allocator, Global};
 use std::marker::Model;
@@ -130,9 +132,11 @@ impl<A: Allocator> Collection<A> {
 pub struct Settled<A: Allocator = Global> {
     pub collection: Collection<A>,
     /// The new place of each object by its number, or none where it is gone.
-    pub places: Vec<Option<Place>, A>,
+    pub places: Forwards<A>,
     /// The blocks that hold the copies.
     pub blocks: Vec<Block<A>, A>,
     pub workers: Vec<WorkerReport<A>, A>,
     pub deliveries: Vec<Delivery, A>,
+    /// Memory that they did not need.
+    pub spare: Spare<A>,
 }

@@ -4,9 +4,11 @@ mod collection;
 mod numbering;
 mod report;
 mod root_id;
+mod spare;
 
 pub use census::{Census, LargeCount, StepCount};
 pub use collection::{Collection, Settled, Slot};
 pub use numbering::Numbering;
 pub use report::{Delivery, Report, Won, WorkerReport};
 pub use root_id::RootId;
+pub use spare::Spare;

@@ -29,7 +29,7 @@ pub fn settled_by_schedule<'t, A: Allocator + Clone>(
     requires most { workers ≤ 16 }
     requires room { start + 1 + length text.now < 2 ^ 127 }
     ensures ok { IfOk result (λ found. BringsToCommit heap.now generation workers start text.now found.1 found.2.now
-        found.0.collection found.0.places.items found.0.blocks.items found.0.workers.items found.0.deliveries.items) }
+        found.0.collection found.0.places found.0.blocks.items found.0.workers.items found.0.deliveries.items) }
     ensures left { IfOk result (λ found. found.1 + length found.2.now ≤ start + length text.now) }
     ensures err { IfErr result (λ e. MatchEachFault e
         (λ at kind. StopsAt (IsUnreadable kind) (setting_at heap.now generation workers) (opening_at heap.now generation workers) (start + 1) text.now at)

@@ -1,6 +1,6 @@
-use Rattle.std.proofs.Common.{◌≡◌, length, sym, ap, subst, ◌∙◌, arith}
+use Rattle.std.proofs.Common.{◌≡◌, length, ap, subst, ◌∙◌, arith}
 use Rattle.std.specs.Prelude.{IfOk, IfSome}
-use Rattle.forwarding.specs.Words.{WordPassValue, WordsValue, fresh_pass}
+use Rattle.forwarding.specs.Words.{WordPassValue, fresh_pass}
 use Rattle.steps.specs.declared.heap_values.collection.Settled.{Settled}
 use Rattle.workers_in_threads.specs.Reports.{ReportsApart, IsShortOfBlocksFor}
 use Rattle.workers_in_threads.proofs.Back.{workspaces_count}
@@ -11,7 +11,7 @@ pub scavenged_apart-requires-clause-passes : goal.scavenged_apart-requires-claus
 scavenged_apart-requires-clause-passes g c κs within = at_all (λ p. p ≡ fresh_pass c.in_ok-cells.cells.id) (λ p. p.id ≡ c.in_ok-cells.cells.id) (λ p e. ap (λ (q : WordPassValue). q.id) e) c.in_ok-cells.passes.items c.in_ok-cells.ensures.fresh
 
 pub settle-settled-requires-clause-passes : goal.settle-settled-requires-clause-passes
-settle-settled-requires-clause-passes g c = each_pass _ _ _ _ _ _ _ _ _ _ _ _ _ c.in_ok-ending.ensures (λ p. p.id ≡ c.cells-2.inside.table.shared.table_id) (λ i p h. h ∙ sym (ap (λ (x : WordsValue). x.id) c.cells-2.view_is))
+settle-settled-requires-clause-passes g c = each_pass _ _ _ _ _ _ _ _ _ _ _ _ _ c.in_ok-ending.ensures (λ p. p.id ≡ c.in_ok-cells.cells.id) (λ i p h. h)
 
 pub concluded-requires-clause-some : goal.concluded-requires-clause-some
 concluded-requires-clause-some g c κs within = omega (arith, workspaces_count _ _ _ _ _ _ _ _ _ _ _ _ _ c.in_ok-ending.ensures, c.in_ok-cells.ensures.many, c.requires.some)
@@ -21,7 +21,7 @@ concluded-requires-clause-few g c κs within = omega (arith, workspaces_count _ 
 
 pub concluded-requires-clause-settled : goal.concluded-requires-clause-settled
 concluded-requires-clause-settled g c κs within =
-    were_settled _ _ _ _ _ _ _ _ _ _ _ _ c.in_ok-cells.cells c.in_ok-ending.field-0.passes.items c.settle-settled.result c.in_ok-ending.ensures c.cells-2.inside.plan.count (ap (λ (x : WordsValue). x.count) c.cells-2.view_is ∙ c.in_ok-cells.ensures.cells.0 ∙ c.cells.ensures) c.settle-settled.ensures.settled c.settle-settled.ensures.many
+    were_settled _ _ _ _ _ _ _ _ _ _ _ _ c.in_ok-cells.cells c.in_ok-ending.field-0.passes.items c.settle-settled.result c.in_ok-ending.ensures c.in_ok-cells.cells.count (c.in_ok-cells.ensures.cells.0 ∙ c.cells.ensures) c.settle-settled.ensures.settled c.settle-settled.ensures.many
     (λ e. absurd (c.settle-settled.ensures.never_unsettled e))
 
 pub returns-clause-apart : goal.returns-clause-apart

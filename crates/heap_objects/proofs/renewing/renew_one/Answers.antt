@@ -1,17 +1,16 @@
-use Rattle.std.proofs.Common.{◌≤◌, None, is_some, slice_index, sym, ap, subst, ◌∙◌, arith}
+use Rattle.std.proofs.Common.{◌≤◌, is_some, sym, ap, subst, ◌∙◌, arith}
 use Rattle.model.specs.Destination.{IsStep}
 use Rattle.steps.specs.StepPairs.{step_pair}
 use Rattle.heap_objects.specs.Space.{IsSpace, SpaceValue, pool_in}
 use Rattle.large_objects.specs.LargeValue.{without_object}
 use Rattle.large_objects.specs.PoolBlocks.{ArePoolBlocks}
-use Rattle.nursery.proofs.TableSteps.{get_or_any}
 use Rattle.heap_objects.proofs.LargeReads.{in_use}
 use Rattle.heap_objects.specs.Inside.{AreApart}
 use Rattle.heap_objects.proofs.Renewals.{dest_is_step, with-others, goes_to, renewed_kept, relabelled, removed_apart}
 use Rattle.heap_objects.proofs.renewing.renew_one.Goals as goal
 
-pub returns-in-Some-places-clause-apart : goal.returns-in-Some-places-clause-apart
-returns-in-Some-places-clause-apart g c =
+pub returns-in-Some-place-clause-apart : goal.returns-in-Some-place-clause-apart
+returns-in-Some-place-clause-apart g c =
     let number = c.args.number.number in
     let shape = c.args.space.now.config.shape in
     let range = c.requires.apart.small.in_range in
@@ -23,8 +22,8 @@ returns-in-Some-places-clause-apart g c =
     let pool = rw changed at (c.relabel.ensures.pool_blocks (pool_in c.args.space.now) c.requires.apart.pool) in
     rw changed (relabelled c.args.large.now number object.0 object.1 c.args.space.now c.requires.apart c.dest-at.result.generation c.dest-at.result.step step pool)
 
-pub returns-in-Some-places-clause-this : goal.returns-in-Some-places-clause-this
-returns-in-Some-places-clause-this g c =
+pub returns-in-Some-place-clause-this : goal.returns-in-Some-place-clause-this
+returns-in-Some-place-clause-this g c =
     let number = c.args.number.number in
     let shape = c.args.space.now.config.shape in
     let object = in_use c.args.large.now number c.requires.in_use in
@@ -32,11 +31,11 @@ returns-in-Some-places-clause-this g c =
     let to = goes_to c.args.large.now number object.0 object.1 c.step_of.result c.in-Some.generation c.in-Some.step shape c.config.result.shape (step_pair c.dest-at.result) c.step_of.ensures c.in-Some.is c.dest-at.ensures (ap (λ k. k.shape) c.config.ensures.value) in
     let le : object.0.generation ≤ c.args.g = omega (arith, to.generation_is, c.if-generation-g.false) in
     let in_range = (c.requires.numbered object.0 object.1 le).1 in
-    let kept = ap is_some (get_or_any c.args.places.now (slice_index c.args.numbers.now number) None _ in_range ∙ c.in-Some-places.is) in
+    let kept = ap is_some (sym c.place.ensures ∙ c.in-Some-place.is) in
     rw changed (renewed_kept c.args.large.now number object.0 object.1 shape c.args.g _ (step_pair c.dest-at.result) le kept to.is_dest)
 
-pub returns-in-Some-places-clause-others : goal.returns-in-Some-places-clause-others
-returns-in-Some-places-clause-others g c =
+pub returns-in-Some-place-clause-others : goal.returns-in-Some-place-clause-others
+returns-in-Some-place-clause-others g c =
     let object = in_use c.args.large.now c.args.number.number c.requires.in_use in
     let changed = c.relabel.ensures.changed object.0 object.1 in
     λ other ne. rw changed (with-others c.args.large.now c.args.number.number object.0 object.1 _ other ne)

@@ -1,4 +1,4 @@
-use Rattle.std.proofs.Common.{◌≡◌, false, sym, ap, ◌∙◌, arith, le-ltb, lt-ltb}
+use Rattle.std.proofs.Common.{sym, ap, ◌∙◌, arith, le-ltb, lt-ltb}
 use Rattle.model.specs.Config.{Config}
 use Rattle.model.specs.Destination.{dest}
 use Rattle.layout.specs.Place.{place_word}

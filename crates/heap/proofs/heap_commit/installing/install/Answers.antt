@@ -4,7 +4,7 @@ use Rattle.heap.proofs.Writable.{still_there}
 use Rattle.heap.proofs.heap_commit.installing.install.Goals as goal
 
 pub write_fields-requires : goal.write_fields-requires
-write_fields-requires g c = still_there c.args.objects.now c.args.g c.args.blocks.items c.args.places.now c.replace.new.self (map field_write c.args.fields.now) c.in_ok-replace.ensures.ok c.requires.fields
+write_fields-requires g c = still_there c.args.objects.now c.args.g c.args.blocks.items c.args.places c.replace.new.self (map field_write c.args.fields.now) c.in_ok-replace.ensures.ok c.requires.fields
 
 pub returns-clause-objects : goal.returns-clause-objects
 returns-clause-objects g c =

@@ -14,18 +14,18 @@ pub note_all-requires-clause-count : goal.note_all-requires-clause-count
 note_all-requires-clause-count g c = c.requires.settled.places_count ∙ c.requires.settled.opened.cells
 
 pub commit-requires-clause-settled : goal.commit-requires-clause-settled
-commit-requires-clause-settled g c = settled_without c.args.objects.now c.args.roots.now.slots c.args.sets.now c.args.settled.collection c.args.settled.places.items c.args.settled.blocks.items (all_won c.args.settled.workers.items) c.requires.settled
+commit-requires-clause-settled g c = settled_without c.args.objects.now c.args.roots.now.slots c.args.sets.now c.args.settled.collection c.args.settled.places c.args.settled.blocks.items (all_won c.args.settled.workers.items) c.requires.settled
 
 pub returns-in-Ok-commit-clause-ok : goal.returns-in-Ok-commit-clause-ok
 returns-in-Ok-commit-clause-ok g c =
-    let settled = settled_without c.args.objects.now c.args.roots.now.slots c.args.sets.now c.args.settled.collection c.args.settled.places.items c.args.settled.blocks.items (all_won c.args.settled.workers.items) c.requires.settled in
-    collected_with c.args.objects.now c.commit.new.objects c.args.roots.now.slots c.commit.new.roots.slots c.args.sets.now c.note_all.new.sets c.keep_holders.new.sets c.args.settled.collection c.args.settled.places.items c.args.settled.blocks.items (all_won c.args.settled.workers.items)
+    let settled = settled_without c.args.objects.now c.args.roots.now.slots c.args.sets.now c.args.settled.collection c.args.settled.places c.args.settled.blocks.items (all_won c.args.settled.workers.items) c.requires.settled in
+    collected_with c.args.objects.now c.commit.new.objects c.args.roots.now.slots c.commit.new.roots.slots c.args.sets.now c.note_all.new.sets c.keep_holders.new.sets c.args.settled.collection c.args.settled.places c.args.settled.blocks.items (all_won c.args.settled.workers.items)
     c.free_count-before.ensures.sound c.requires.closed settled c.requires.covers c.requires.generations c.in-Ok-commit.ensures.ok c.in-Ok-commit.ensures.sound c.note_all.ensures.grown c.in-Ok.ensures.copies c.in-Ok.ensures.large c.keep_holders.ensures.generations c.keep_holders.ensures.members c.keep_holders.ensures.once
 
 pub returns-in-Ok-commit-clause-sound : goal.returns-in-Ok-commit-clause-sound
 returns-in-Ok-commit-clause-sound g c =
-    let settled = settled_without c.args.objects.now c.args.roots.now.slots c.args.sets.now c.args.settled.collection c.args.settled.places.items c.args.settled.blocks.items (all_won c.args.settled.workers.items) c.requires.settled in
-    whole_with c.args.objects.now c.commit.new.objects c.args.roots.now.slots c.commit.new.roots.slots c.args.sets.now c.note_all.new.sets c.keep_holders.new.sets c.args.settled.collection c.args.settled.places.items c.args.settled.blocks.items (all_won c.args.settled.workers.items)
+    let settled = settled_without c.args.objects.now c.args.roots.now.slots c.args.sets.now c.args.settled.collection c.args.settled.places c.args.settled.blocks.items (all_won c.args.settled.workers.items) c.requires.settled in
+    whole_with c.args.objects.now c.commit.new.objects c.args.roots.now.slots c.commit.new.roots.slots c.args.sets.now c.note_all.new.sets c.keep_holders.new.sets c.args.settled.collection c.args.settled.places c.args.settled.blocks.items (all_won c.args.settled.workers.items)
     c.free_count-before.ensures.sound c.requires.closed settled c.requires.covers c.requires.generations c.in-Ok-commit.ensures.ok c.in-Ok-commit.ensures.sound c.note_all.ensures.grown c.in-Ok.ensures.copies c.in-Ok.ensures.large c.keep_holders.ensures.generations c.keep_holders.ensures.members c.keep_holders.ensures.once
 
 pub returns-in-Err-clause-sets_as_before : goal.returns-in-Err-clause-sets_as_before

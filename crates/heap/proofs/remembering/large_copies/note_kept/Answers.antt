@@ -16,7 +16,7 @@ pub returns-then-is_none-clause-noted : goal.returns-then-is_none-clause-noted
 returns-then-is_none-clause-noted g c =
     let at = rw c.in-Some.is at c.find-number.ensures.number in
     let numbered = rw c.generation.ensures at at.1 in
-    noted_gone c.args.objects.now c.args.collection.now.generation c.args.places.now c.args.sets.now c.args.of.number c.in-Some.number c.index-places-number.result numbered (omega (arith, numbered.in_range, c.requires.count)) c.index-places-number.is (c.is_none.ensures ∙ rw c.if-is_none.true refl)
+    noted_gone c.args.objects.now c.args.collection.now.generation c.args.places.now c.args.sets.now c.args.of.number c.in-Some.number c.place.result numbered c.place.ensures (c.is_none.ensures ∙ rw c.if-is_none.true refl)
 
 pub returns-clause-grown : goal.returns-clause-grown
 returns-clause-grown g c =

@@ -34,7 +34,7 @@ returns-clause-ok g c =
     let space = c.self.inside.space in
     let large = c.self.inside.large in
     let mid = c.replace.new.self in
-    let places = c.args.places.now in
+    let places = c.args.places in
     let numbering = rw (← c.self.view_is) at c.requires.numbering in
     let done = c.in_ok-replace.ensures.ok in
     let after = subst (λ (s : SpaceValue). AreApart s c.renew.new.large) c.renew.ensures.space c.renew.ensures.apart in
@@ -42,4 +42,4 @@ returns-clause-ok g c =
     ∙ ap (λ (ns : List ℕ). option_and_then (renewed mid.config.shape c.args.generation (is_some (slice_index_or places (slice_index ns n) None))) (large_at large n)) c.large.ensures
     ∙ ap (λ (k : Config). option_and_then (renewed k.shape c.args.generation (is_some (slice_index_or places (slice_index c.args.numbering.now.large n) None))) (large_at large n)) done.config in
     let replaced = is_replaced space mid c.renew.new.space.free large c.renew.new.large c.args.generation c.args.blocks.items c.args.numbering.now places c.self.invariant after numbering each done in
-    rw (← c.self.view_is) (subst (λ (s : SpaceValue). IsReplaced (objects_of space large) c.args.generation c.args.blocks.items places (objects_of s c.renew.new.large)) (sym c.renew.ensures.space) replaced)
+    rw (← c.self.view_is, c.keep_spare.ensures) (subst (λ (s : SpaceValue). IsReplaced (objects_of space large) c.args.generation c.args.blocks.items places (objects_of s c.renew.new.large)) (sym c.renew.ensures.space) replaced)

@@ -13,7 +13,7 @@ use Rattle.settling.specs.Together.{AreDelivered}
 use Rattle.settling.specs.Telling.{all_deliveries}
 use Rattle.machine.proofs.Ended.{at_rest_in, brought_in, held_count, settles, scans_once, nothing_left}
 use Rattle.settling.specs.Shown.{shown_after}
-use Rattle.settling.proofs.ShownLarge.{shown_in, written_back}
+use Rattle.settling.proofs.ShownLarge.{shown_in}
 use Rattle.scavenge.specs.Handed.{CopiesKeyValue}
 use Rattle.machine.proofs.Delivered.{told_is, each_taken, delivered}
 use Rattle.machine.proofs.interleaved_settling.settled.gathered.Goals as goal
@@ -21,8 +21,8 @@ use Rattle.machine.proofs.interleaved_settling.settled.gathered.Goals as goal
 pub brought-requires-clause-rest : goal.brought-requires-clause-rest
 brought-requires-clause-rest g c = at_rest_in c.args.workers c.args.heap.now c.args.collection c.into_parts-cells.result.members.items c.requires.heap c.requires.collection c.into_parts-cells.ensures.members c.in_ok-workspaces.workspaces.items c.in_ok-workspaces.ensures c.into_parts-cells.ensures.interleaved c.requires.ended
 
-pub places_in-requires-clause-alone : goal.places_in-requires-clause-alone
-places_in-requires-clause-alone g c = ap (λ (k : PlainCellsValue). k.passes) c.into_parts-cells.ensures.cells ∙ c.into_parts-cells.ensures.interleaved.cells.passes
+pub settle_alone-places-requires-clause-alone : goal.settle_alone-places-requires-clause-alone
+settle_alone-places-requires-clause-alone g c = ap (λ (k : PlainCellsValue). k.passes) c.into_parts-cells.ensures.cells ∙ c.into_parts-cells.ensures.interleaved.cells.passes
 
 pub all_delivered-requires-clause-many : goal.all_delivered-requires-clause-many
 all_delivered-requires-clause-many g c =
@@ -37,24 +37,21 @@ all_delivered-requires-clause-taken g c =
 
 pub show_all-requires : goal.show_all-requires
 show_all-requires g c =
-    let count : length c.deref_mut.result.now ≡ c.args.workers.collection.cells =
-    ap length c.deref_mut.ensures.value
-    ∙ held_count c.args.workers c.into_parts-cells.ensures.interleaved c.in_ok-places.places.items (c.in_ok-places.ensures ∙ ap (λ (k : PlainCellsValue). map place_of k.held) c.into_parts-cells.ensures.cells) in
-    subst (λ rs. All (λ (e : ℕ × ℕ). e.0 < length c.deref_mut.result.now) (all_won rs)) (sym c.deref.ensures.value)
+    let count : length c.settle_alone-places.result ≡ c.args.workers.collection.cells =
+    held_count c.args.workers c.into_parts-cells.ensures.interleaved c.settle_alone-places.result (c.settle_alone-places.ensures.exact ∙ ap (λ (k : PlainCellsValue). map place_of k.held) c.into_parts-cells.ensures.cells) in
+    subst (λ rs. All (λ (e : ℕ × ℕ). e.0 < length c.settle_alone-places.result) (all_won rs)) (sym c.deref.ensures.value)
     (subst (λ n. All (λ (e : ℕ × ℕ). e.0 < n) (all_won c.in_ok-reports.reports.items)) (sym count)
     (brought_in c.args.workers c.args.heap.now c.args.collection c.into_parts-cells.result.members.items c.requires.heap c.requires.collection c.into_parts-cells.ensures.members c.in_ok-workspaces.workspaces.items c.in_ok-workspaces.ensures c.in_ok-reports.reports.items c.in_ok-reports.blocks.items c.in_ok-reports.ensures).numbers)
 
 pub returns-clause-settled : goal.returns-clause-settled
 returns-clause-settled g c =
-    let count : length c.show_all.new.places ≡ length c.in_ok-places.places.items = c.show_all.ensures.count ∙ ap length c.deref_mut.ensures.value in
-    let all : c.in_ok-places.places.len ≡ length c.in_ok-places.places.items = c.in_ok-places.places.ok.0 in
-    let shown : (number : ℕ) → shown_in c.show_all.new.places number ≡ shown_after number (all_won c.in_ok-reports.reports.items) (shown_in c.in_ok-places.places.items number) =
-    λ number. c.show_all.ensures.shown number ∙ ap (λ rs. shown_after number (all_won rs) (shown_in c.deref_mut.result.now number)) c.deref.ensures.value ∙ ap (λ ps. shown_after number (all_won c.in_ok-reports.reports.items) (shown_in ps number)) c.deref_mut.ensures.value in
-    subst (λ ps. IsSettled c.args.workers.heap c.args.collection ps c.in_ok-reports.blocks.items (all_won c.in_ok-reports.reports.items)) (sym (written_back c.show_all.new.places c.in_ok-places.places.items c.in_ok-places.places.len all count))
-    (subst (λ d. IsSettled c.args.workers.heap d c.show_all.new.places c.in_ok-reports.blocks.items (all_won c.in_ok-reports.reports.items)) (sym c.requires.collection)
+    let count : length c.show_all.new.places ≡ length c.settle_alone-places.result = c.show_all.ensures.count in
+    let shown : (number : ℕ) → shown_in c.show_all.new.places number ≡ shown_after number (all_won c.in_ok-reports.reports.items) (shown_in c.settle_alone-places.result number) =
+    λ number. c.show_all.ensures.shown number ∙ ap (λ rs. shown_after number (all_won rs) (shown_in c.settle_alone-places.result number)) c.deref.ensures.value in
+    subst (λ d. IsSettled c.args.workers.heap d c.show_all.new.places c.in_ok-reports.blocks.items (all_won c.in_ok-reports.reports.items)) (sym c.requires.collection)
     (settles c.args.workers c.into_parts-cells.ensures.interleaved c.requires.ended c.in_ok-reports.reports.items c.in_ok-reports.blocks.items
     (brought_in c.args.workers c.args.heap.now c.args.collection c.into_parts-cells.result.members.items c.requires.heap c.requires.collection c.into_parts-cells.ensures.members c.in_ok-workspaces.workspaces.items c.in_ok-workspaces.ensures c.in_ok-reports.reports.items c.in_ok-reports.blocks.items c.in_ok-reports.ensures)
-    c.in_ok-places.places.items c.show_all.new.places (c.in_ok-places.ensures ∙ ap (λ (k : PlainCellsValue). map place_of k.held) c.into_parts-cells.ensures.cells) count shown))
+    c.settle_alone-places.result c.show_all.new.places (c.settle_alone-places.ensures.exact ∙ ap (λ (k : PlainCellsValue). map place_of k.held) c.into_parts-cells.ensures.cells) count shown)
 
 pub returns-clause-once : goal.returns-clause-once
 returns-clause-once g c =

@@ -16,7 +16,7 @@ returns-clause-ended g c = subst (λ (m : MachineValue). (c.settle.result ≡ Er
 
 pub returns-clause-ok : goal.returns-clause-ok
 returns-clause-ok g c =
-    subst (λ (m : MachineValue). IfOk c.settle.result (λ s. Settles m s.collection s.places.items s.blocks.items s.workers.items s.deliveries.items)) c.self.view_is
+    subst (λ (m : MachineValue). IfOk c.settle.result (λ s. Settles m s.collection s.places s.blocks.items s.workers.items s.deliveries.items)) c.self.view_is
     (of_ok c.settle.result _ _ _ _ _ (λ s collection settled once reports. record {
       collection_is = collection;
       may_commit = settled;

@@ -16,14 +16,14 @@ invariant_of-result g c =
     let queues = c.in_ok-queues.ensures.queues ∙ ap (λ (k : CopiesKeyValue). new_pending k 1)
     (c.new-key.ensures ∙ ap (λ n. key_of c.args.heap.now n) (c.generation.ensures ∙ ap (λ (k : CollectionValue). k.generation) (sym c.of-2.ensures)) ∙ ap (λ h. key_of h c.of-2.result.value.generation) (sym c.of.ensures)) in
     let worker = c.in_ok-workspace.ensures.worker ∙ ap (first_of c.args.heap.now) (sym c.of-2.ensures) ∙ ap (λ h. first_of h c.of-2.result.value) (sym c.of.ensures) in
-    begun v
+    rw c.supply.ensures (begun v
     (subst (λ h. IsReadyToCollect h c.of-2.result.value) (sym c.of.ensures) (subst (IsReadyToCollect c.args.heap.now) (sym c.of-2.ensures) c.requires))
     (c.in_ok-cells.ensures.cells ∙ ap (λ n. empty_cells n 1) (c.cells.ensures ∙ ap (λ (k : CollectionValue). k.cells) (sym c.of-2.ensures)))
     c.in_ok-cells.ensures.fits
     free c.in_ok-claims.ensures.count c.in_ok-claims.ensures.seat queues c.in_ok-queues.ensures.seat
     (c.in_ok-workspace.ensures.config ∙ ap (λ (h : HeapValue). h.config) (sym c.of.ensures))
     (c.in_ok-workspace.ensures.names ∙ ap (names_of c.args.heap.now) (sym c.of-2.ensures) ∙ ap (λ h. names_of h c.of-2.result.value) (sym c.of.ensures))
-    c.in_ok-workspace.ensures.claim worker
+    c.in_ok-workspace.ensures.claim worker)
 
 pub returns-clause-first : goal.returns-clause-first
 returns-clause-first g c =
@@ -32,4 +32,4 @@ returns-clause-first g c =
     let queues = c.in_ok-queues.ensures.queues ∙ ap (λ (k : CopiesKeyValue). new_pending k 1)
     (c.new-key.ensures ∙ ap (λ n. key_of c.args.heap.now n) (c.generation.ensures ∙ ap (λ (k : CollectionValue). k.generation) (sym c.of-2.ensures)) ∙ ap (λ h. key_of h c.of-2.result.value.generation) (sym c.of.ensures)) in
     let worker = c.in_ok-workspace.ensures.worker ∙ ap (first_of c.args.heap.now) (sym c.of-2.ensures) ∙ ap (λ h. first_of h c.of-2.result.value) (sym c.of.ensures) in
-    first_system v free c.in_ok-claims.ensures.seat queues worker
+    rw c.supply.ensures (first_system v free c.in_ok-claims.ensures.seat queues worker)

@@ -4,8 +4,9 @@ use Rattle.std.specs.List.{sum_by}
 use Rattle.std.proofs.Math.Seq.{take-append_seam}
 use Rattle.std.proofs.lemmas.List.{length-map}
 use Rattle.once_cell.specs.Once.{cell_name}
-use Rattle.forwarding.specs.Noted.{NotedValue}
+use Rattle.forwarding.specs.Noted.{NotedValue, place_of}
 use Rattle.forwarding.specs.Gathered.{IsGathered, win_count}
+use Rattle.forwarding.proofs.ShownPlace.{shown_each}
 use Rattle.forwarding.proofs.Settling.{agree, few_wins_in_all, settles, wins_all, wins_once, not_all}
 use Rattle.forwarding.proofs.box_cells.box_cells.BoxCells.settle.Goals as goal
 
@@ -41,25 +42,25 @@ returns-then-not-is_each_won-clause-agree g c =
     let all = c.gather.new.all in
     agree all.known c.args.passes.items c.requires.apart (subst (λ (ps : List NotedValue). IsGathered (length ps) ps all.known) c.deref_mut.ensures.value c.gather.ensures.gathered)
 
-pub returns-in-Ok-places-clause-settled : goal.returns-in-Ok-places-clause-settled
-returns-in-Ok-places-clause-settled g c =
+pub returns-in-Ok-words-clause-settled : goal.returns-in-Ok-words-clause-settled
+returns-in-Ok-words-clause-settled g c =
     let all = c.gather.new.all in
     let g : IsGathered (length c.args.passes.items) c.args.passes.items all.known = subst (λ (ps : List NotedValue). IsGathered (length ps) ps all.known) c.deref_mut.ensures.value c.gather.ensures.gathered in
     let now = c.deref.ensures.value ∙ same_passes c.args.passes.len _ _ (c.gather.ensures.passes ∙ c.deref_mut.ensures.value) (search rules) in
     let cells = ap length (c.gather.ensures.all.cells ∙ (ap (λ (p : NotedValue). p.cells) c.in-Ok.ensures)) in
-    settles all.known c.args.passes.items c.requires.apart g (length c.args.self) c.of.result (c.gather.ensures.many ∙ cells) (c.of.ensures ∙ c.in-Ok-places.ensures)
+    settles all.known c.args.passes.items c.requires.apart g (length c.args.self) c.of.result (c.gather.ensures.many ∙ cells) (c.of.ensures ∙ shown_each place_of _ _ c.in-Ok-words.ensures)
     (c.is_each_won.ensures.0 (search rules) ∙ ap (sum_by win_count) now)
 
-pub returns-in-Ok-places-clause-all_won : goal.returns-in-Ok-places-clause-all_won
-returns-in-Ok-places-clause-all_won g c =
+pub returns-in-Ok-words-clause-all_won : goal.returns-in-Ok-words-clause-all_won
+returns-in-Ok-words-clause-all_won g c =
     let all = c.gather.new.all in
     let g : IsGathered (length c.args.passes.items) c.args.passes.items all.known = subst (λ (ps : List NotedValue). IsGathered (length ps) ps all.known) c.deref_mut.ensures.value c.gather.ensures.gathered in
     let now = c.deref.ensures.value ∙ same_passes c.args.passes.len _ _ (c.gather.ensures.passes ∙ c.deref_mut.ensures.value) (search rules) in
     wins_all all.known c.args.passes.items c.requires.apart g
     (c.is_each_won.ensures.0 (search rules) ∙ ap (sum_by win_count) now)
 
-pub returns-in-Ok-places-clause-agree : goal.returns-in-Ok-places-clause-agree
-returns-in-Ok-places-clause-agree g c =
+pub returns-in-Ok-words-clause-agree : goal.returns-in-Ok-words-clause-agree
+returns-in-Ok-words-clause-agree g c =
     λ is.
     let all = c.gather.new.all in
     agree all.known c.args.passes.items c.requires.apart (subst (λ (ps : List NotedValue). IsGathered (length ps) ps all.known) c.deref_mut.ensures.value c.gather.ensures.gathered)
@@ -70,8 +71,8 @@ returns-then-not-is_each_won-clause-won_once g c =
     let all = c.gather.new.all in
     wins_once all.known c.args.passes.items c.requires.apart (subst (λ (ps : List NotedValue). IsGathered (length ps) ps all.known) c.deref_mut.ensures.value c.gather.ensures.gathered)
 
-pub returns-in-Ok-places-clause-won_once : goal.returns-in-Ok-places-clause-won_once
-returns-in-Ok-places-clause-won_once g c =
+pub returns-in-Ok-words-clause-won_once : goal.returns-in-Ok-words-clause-won_once
+returns-in-Ok-words-clause-won_once g c =
     λ is.
     let all = c.gather.new.all in
     wins_once all.known c.args.passes.items c.requires.apart (subst (λ (ps : List NotedValue). IsGathered (length ps) ps all.known) c.deref_mut.ensures.value c.gather.ensures.gathered)

@@ -23,8 +23,8 @@ on_err (Err e) P p = p
 none_some : {b : BlockValue} → None ≡ Some b → ⊥
 none_some e = cc
 
-pub invariant_of-self : goal.invariant_of-self
-invariant_of-self g c =
+pub invariant_of-self-in_err-grow : goal.invariant_of-self-in_err-grow
+invariant_of-self-in_err-grow g c =
     let can = rw (← c.self.view_is) at c.requires in
     let short = grown_short _ _ _ _ c.end_of-end.result (length c.grow.new.table.items) c.self.invariant.space (c.end_of-end.ensures.least c.self.inside.config.blocks (rw c.deref.ensures.value (free_below _ _ _ _ c.args.blocks.items c.self.invariant.space can))) c.in_err-grow.ensures.no_longer in
     record {

@@ -1,4 +1,4 @@
-use Rattle.std.proofs.Common.{◌≡◌, [], drop, Some, None, refl, sym, ap, subst, ◌∙◌, arith}
+use Rattle.std.proofs.Common.{◌≡◌, [], drop, Some, None, refl, ap, subst, ◌∙◌, arith}
 use Rattle.layout.specs.Place.{place_word}
 use Rattle.scavenge.specs.Fronts.{slot_at, front_field}
 use Rattle.workers.specs.Joined.{OnSome}

@@ -1,23 +1,18 @@
 use Rattle.std.proofs.Common.{◌≡◌, ℕ, ◌+◌, List, [], drop, Option, Some, None, refl, sym, ap, subst, ◌∙◌, arith}
 use Rattle.std.specs.Option.{option_map, option_and_then}
 use Rattle.layout.specs.declared.place.Place.{Place}
-use Rattle.layout.specs.Place.{place_word, pointer_word}
+use Rattle.layout.specs.Place.{place_word}
 use Rattle.block_pool.specs.BlockValue.{BlockValue}
 use Rattle.steps.specs.Words.{target_of_word}
 use Rattle.workers.specs.Block.{Block, updated, with_field}
 use Rattle.workers.specs.Worker.{Worker, Proposal, Hand, Open, Holding, allocation_at}
-use Rattle.workers.specs.WorkerSteps.{finish_slot}
 use Rattle.scavenge.specs.Named.{named}
 use Rattle.scavenge.specs.Shown.{WorkspaceValue, CanFinish, CanWrite, HasField, proposal_of, hand_of, words_of, slots_of, AreNoted, IsNoted, held_in}
 use Rattle.workers.specs.Joined.{OnSome}
-use Rattle.scavenge.proofs.Fields.{Drops, drops, all_left, finish_start, finish_open, finish_held, Ready, open_ready, Behind, behind, written, named_written, noted_written, slots_written, slots_noted, no_proposal, target_of_pointer}
+use Rattle.scavenge.proofs.Fields.{Drops, drops, all_left, finish_start, finish_open, finished, held_finished, value_written, Ready, open_ready, Behind, behind, written, named_written, noted_written, slots_written, slots_noted, no_proposal}
 use Rattle.scavenge.proofs.workspace.workspace.Workspace.finish.Goals as goal
 use Rattle.scavenge.proofs.Made.{table_made}
 use Rattle.scavenge.specs.Shown.{IsMade}
-
--- the workspace with its slot finished
-abbrev finished : Option Place → WorkspaceValue → WorkspaceValue
-finished value v = record v { worker = finish_slot (option_map place_word value) v.worker }
 
 pub returns-then-self-len : goal.returns-then-self-len
 returns-then-self-len g c =
@@ -41,16 +36,6 @@ open_finished {V = V} value d same p h a pe he ae e k =
     ∙ ap (λ z. (let x : WorkspaceValue = record V { worker = record V.worker { fields = V.worker.fields + 1; allocation = z } } in x)) ae
     ∙ ap (λ (w : Worker). (let x : WorkspaceValue = record V { worker = w } in x)) (sym (finish_open V.worker (option_map place_word value) d e k))
     ∙ ap (finished value) same
-
-held_finished : {V N : WorkspaceValue} (value : Option Place) (block : Block) → V ≡ N → (h : Hand) → h ≡ Holding (with_field V.worker.fields (option_map place_word value) block) → V.worker.starts ≡ [] → V.worker.hand ≡ Holding block
-    → (let x : WorkspaceValue = record V { worker = record V.worker { fields = V.worker.fields + 1; hand = h } } in x) ≡ finished value N
-held_finished {V = V} value block same h he e k =
-    ap (λ z. (let x : WorkspaceValue = record V { worker = record V.worker { fields = V.worker.fields + 1; hand = z } } in x)) he
-    ∙ ap (λ (w : Worker). (let x : WorkspaceValue = record V { worker = w } in x)) (sym (finish_held V.worker (option_map place_word value) block e k))
-    ∙ ap (finished value) same
-
-value_written : (word : ℕ) (value : Option Place) → word ≡ pointer_word value → target_of_word word ≡ option_map place_word value
-value_written word value e = ap target_of_word e ∙ target_of_pointer value
 
 pub invariant_of-self-in-Open-1 : goal.invariant_of-self-in-Open-1
 invariant_of-self-in-Open-1 g c =

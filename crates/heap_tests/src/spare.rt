@@ -1,0 +1,180 @@
+//! The memory that a heap keeps from one collection for the next.
+use crate::heaps::{collected, heap_of};
+use collector::collect_one;
+use heap::{AllocateError, Config, Heap, RootId, Sizes};
+use refusing::Refusing;
+use std::alloc::Global;
+use std::process::Abort;
+use std::test::Fail;
+
+/// No request is refused.
+const NONE: u64 = u64::MAX;
+
+/// A heap that counts its requests.
+type Counting<'a> = Heap<&'a Refusing<Global>>;
+
+/// Allocates 60 objects of four words, which are 15 blocks of 16 words. Their roots.
+fn add_sixty<'a>(alloc: Global, heap: &mut Counting<'a>) -> Result<Vec<RootId>, Fail> {
+    let mut roots = Vec::new(alloc);
+    for _object in 0..60 {
+        let root = heap.allocate(0, 0, 3)?;
+        roots.push(root)?;
+    }
+    Ok(roots)
+}
+
+/// Collects, and tells how many requests for memory that took, and how many blocks are spare then.
+fn spare_after<'a>(
+    refusing: &'a Refusing<Global>,
+    heap: &mut Counting<'a>,
+) -> Result<(u64, usize), Fail> {
+    let before = refusing.asked();
+    let _counts = collected(refusing, heap)?;
+    Ok((refusing.asked().saturating_sub(before), heap.spare_blocks()))
+}
+
+/// Gives up all roots.
+fn release_all<'a>(heap: &mut Counting<'a>, roots: &[RootId]) -> Result<(), Fail> {
+    for root in roots {
+        heap.release(*root)?;
+    }
+    Ok(())
+}
+
+/// Asserts what is spare after each collection. Two requests make a block.
+fn assert_spare<'a>(
+    rt: &impl Abort,
+    alloc: Global,
+    refusing: &'a Refusing<Global>,
+    heap: &mut Counting<'a>,
+) -> Result<(), Fail> {
+    let roots = add_sixty(alloc, heap)?;
+    // The nursery's blocks are emptied and kept: none is spare.
+    assert_eq!(rt; spare_after(refusing, heap)?.1, 0);
+    // All 15 copies were given up.
+    let (anew, spare) = spare_after(refusing, heap)?;
+    assert_eq!(rt; spare, 15);
+    // The spare ones were taken, and as many were given up.
+    let (again, spare) = spare_after(refusing, heap)?;
+    assert_eq!(rt; spare, 15);
+    assert!(rt; again.saturating_add(30) <= anew);
+    // Now 30 would be spare, but only the 16 of the nursery are in use: the 38 of a large object are free by then too.
+    let large = heap.allocate(0, 0, 600)?;
+    release_all(heap, roots.as_slice())?;
+    heap.release(large)?;
+    assert_eq!(rt; spare_after(refusing, heap)?.1, 16);
+    drop(heap.take_spare());
+    assert_eq!(rt; heap.spare_blocks(), 0);
+    Ok(())
+}
+
+/// The same of a new heap.
+fn assert_spare_of_new(
+    rt: &impl Abort,
+    alloc: Global,
+    refusing: &Refusing<Global>,
+) -> Result<(), Fail> {
+    let mut heap = heap_of(refusing, 16, 16, 100)?;
+    assert_spare(rt, alloc, refusing, &mut heap)
+}
+
+#[test]
+fn blocks_given_up_are_the_next_ones(rt: HostRuntime) -> Result<(), Fail> {
+    let refusing = Refusing::new(rt.alloc(), NONE);
+    assert_spare_of_new(&rt, rt.alloc(), &refusing)?;
+    assert_eq!(rt; refusing.asked(), refusing.returned());
+    Ok(())
+}
+
+/// Two generations in large blocks.
+fn large_heap(refusing: &Refusing<Global>) -> Result<Counting<'_>, Fail> {
+    let sizes = Sizes {
+        block_words: 512,
+        blocks: 60_000,
+        mutators: 1,
+        nursery_blocks: 64,
+        generations: 2,
+        steps: 1,
+    };
+    let Ok(config) = Config::new(sizes) else {
+        return Err(Fail::from("bad sizes"));
+    };
+    Ok(Heap::new(refusing, config)?)
+}
+
+/// A new object of one pointer, with a collection of the young where the nursery is full.
+fn allocated<'a>(refusing: &'a Refusing<Global>, heap: &mut Counting<'a>) -> Result<RootId, Fail> {
+    match heap.allocate(0, 1, 2) {
+        Ok(root) => Ok(root),
+        Err(AllocateError::NurseryFull) => {
+            let _report = collect_one(refusing, heap, 0)?;
+            Ok(heap.allocate(0, 1, 2)?)
+        }
+        Err(error) => Err(Fail::from(error)),
+    }
+}
+
+/// A list of so many objects more in front of one.
+fn longer<'a>(
+    refusing: &'a Refusing<Global>,
+    heap: &mut Counting<'a>,
+    from: RootId,
+    more: u32,
+) -> Result<RootId, Fail> {
+    let mut first = from;
+    for _object in 0..more {
+        let root = allocated(refusing, heap)?;
+        heap.store(root, 0, Some(first))?;
+        heap.release(first)?;
+        first = root;
+    }
+    Ok(first)
+}
+
+/// A list of 2,000,000 objects, of which the last 1,000 have a root of their own too.
+fn long_list<'a>(
+    refusing: &'a Refusing<Global>,
+    heap: &mut Counting<'a>,
+) -> Result<(RootId, RootId), Fail> {
+    let last = allocated(refusing, heap)?;
+    let tail = longer(refusing, heap, last, 999)?;
+    let next = allocated(refusing, heap)?;
+    heap.store(next, 0, Some(tail))?;
+    let first = longer(refusing, heap, next, 1_998_999)?;
+    Ok((first, tail))
+}
+
+/// Collects all, and tells how many blocks are spare then, and how many requests are not returned.
+fn kept_after<'a>(
+    refusing: &'a Refusing<Global>,
+    heap: &mut Counting<'a>,
+) -> Result<(usize, u64), Fail> {
+    let _report = collect_one(refusing, heap, 1)?;
+    let held = refusing.asked().saturating_sub(refusing.returned());
+    Ok((heap.spare_blocks(), held))
+}
+
+/// Asserts what a heap of 2,000,000 objects keeps, and what it keeps when it shrank to 1,000.
+fn assert_shrinks(rt: &impl Abort, refusing: &Refusing<Global>) -> Result<(), Fail> {
+    let mut heap = large_heap(refusing)?;
+    let (first, _tail) = long_list(refusing, &mut heap)?;
+    let _moved = kept_after(refusing, &mut heap)?;
+    // 128 objects fill a block: the copies take 15,625, and as many were given up. Two requests make each.
+    let (spare, held) = kept_after(refusing, &mut heap)?;
+    assert!(rt; spare >= 15_625 && spare <= 15_625 + 64);
+    assert!(rt; held >= 62_500);
+    // The nursery's 64 are in use then, and eight of copies.
+    heap.release(first)?;
+    let (spare, held) = kept_after(refusing, &mut heap)?;
+    assert_eq!(rt; spare, 72);
+    assert!(rt; held < 1_000);
+    Ok(())
+}
+
+#[test]
+fn a_heap_that_shrank_gives_memory_back(rt: HostRuntime) -> Result<(), Fail> {
+    let refusing = Refusing::new(rt.alloc(), NONE);
+    assert_shrinks(&rt, &refusing)?;
+    assert_eq!(rt; refusing.asked(), refusing.returned());
+    Ok(())
+}

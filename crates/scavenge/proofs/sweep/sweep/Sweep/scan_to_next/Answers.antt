@@ -1,0 +1,22 @@
+use Rattle.std.proofs.Common.{◌≡◌, ◌+◌, ◌<◌, true, ◌∷◌, ◌++◌, [], nat_lt, length, refl, sym, ap, ◌∙◌, arith, lt-ltb}
+use Rattle.std.proofs.lemmas.List.{map-append}
+use Rattle.layout.specs.Place.{place_word}
+use Rattle.block_pool.specs.BlockValue.{BlockValue}
+use Rattle.workers.specs.Worker.{Holding}
+use Rattle.scavenge.specs.Named.{named}
+use Rattle.scavenge.specs.Shown.{words_of}
+use Rattle.scavenge.proofs.Scans.{held_passing, passed, passed_noted, unscanned_named, front_standing, scan_held_done}
+use Rattle.scavenge.proofs.sweep.sweep.Sweep.scan_to_next.Goals as goal
+
+pub returns-clause-some : goal.returns-clause-some
+returns-clause-some g c = λ _.
+    let n = c.self.invariant.0.in_hand in
+    let lt : c.self.inside.held.front < length c.self.inside.held.objects = held_passing c.self.view_is c.self.inside.config.shape c.self.inside.held refl n c.requires.hand in
+    let k = front_standing c.self.inside.config.shape c.self.inside.held n lt in
+    let test : nat_lt (c.self.inside.held.front + 1) (length c.self.inside.held.objects) ≡ true = lt-ltb _ _ (omega (arith, c.if-len-front-lt2.false, c.len-2.ensures.value, c.front.ensures.value)) in
+    let more = unscanned_named c.self.inside.config.shape (passed c.self.inside.held) (passed_noted c.self.inside.held n lt) ∙ test in
+    scan_held_done c.self.view_is _ _ _ _ _ (named c.self.inside.config.shape c.self.inside.held) k.copy refl k.is true more refl
+    (ap (λ (b : BlockValue). Holding (named c.self.inside.config.shape b)) c.pass_front-place.ensures.block)
+    refl
+    refl
+    (ap words_of c.push_reserved.ensures.items ∙ map-append place_word c.self.inside.scanned.items _ ∙ ap (λ w. words_of c.self.inside.scanned.items ++ w ∷ []) (c.pass_front-place.ensures.place ∙ sym k.at))

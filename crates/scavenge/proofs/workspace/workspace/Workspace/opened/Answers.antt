@@ -1,0 +1,45 @@
+use Rattle.std.proofs.Common.{◌≡◌, length, Some, None, refl, sym, ap, subst, ◌∙◌, arith}
+use Rattle.scavenge.specs.Fronts.{slot_at}
+use Rattle.scavenge.specs.Shown.{AreNoted, AreMade, held_in}
+use Rattle.scavenge.specs.Swept.{with_block}
+use Rattle.scavenge.proofs.Swept.{held_is, some_is, none_is, there_below, put_back, length-put}
+use Rattle.scavenge.proofs.workspace.workspace.Workspace.opened.Goals as goal
+
+pub unreachable-requires : goal.unreachable-requires
+unreachable-requires g c =
+    let is = held_is c.self.inside.hand (c.in-Some.ensures refl) in
+    c.in_default-hand.not-Holding is.0 is.1
+
+pub take-requires : goal.take-requires
+take-requires g c =
+    let there = some_is (slot_at c.self.inside.allocation c.in-Some.destination) (c.has_block.ensures.0 c.if-not-has_block.false) in
+    there_below c.self.inside.allocation c.in-Some.destination there.0 there.1
+
+pub unreachable-requires-in_default-take : goal.unreachable-requires-in_default-take
+unreachable-requires-in_default-take g c =
+    let there = some_is (slot_at c.self.inside.allocation c.in-Some.destination) (c.has_block.ensures.0 c.if-not-has_block.false) in
+    let e : None ≡ Some there.0 = sym c.in_default-take.is ∙ c.take.ensures.old ∙ there.1 in
+    cc
+
+pub invariant_of-result : goal.invariant_of-result
+invariant_of-result g c =
+    let there : slot_at c.self.inside.allocation c.in-Some.destination ≡ Some c.in-Some-take.into = sym c.take.ensures.old ∙ c.in-Some-take.is in
+    let same : with_block c.take.new.self c.in-Some.destination c.in-Some-take.into ≡ c.self.inside.allocation = ap (λ xs. with_block xs c.in-Some.destination c.in-Some-take.into) c.take.ensures.table ∙ put_back c.self.inside.allocation c.in-Some.destination c.in-Some-take.into there in
+    let none = none_is c.self.inside.proposed (sym c.is_some.ensures ∙ c.if-is_some.false) in
+    let short = length-put c.self.inside.allocation c.in-Some.destination None in
+    rw same (
+      subst (AreNoted c.self.inside.allocation c.self.inside.aside.items c.self.inside.done.items (Some c.in-Holding.held)) none
+          (subst (λ h. AreNoted c.self.inside.allocation c.self.inside.aside.items c.self.inside.done.items (held_in h) c.self.inside.proposed) c.in-Holding.is c.self.invariant.0),
+      subst (λ h. AreMade c.self.inside.config c.self.inside.allocation c.self.inside.aside.items c.self.inside.done.items (held_in h)) c.in-Holding.is c.self.invariant.1,
+      rw none at c.self.invariant.2,
+      c.self.invariant.3,
+      omega (arith, ap length c.take.ensures.table, short, there_below c.self.inside.allocation c.in-Some.destination c.in-Some-take.into there),
+      omega (arith, c.if-self-len.false, c.len.ensures),
+    )
+
+pub returns-clause-ok : goal.returns-clause-ok
+returns-clause-ok g c =
+    let there : slot_at c.self.inside.allocation c.in-Some.destination ≡ Some c.in-Some-take.into = sym c.take.ensures.old ∙ c.in-Some-take.is in
+    let same : with_block c.take.new.self c.in-Some.destination c.in-Some-take.into ≡ c.self.inside.allocation = ap (λ xs. with_block xs c.in-Some.destination c.in-Some-take.into) c.take.ensures.table ∙ put_back c.self.inside.allocation c.in-Some.destination c.in-Some-take.into there in
+    let none = none_is c.self.inside.proposed (sym c.is_some.ensures ∙ c.if-is_some.false) in
+    rw same (rw (c.in-Holding.is, none) at (c.self.view_is ∙ c.reserve_sweep.ensures))

@@ -1,0 +1,145 @@
+//! Memory that a heap keeps from one collection for the next.
+ghost use Rattle.std.specs.Prelude.{◌≡◌, ◌≤◌, ◌↔◌, [], IsTrue, IfOk};
+ghost use Rattle.block_pool.specs.BlockValue.{empty_block};
+
+use block_pool::Block;
+use std::alloc::{AllocError, Allocator, Global};
+use std::collections::VecDeque;
+use std::mem;
+
+/// Blocks without an object, and words without a meaning, of which a collection makes use before it asks for new memory. It is
+/// memory alone: no contract sees what it has, and a collection does the same without it.
+#[derive(Drop)]
+pub struct Spare<A: Allocator = Global> {
+    // The block that is given out first stands in front.
+    blocks: Option<VecDeque<Block<A>, A>>,
+    words: Option<Vec<u64, A>>,
+}
+
+/// Whether the block, which has no object, has so many words.
+fn has_words<A: Allocator>(block: &Block<A>, words: usize) -> bool
+    requires few { words ≤ 512 }
+    requires empty { block.now.objects ≡ [] }
+    ensures { IsTrue result ↔ (block.now.words ≡ words) }
+{
+    block.fits(words) && !block.fits(words + 1)
+}
+
+impl<A: Allocator> Spare<A> {
+    /// No memory.
+    pub fn none() -> Self {
+        Spare {
+            blocks: None,
+            words: None,
+        }
+    }
+
+    /// How many blocks it has.
+    pub fn block_count(&self) -> usize {
+        match &self.blocks {
+            Some(blocks) => blocks.len(),
+            None => 0,
+        }
+    }
+
+    /// Takes all of it.
+    pub fn take(&mut self) -> Spare<A> {
+        mem::replace(self, Spare::none())
+    }
+
+    /// Keeps a block for later, where there is room for it, and else gives its memory back.
+    pub fn keep(&mut self, block: Block<A>) {
+        if let Some(blocks) = &mut self.blocks {
+            if blocks.len() < blocks.capacity() {
+                blocks.push_back_reserved(block);
+            }
+        }
+    }
+
+    /// Keeps so many blocks at most, and gives the memory of the others back.
+    pub fn keep_blocks(&mut self, most: usize) {
+        if let Some(blocks) = &mut self.blocks {
+            blocks.truncate(most);
+        }
+    }
+
+    /// Keeps the memory of these words for later, if it is no more than so many, and else gives it back.
+    pub fn keep_words(&mut self, words: Vec<u64, A>, most: usize) {
+        if words.capacity() <= most {
+            self.words = Some(words);
+        }
+    }
+
+    /// Memory for words, with whatever stands in it.
+    pub fn words(&mut self, alloc: A) -> Vec<u64, A> {
+        match self.words.take() {
+            Some(words) => words,
+            None => Vec::new(alloc),
+        }
+    }
+
+    /// Makes room for so many more blocks. An error says that memory ran out.
+    fn reserve(&mut self, alloc: A, more: usize) -> Result<(), AllocError> {
+        match &mut self.blocks {
+            Some(blocks) => blocks.reserve(more),
+            None => {
+                self.blocks = Some(VecDeque::with_capacity(alloc, more)?);
+                Ok(())
+            }
+        }
+    }
+
+    /// An empty block of so many words: one of these, or else a new one. An error says that memory ran out.
+    pub fn block(&mut self, alloc: A, words: usize) -> Result<Block<A>, AllocError>
+    where
+        A: Clone,
+        requires words_from { 16 ≤ words }
+        requires words_to { words ≤ 512 }
+        ensures { IfOk result (λ block. block ≡ empty_block words) }
+    {
+        if let Some(blocks) = &mut self.blocks {
+            if let Some(mut block) = blocks.pop_front() {
+                block.clear();
+                block.label(0, 0, 0);
+                if has_words(&block, words) {
+                    return Ok(block);
+                }
+            }
+        }
+        Block::new(alloc, words)
+    }
+
+    /// Moves so many blocks, or all where there are fewer, to a part of its own. An error says that memory ran out, and
+    /// drops some.
+    pub fn split(&mut self, alloc: A, count: usize) -> Result<Spare<A>, AllocError> {
+        let mut part = Spare::none();
+        part.reserve(alloc, count)?;
+        for _ in 0..count {
+            let Some(block) = self.pop() else {
+                break;
+            };
+            part.keep(block);
+        }
+        Ok(part)
+    }
+
+    /// The next block.
+    fn pop(&mut self) -> Option<Block<A>> {
+        match &mut self.blocks {
+            Some(blocks) => blocks.pop_front(),
+            None => None,
+        }
+    }
+
+    /// Takes the blocks of another one too, and has room for so many more. An error says that memory ran out, and drops them.
+    pub fn join(&mut self, alloc: A, mut other: Spare<A>, room: usize) -> Result<(), AllocError> {
+        let more = other.block_count();
+        self.reserve(alloc, more.saturating_add(room))?;
+        for _ in 0..more {
+            if let Some(block) = other.pop() {
+                self.keep(block);
+            }
+        }
+        Ok(())
+    }
+}
