@@ -19,10 +19,7 @@ const BAD_WORDS: u8 = 3;
 fn words_of(rt: &HostRuntime) -> Result<Vec<String>, u8>
     ensures { IfErr result (λ status. (status ≡ NO_MEMORY) ⊎ (status ≡ BAD_WORDS)) }
 {
-    let mut errors = Counted {
-        inner: rt.stderr(),
-        failed_writes: 0,
-    };
+    let mut errors = Counted::new(rt.stderr());
     match env::args(rt) {
         Ok(args) => {
             if let Ok(words) = args.collect::<Vec<String>>(rt.alloc()) {
@@ -45,18 +42,9 @@ fn main(rt: HostRuntime) -> ExitCode {
         Ok(words) => words,
         Err(status) => return ExitCode::from(status),
     };
-    let mut reader = CountedReader {
-        inner: rt.stdin(),
-        failed_reads: 0,
-    };
-    let mut writer = Counted {
-        inner: rt.stdout(),
-        failed_writes: 0,
-    };
-    let mut errors = Counted {
-        inner: rt.stderr(),
-        failed_writes: 0,
-    };
+    let mut reader = CountedReader::new(rt.stdin());
+    let mut writer = Counted::new(rt.stdout());
+    let mut errors = Counted::new(rt.stderr());
     let status = main_with(&rt, words.as_slice(), &mut reader, &mut writer, &mut errors);
     ExitCode::from(status)
 }

@@ -117,10 +117,7 @@ fn text_of(alloc: Global, heap: &Heap<Global>, root: RootId) -> Result<Vec<u8>, 
     if heap.target(root).is_none() {
         return Err(Fail::from("no such root"));
     }
-    let mut writer = Counted {
-        inner: Vec::new(alloc),
-        failed_writes: 0,
-    };
+    let mut writer = Counted::new(Vec::new(alloc));
     write_heap(alloc, heap, &[Name { text: b"top", root }], &mut writer)?;
     Ok(writer.inner)
 }

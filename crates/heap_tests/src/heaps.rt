@@ -94,10 +94,7 @@ pub(crate) fn census_of<A: Allocator + Clone>(
     alloc: Global,
     heap: &Heap<A>,
 ) -> Result<Vec<u8>, Fail> {
-    let mut writer = Counted {
-        inner: Vec::new(alloc),
-        failed_writes: 0,
-    };
+    let mut writer = Counted::new(Vec::new(alloc));
     write_census(alloc, &heap.census(), &mut writer)?;
     Ok(writer.inner)
 }

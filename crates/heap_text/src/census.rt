@@ -1,6 +1,6 @@
 //! The census as text.
 ghost use Rattle.std.specs.Prelude.{◌≡◌, ◌+◌, ◌-◌, ◌^◌, ◌<◌, ◌++◌, OnOk, IsErrOf, IfOk, string_bytes};
-ghost use Rattle.std.specs.Io.KnownBytes.{Appends};
+ghost use Rattle.heap_text.specs.Streams.{Appends};
 ghost use Rattle.model.specs.Text.{step_line, census_text};
 ghost use Rattle.heap.specs.CensusView.{step_value};
 
@@ -48,7 +48,7 @@ pub fn write_census<A: Allocator, W: Sink>(
     writer: &mut W,
 ) -> Result<(), WriteError>
     requires { W.failed_writes writer.old < 2 ^ 64 - 1 }
-    ensures bytes { OnOk result (Appends (W.contents writer.old) (W.contents writer.new) (census_text census.now)) }
+    ensures bytes { OnOk result (Appends (W.output writer.old) (W.output writer.new) (census_text census.now)) }
     ensures ok { OnOk result (W.failed_writes writer.new ≡ W.failed_writes writer.old) }
     ensures memory { IsErrOf result WriteError.NoMemory → writer.new ≡ writer.old }
     ensures failed { IsErrOf result WriteError.WriteFailed → W.failed_writes writer.new ≡ W.failed_writes writer.old + 1 }

@@ -1,6 +1,6 @@
 //! The line of a collection.
 ghost use Rattle.std.specs.Prelude.{◌≡◌, ◌+◌, ◌-◌, ◌^◌, ◌<◌, ◌≤◌, ◌++◌, OnOk, OnErr, decimal};
-ghost use Rattle.std.specs.Io.KnownBytes.{Appends};
+ghost use Rattle.heap_text.specs.Streams.{Appends};
 ghost use Rattle.arrayvec.specs.ArrayString.{array_string_len};
 ghost use Rattle.model.specs.Text.{collection_line};
 ghost use Rattle.heap_text.specs.CollectionLine.{cause_word};
@@ -48,7 +48,7 @@ pub fn write_collection<W: Sink>(
     writer: &mut W,
 ) -> Result<(), WriteFailed>
     requires { W.failed_writes writer.old < 2 ^ 64 - 1 }
-    ensures bytes { OnOk result (Appends (W.contents writer.old) (W.contents writer.new) (collection_line (cause_word cause) generation kept freed)) }
+    ensures bytes { OnOk result (Appends (W.output writer.old) (W.output writer.new) (collection_line (cause_word cause) generation kept freed)) }
     ensures ok { OnOk result (W.failed_writes writer.new ≡ W.failed_writes writer.old) }
     ensures failed { OnErr result (W.failed_writes writer.new ≡ W.failed_writes writer.old + 1) }
 {

@@ -1,7 +1,7 @@
 //! A heap as text.
 ghost use Rattle.std.specs.Prelude.{◌≡◌, ◌+◌, ◌-◌, ◌^◌, ◌<◌, ◌++◌, OnOk, IfOk, IsErrOf, IsSome, IsTrue, All, map, flat_map, decimal, unwrap_or};
 ghost use Rattle.std.specs.List.{join_with_byte};
-ghost use Rattle.std.specs.Io.KnownBytes.{Appends};
+ghost use Rattle.heap_text.specs.Streams.{Appends};
 ghost use Rattle.model.specs.Graph.{object_at, root_at};
 ghost use Rattle.model.specs.Reached.{has};
 ghost use Rattle.model.specs.Text.{pointer_text, root_line, object_line};
@@ -224,7 +224,7 @@ pub fn write_heap<A: Allocator + Clone, W: Sink>(
 ) -> Result<(), WriteError>
     requires countable { W.failed_writes writer.old < 2 ^ 64 - 1 }
     requires rooted { All (λ name. IsSome (root_at heap.now.graph name.root.number)) names.now }
-    ensures bytes { OnOk result (Appends (W.contents writer.old) (W.contents writer.new) (heap_lines heap.now.graph (map name_value names.now))) }
+    ensures bytes { OnOk result (Appends (W.output writer.old) (W.output writer.new) (heap_lines heap.now.graph (map name_value names.now))) }
     ensures ok { OnOk result (W.failed_writes writer.new ≡ W.failed_writes writer.old) }
     ensures memory { IsErrOf result WriteError.NoMemory → writer.new ≡ writer.old }
     ensures failed { IsErrOf result WriteError.WriteFailed → W.failed_writes writer.new ≡ W.failed_writes writer.old + 1 }

@@ -142,20 +142,14 @@ fn text_of(alloc: Global, heap: &Heap, root: RootId) -> Result<Vec<u8>, Fail> {
     if heap.target(root).is_none() {
         return Err(Fail::from("no such root"));
     }
-    let mut writer = Counted {
-        inner: Vec::new(alloc),
-        failed_writes: 0,
-    };
+    let mut writer = Counted::new(Vec::new(alloc));
     write_heap(alloc, heap, &[Name { text: b"top", root }], &mut writer)?;
     Ok(writer.inner)
 }
 
 /// The lines of the census.
 pub(crate) fn census_of(alloc: Global, heap: &Heap) -> Result<Vec<u8>, Fail> {
-    let mut writer = Counted {
-        inner: Vec::new(alloc),
-        failed_writes: 0,
-    };
+    let mut writer = Counted::new(Vec::new(alloc));
     write_census(alloc, &heap.census(), &mut writer)?;
     Ok(writer.inner)
 }

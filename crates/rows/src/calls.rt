@@ -32,16 +32,10 @@ collected 0: 1 kept, 0 freed
 
 #[test]
 fn line_of_a_collection_and_a_run(rt: HostRuntime) -> Result<(), Fail> {
-    let mut writer = Counted {
-        inner: Vec::new(rt.alloc()),
-        failed_writes: 0,
-    };
+    let mut writer = Counted::new(Vec::new(rt.alloc()));
     write_collection(Cause::Command, 3, u64::MAX, 10, &mut writer)?;
     let config = two_blocks()?;
-    let mut reader = CountedReader {
-        inner: b"new a 0 0 0\ncollect 0\n".as_slice(),
-        failed_reads: 0,
-    };
+    let mut reader = CountedReader::new(b"new a 0 0 0\ncollect 0\n".as_slice());
     let result = run_one(rt.alloc(), &mut reader, &mut writer, config);
     let written = text_of(writer.inner.as_slice());
     assert_eq!(rt; (result, written), (Ok(()), TWO_LINES));
@@ -71,14 +65,8 @@ fn most_workers(rt: HostRuntime) {
 #[test]
 fn run_without_words(rt: HostRuntime) -> Result<(), Fail> {
     let config = sixteen_blocks(1)?;
-    let mut reader = CountedReader {
-        inner: FIRST_TRACE.as_bytes(),
-        failed_reads: 0,
-    };
-    let mut writer = Counted {
-        inner: Vec::new(rt.alloc()),
-        failed_writes: 0,
-    };
+    let mut reader = CountedReader::new(FIRST_TRACE.as_bytes());
+    let mut writer = Counted::new(Vec::new(rt.alloc()));
     let result = run(&rt, rt.alloc(), &mut reader, &mut writer, config, &OpenGate);
     let written = text_of(writer.inner.as_slice());
     assert_eq!(rt; (result, written), (Ok(()), FIRST_OUTPUT));

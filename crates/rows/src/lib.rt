@@ -20,17 +20,23 @@ mod field_faults;
 #[cfg(test)]
 mod generations;
 #[cfg(test)]
+mod in_pieces;
+#[cfg(test)]
 mod large;
 #[cfg(test)]
 mod large_at_size;
 #[cfg(test)]
 mod lines;
 #[cfg(test)]
+mod long_inputs;
+#[cfg(test)]
 mod names;
 #[cfg(test)]
 mod odd;
 #[cfg(test)]
 mod pieces;
+#[cfg(test)]
+mod pieces_fail;
 #[cfg(test)]
 mod pointers;
 #[cfg(test)]

@@ -35,6 +35,13 @@ fn assert_words<R: Threads + Wait + Sync + AllocGlobal + Abort>(
     assert_run(rt, words, words, input, left)
 }
 
+/// A line of blanks, a comment of bytes that are no text, and an object that is too big.
+pub(crate) const BLANKS_AND_A_FAULT: &[u8] =
+    b" \t\r\n\t#\xff\x00\n new\ta 00 0  018446744073709551615\n";
+
+/// Blanks round words, and numbers that begin with zeros.
+pub(crate) const BLANKS_ROUND_WORDS: &[u8] = b"new\ta 00  0 01\t\r\n collect 000\r\n";
+
 #[test]
 fn line_ends(rt: HostRuntime) -> Result<(), AllocError> {
     for (words, input, left) in [
@@ -45,12 +52,12 @@ fn line_ends(rt: HostRuntime) -> Result<(), AllocError> {
         ),
         (
             ONE_GENERATION,
-            b" \t\r\n\t#\xff\x00\n new\ta 00 0  018446744073709551615\n",
+            BLANKS_AND_A_FAULT,
             stopped(2, "gctrace: line 3: too big\n"),
         ),
         (
             ONE_GENERATION,
-            b"new\ta 00  0 01\t\r\n collect 000\r\n",
+            BLANKS_ROUND_WORDS,
             done("collected 0: 1 kept, 0 freed\n"),
         ),
     ] {

@@ -16,18 +16,9 @@ pub(crate) struct Ended {
 
 /// Runs the program over memory.
 fn ran_by<R: Threads + Wait + Sync + AllocGlobal>(rt: &R, words: &[&str], input: &[u8]) -> Ended {
-    let mut reader = CountedReader {
-        inner: input,
-        failed_reads: 0,
-    };
-    let mut writer = Counted {
-        inner: Vec::new(rt.alloc()),
-        failed_writes: 0,
-    };
-    let mut errors = Counted {
-        inner: Vec::new(rt.alloc()),
-        failed_writes: 0,
-    };
+    let mut reader = CountedReader::new(input);
+    let mut writer = Counted::new(Vec::new(rt.alloc()));
+    let mut errors = Counted::new(Vec::new(rt.alloc()));
     let status = main_with(rt, words, &mut reader, &mut writer, &mut errors);
     Ended {
         status,

@@ -78,18 +78,9 @@ fn errors_of(alloc: Global, part: Part, calls: u64) -> PieceWriter {
 
 /// A run in which so many calls of this part are made before one fails.
 fn ran<R: Threads + Wait + Sync + AllocGlobal>(rt: &R, part: Part, calls: u64) -> Ended {
-    let mut reader = CountedReader {
-        inner: reader_of(part, calls),
-        failed_reads: 0,
-    };
-    let mut writer = Counted {
-        inner: writer_of(rt.alloc(), part, calls),
-        failed_writes: 0,
-    };
-    let mut errors = Counted {
-        inner: errors_of(rt.alloc(), part, calls),
-        failed_writes: 0,
-    };
+    let mut reader = CountedReader::new(reader_of(part, calls));
+    let mut writer = Counted::new(writer_of(rt.alloc(), part, calls));
+    let mut errors = Counted::new(errors_of(rt.alloc(), part, calls));
     let words = ["gctrace", "run", "--generations", "1"];
     let status = main_with(rt, &words, &mut reader, &mut writer, &mut errors);
     Ended {

@@ -33,7 +33,7 @@ pub(crate) struct Trial {
     pub(crate) trace: &'static str,
     pub(crate) task: Task,
     pub(crate) sizes: Sizes,
-    /// How many bytes a read gives. Where they are few, what holds the input grows.
+    /// How many bytes a read gives. Where they are few, a line comes by several reads.
     pub(crate) piece: usize,
 }
 
@@ -120,18 +120,12 @@ fn carried_out<R: Threads + Wait + Sync + AllocGlobal>(
 ) -> Result<Ended, BadConfig> {
     let config = config_of(trial, blocks)?;
     let refusing = Refusing::new(rt.alloc(), refused);
-    let mut reader = CountedReader {
-        inner: PieceReader {
-            bytes: input.as_bytes(),
-            piece: trial.piece,
-            left: MANY,
-        },
-        failed_reads: 0,
-    };
-    let mut writer = Counted {
-        inner: Vec::new(rt.alloc()),
-        failed_writes: 0,
-    };
+    let mut reader = CountedReader::new(PieceReader {
+        bytes: input.as_bytes(),
+        piece: trial.piece,
+        left: MANY,
+    });
+    let mut writer = Counted::new(Vec::new(rt.alloc()));
     let result = match trial.task {
         Task::Run => {
             let alone = RunConfig::new(config, 1, CellKind::Word)?;

@@ -18,10 +18,7 @@ fn lists_of(alloc: Global, won_count: u32, scanned_count: u32) -> Result<WorkerR
 
 /// What is written of a collection of generation 0.
 fn written(alloc: Global, cause: Cause, report: &Report) -> Result<Vec<u8>, Fail> {
-    let mut writer = Counted {
-        inner: Vec::new(alloc),
-        failed_writes: 0,
-    };
+    let mut writer = Counted::new(Vec::new(alloc));
     let workers = report.workers.as_slice();
     let lines = workers_text(alloc, workers, report.deliveries.as_slice())?;
     let (kept, freed) = (report.kept, report.freed);

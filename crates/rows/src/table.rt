@@ -24,11 +24,11 @@ use std::thread::Threads;
 
 /// A row: its name, the words of a command line, what it reads and what it leaves.
 #[derive(Clone, Copy)]
-struct Row {
+pub(crate) struct Row {
     name: &'static str,
     words: &'static str,
-    reads: &'static str,
-    left: Left<'static>,
+    pub(crate) reads: &'static str,
+    pub(crate) left: Left<'static>,
 }
 
 /// What a run leaves, of the text of its status and that of its streams, if they have the form of them.
@@ -53,6 +53,17 @@ fn row_of(text: &'static str) -> Option<Row> {
         reads,
         left: left_of(status, streams)?,
     })
+}
+
+/// The row of this name.
+pub(crate) fn row_named(rows: &'static str, name: &str) -> Option<Row> {
+    for text in rows.split("== ").skip(1) {
+        let row = row_of(text)?;
+        if row.name == name {
+            return Some(row);
+        }
+    }
+    None
 }
 
 /// Asserts that the run of a row leaves what it says.

@@ -171,10 +171,7 @@ pub(crate) fn seen<A: Allocator + Clone>(
     if !are_rooted(heap, &names) {
         return Err(Fail::from("no such root"));
     }
-    let mut writer = Counted {
-        inner: Vec::new(alloc),
-        failed_writes: 0,
-    };
+    let mut writer = Counted::new(Vec::new(alloc));
     write_census(alloc, &heap.census(), &mut writer)?;
     write_heap(of_heap, heap, &names, &mut writer)?;
     Ok(writer.inner)

@@ -20,14 +20,8 @@ fn printed<R: Threads + Wait + Sync + AllocGlobal>(
     gate: &Meeting,
 ) -> Result<Vec<u8>, Fail> {
     let config = RunConfig::new(Config::new(Sizes::default())?, 2, kind)?;
-    let mut reader = CountedReader {
-        inner: TRACE.as_bytes(),
-        failed_reads: 0,
-    };
-    let mut writer = Counted {
-        inner: Vec::new(rt.alloc()),
-        failed_writes: 0,
-    };
+    let mut reader = CountedReader::new(TRACE.as_bytes());
+    let mut writer = Counted::new(Vec::new(rt.alloc()));
     run(rt, rt.alloc(), &mut reader, &mut writer, config, gate)?;
     Ok(writer.inner)
 }

@@ -1,44 +1,90 @@
--- The status of a replay that stops.
-use Rattle.std.proofs.Common.{◌≡◌, ℕ, List, Option, Some, None, sym, subst, arith}
-use Rattle.std.specs.Prelude.{IfSome}
+-- How a task ends, by its status.
+use Rattle.std.proofs.Common.{◌≡◌, ◌≢◌, ℕ, ◌≤◌, List, Result, Ok, Err, sym, subst, arith}
+use Rattle.std.specs.Prelude.{OnOk, OnErr, string_bytes}
+use Rattle.heap_text.specs.Streams.{Input, Output, Appends, AppendsFront}
 use Rattle.model.specs.Config.{Config}
-use Rattle.trace_driver.specs.declared.command_line.words.Options.{Options}
-use Rattle.trace_driver.specs.declared.command_line.words.Task.{Task}
-use Rattle.trace_driver.specs.declared.command_line.words.Task.TheVariants.{Replay}
+use Rattle.collector.specs.declared.apart.CellKind.{CellKind}
+use Rattle.collector.specs.declared.apart.CellKind.TheVariants.{Box}
 use Rattle.trace_session.specs.declared.trace_lines.fault.Fault.{Fault}
 use Rattle.trace_session.specs.declared.trace_lines.fault.Fault.TheVariants.{BadTrace, BadSchedule, HeapFull, NoMemory, Unsettled, ReadFailed, WriteFailed}
-use Rattle.trace_session.specs.Faults.{MatchAnyFault, MatchEachFault}
-use Rattle.trace_session.specs.Outcome.{outcome}
-use Rattle.trace_replay.specs.ReplayStops.{HasTraceFault, HasScheduleFault, Quietly, Stops}
-use Rattle.trace_driver.specs.Program.{config_of, ByTask, AreInRange, PrintsFaulty, StopsFaulty, in_trace, in_schedule, IsFaulty, EndsAs}
+use Rattle.trace_session.specs.FaultText.{fault_line, status_of}
+use Rattle.trace_replay.specs.ReplayStops.{IsReplayDone, IsReplayStopped}
+use Rattle.trace_driver.specs.declared.command_line.words.Options.{Options}
+use Rattle.trace_driver.specs.declared.command_line.words.Task.{Task}
+use Rattle.trace_driver.specs.declared.command_line.words.Task.TheVariants.{Run, Replay}
+use Rattle.trace_driver.specs.declared.command_line.words.Refused.{Refused}
+use Rattle.trace_driver.specs.declared.command_line.words.Refused.TheVariants.{Help, Usage}
+use Rattle.trace_driver.specs.declared.command_line.words.Refused.TheVariants as refusals_of
+use Rattle.trace_driver.specs.Refusals.{IsRefusal}
+use Rattle.trace_driver.specs.Refusals as refusals
+use Rattle.trace_driver.specs.Running.{IsRunDone, IsRunStopped}
+use Rattle.trace_driver.specs.Program.{config_of, ByTask, IsTaskDone, IsTaskStopped, Tells, all, cut_off, TaskEnds}
 
-if_some : {T : Type 0} {P Q : T → Type 0} → ((x : T) → P x → Q x) → (o : Option T) → IfSome o P → IfSome o Q
-if_some f None p = tt
-if_some f (Some x) p = f x p
+pub tells_of : {T X failed : Type 0} (r : Result T X) (e e' : Output) (text : List ℕ) → OnOk r (Appends e e' text) → OnErr r (AppendsFront e e' text) → OnErr r failed → Tells failed e e' text
+tells_of (Ok x) e e' text took front failed = all took
+tells_of (Err x) e e' text took front failed = cut_off failed front
 
-module _ (o : Options) (task : o.task ≡ Replay) (in_range : AreInRange o) (config : Config) (n : ℕ) (config_is : config ≡ config_of o) (n_is : n ≡ o.threads) (remaining old new : Option (List ℕ)) where
-  faulty_at : (input : List ℕ) → StopsFaulty config n old new input → IsFaulty o old new input
-  faulty_at input stops =
-      subst (λ t. ByTask t (PrintsFaulty (outcome (config_of o) input) old new) (StopsFaulty (config_of o) o.threads old new input)) (sym task)
-      (subst (λ k. StopsFaulty k o.threads old new input) config_is (subst (λ k. StopsFaulty config k old new input) n_is stops))
+pub status_small : (fault : Fault) → status_of fault ≤ 4
+status_small (BadTrace line kind) = omega arith
+status_small (BadSchedule line kind) = omega arith
+status_small (HeapFull line) = omega arith
+status_small (NoMemory line) = omega arith
+status_small (Unsettled line) = omega arith
+status_small ReadFailed = omega arith
+status_small WriteFailed = omega arith
 
-  ends_otherwise : (status : ℕ) → (status ≡ 0 → ⊥) → (status ≡ 3 → ⊥) → (status ≡ 2 → IfSome remaining (IsFaulty o old new)) → EndsAs o status remaining old new
-  ends_otherwise status not_done not_range faulty = record {
-    done = λ is. absurd (not_done is);
-    faulty = faulty;
-    out_of_range = (λ is. absurd (not_range is), λ out. absurd (out in_range));
-  }
+by_run : (A B : Type 0) (t : Task) → t ≡ Run → A → ByTask t A B
+by_run A B t is a = subst (λ t. ByTask t A B) (sym is) a
 
-  pub replay_ends : (full memory : Option ℕ → Type 0) (read written : Type 0) (status : ℕ) (e : Fault)
-      → MatchAnyFault e (λ _ _. status ≡ 2) (λ _ _. status ≡ 2) (λ _. status ≡ 1) (λ _. status ≡ 1) (λ _. status ≡ 1) (status ≡ 4) (status ≡ 4)
-      → MatchEachFault e (λ at kind. IfSome remaining (Stops (Quietly (HasTraceFault config n kind)) config n at old new)) (λ at kind. IfSome remaining (Stops (Quietly (HasScheduleFault config n kind)) config n at old new)) full memory read written
-      → EndsAs o status remaining old new
-  replay_ends full memory read written status (BadTrace at kind) is f =
-      ends_otherwise status (λ s. omega (arith, is, s)) (λ s. omega (arith, is, s)) (λ s. if_some (λ input stops. faulty_at input (in_trace kind at stops)) remaining f)
-  replay_ends full memory read written status (BadSchedule at kind) is f =
-      ends_otherwise status (λ s. omega (arith, is, s)) (λ s. omega (arith, is, s)) (λ s. if_some (λ input stops. faulty_at input (in_schedule kind at stops)) remaining f)
-  replay_ends full memory read written status (HeapFull at) is f = ends_otherwise status (λ s. omega (arith, is, s)) (λ s. omega (arith, is, s)) (λ s. absurd (omega (arith, is, s)))
-  replay_ends full memory read written status (NoMemory at) is f = ends_otherwise status (λ s. omega (arith, is, s)) (λ s. omega (arith, is, s)) (λ s. absurd (omega (arith, is, s)))
-  replay_ends full memory read written status (Unsettled at) is f = absurd f
-  replay_ends full memory read written status ReadFailed is f = ends_otherwise status (λ s. omega (arith, is, s)) (λ s. omega (arith, is, s)) (λ s. absurd (omega (arith, is, s)))
-  replay_ends full memory read written status WriteFailed is f = ends_otherwise status (λ s. omega (arith, is, s)) (λ s. omega (arith, is, s)) (λ s. absurd (omega (arith, is, s)))
+by_replay : (A B : Type 0) (t : Task) → t ≡ Replay → B → ByTask t A B
+by_replay A B t is b = subst (λ t. ByTask t A B) (sym is) b
+
+module _ (o : Options) (i i' : Input) (w w' : Output) (config : Config) (config_is : config ≡ config_of o) where
+  pub run_is_done : o.task ≡ Run → IsRunDone config i i' w w' → IsTaskDone o i i' w w'
+  run_is_done is d = by_run _ _ o.task is (subst (λ c. IsRunDone c i i' w w') config_is d)
+
+  pub replay_is_done : o.task ≡ Replay → (n : ℕ) → n ≡ o.threads → IsReplayDone config n i i' w w' → IsTaskDone o i i' w w'
+  replay_is_done is n n_is d = by_replay _ _ o.task is (subst (λ c. IsReplayDone c o.threads i i' w w') config_is (subst (λ k. IsReplayDone config k i i' w w') n_is d))
+
+  module _ (n : ℕ) (n_is : n ≡ o.threads) (untouched failed_read failed_write : Type 0) (fault : Fault) where
+    pub run_is_stopped : o.task ≡ Run → (kind : CellKind) → kind ≡ o.cells → IsRunStopped config n ((kind ≡ Box) × (n ≢ 1)) untouched i i' w w' failed_read failed_write fault → IsTaskStopped o untouched i i' w w' failed_read failed_write fault
+    run_is_stopped is kind kind_is s =
+        by_run _ _ o.task is
+        (subst (λ c. IsRunStopped c o.threads ((o.cells ≡ Box) × (o.threads ≢ 1)) untouched i i' w w' failed_read failed_write fault) config_is
+        (subst (λ k. IsRunStopped config k ((o.cells ≡ Box) × (k ≢ 1)) untouched i i' w w' failed_read failed_write fault) n_is
+        (subst (λ k. IsRunStopped config n ((k ≡ Box) × (n ≢ 1)) untouched i i' w w' failed_read failed_write fault) kind_is s)))
+
+    pub replay_is_stopped : o.task ≡ Replay → IsReplayStopped config n untouched i i' w w' failed_read failed_write fault → IsTaskStopped o untouched i i' w w' failed_read failed_write fault
+    replay_is_stopped is s =
+        by_replay _ _ o.task is
+        (subst (λ c. IsReplayStopped c o.threads untouched i i' w w' failed_read failed_write fault) config_is
+        (subst (λ k. IsReplayStopped config k untouched i i' w w' failed_read failed_write fault) n_is s))
+
+-- the same by another term for the status
+pub ends_at : (options : Options) (untouched quiet failed_read failed_write failed_tell : Type 0) (i i' : Input) (o o' e e' : Output) (n m : ℕ) → m ≡ n
+    → TaskEnds options untouched quiet failed_read failed_write failed_tell i i' o o' e e' n → TaskEnds options untouched quiet failed_read failed_write failed_tell i i' o o' e e' m
+ends_at options untouched quiet failed_read failed_write failed_tell i i' o o' e e' n m is ends = subst (TaskEnds options untouched quiet failed_read failed_write failed_tell i i' o o' e e') (sym is) ends
+
+-- ---- words that ask for no task
+
+abbrev IsHelpOf : Refused → List ℕ → Type 0
+IsHelpOf (Help text) bytes = bytes ≡ string_bytes text
+IsHelpOf (Usage text) bytes = ⊥
+IsHelpOf refusals_of.NoMemory bytes = ⊥
+
+pub is_help_of : (refused other : Refused) (bytes : List ℕ) → refused ≡ other → IsHelpOf other bytes → IsHelpOf refused bytes
+is_help_of refused other bytes is help = subst (λ r. IsHelpOf r bytes) (sym is) help
+
+module _ (unwritten quiet failed_write failed_tell : Type 0) (o o' e e' : Output) (bytes : List ℕ) where
+  pub help_told : (refused : Refused) → IsHelpOf refused bytes → Appends o o' bytes → quiet → IsRefusal refused unwritten quiet failed_write failed_tell o o' e e' 0
+  help_told (Help text) is took same = refusals.all (subst (Appends o o') is took) same
+  help_told (Usage text) is took same = absurd is
+  help_told refusals_of.NoMemory is took same = absurd is
+
+  cut_off_at : (refused : Refused) → IsHelpOf refused bytes → failed_write → AppendsFront o o' bytes → Tells failed_tell e e' (fault_line WriteFailed) → IsRefusal refused unwritten quiet failed_write failed_tell o o' e e' 4
+  cut_off_at (Help text) is failed front told = refusals.cut_off failed (subst (AppendsFront o o') is front) told
+  cut_off_at (Usage text) is failed front told = absurd is
+  cut_off_at refusals_of.NoMemory is failed front told = absurd is
+
+  pub help_cut_off : (refused : Refused) → IsHelpOf refused bytes → failed_write → AppendsFront o o' bytes → Tells failed_tell e e' (fault_line WriteFailed) → (status : ℕ) → status ≡ 4 → IsRefusal refused unwritten quiet failed_write failed_tell o o' e e' status
+  help_cut_off refused is failed front told status four = subst (IsRefusal refused unwritten quiet failed_write failed_tell o o' e e') (sym four) (cut_off_at refused is failed front told)

@@ -1,5 +1,5 @@
 -- How a run and a replay end.
 
-pub mod ByThreads
-pub mod Done
+pub mod LineByLine
+pub mod WholeRun
 pub mod Endings

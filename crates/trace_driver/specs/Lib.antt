@@ -1,7 +1,5 @@
 -- What the program does, and how a run of a trace ends.
 
--- Why the words of a command line ask for no run.
-pub mod Refusals
 pub use Rattle.trace_session.specs.Pieces
 pub use Rattle.trace_session.specs.Outcome
 pub use Rattle.trace_session.specs.Sound
@@ -12,4 +10,8 @@ pub use Rattle.trace_session.specs.FaultText
 pub use Rattle.trace_replay.specs.Replays
 pub use Rattle.trace_replay.specs.ReplayStops
 pub mod RunValue
+pub mod Running
 pub mod Program
+-- Why the words of a command line ask for no run, and what is told of it.
+pub mod Refusals
+pub mod Words

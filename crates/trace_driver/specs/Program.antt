@@ -1,50 +1,47 @@
--- What the program does with the numbers of its command line.
-use Rattle.std.specs.Prelude.{◌≡◌, ℕ, ◌<◌, ◌≤◌, ◌↔◌, List, Option, None, IfSome, IsSome}
-use Rattle.std.specs.Io.KnownBytes.{Appends}
+-- What the program does with the options of its command line, and how it ends.
+use Rattle.std.specs.Prelude.{◌≡◌, ℕ, ◌<◌, ◌≤◌, ◌≢◌, List, codes}
+use Rattle.heap_text.specs.Streams.{Input, Output, Appends, AppendsFront}
 use Rattle.model.specs.Config.{Config}
-use Rattle.model.specs.declared.kind.Kind.{Kind}
-use Rattle.model.specs.Commands.{Run as Meant}
 use Rattle.heap.specs.ConfigRange.{IsInRange, sizes_of}
-use Rattle.trace_session.specs.Outcome.{outcome}
-use Rattle.trace_session.specs.Carried.{Prints}
+use Rattle.collector.specs.declared.apart.CellKind.TheVariants.{Box}
+use Rattle.trace_session.specs.declared.trace_lines.fault.Fault.{Fault}
+use Rattle.trace_session.specs.FaultText.{fault_line, status_of}
 use Rattle.trace_driver.specs.declared.command_line.words.Options.{Options}
 use Rattle.trace_driver.specs.declared.command_line.words.Task.{Task}
 use Rattle.trace_driver.specs.declared.command_line.words.Task.TheVariants.{Run, Replay}
-use Rattle.trace_text.specs.declared.schedule.ScheduleKind.{ScheduleKind}
-use Rattle.trace_replay.specs.Replays.{IsReplayed}
-use Rattle.trace_replay.specs.ReplayStops.{HasTraceFault, HasScheduleFault, Quietly, Stops}
+use Rattle.trace_replay.specs.ReplayStops.{IsReplayDone, IsReplayStopped}
+use Rattle.trace_driver.specs.Running.{IsRunDone, IsRunStopped}
 
 -- the sizes that were asked for
 abbrev pub config_of : Options → Config
 config_of o = sizes_of o.sizes
+
+-- each number is in its range
+abbrev pub AreInRange : Options → Type 0
+AreInRange o = IsInRange (config_of o) × ((0 < o.threads) × (o.threads ≤ 16))
 
 -- what is so of each task
 abbrev pub ByTask : Task → Type 0 → Type 0 → Type 0
 ByTask Run run replay = run
 ByTask Replay run replay = replay
 
--- each number is in its range
-abbrev pub AreInRange : Options → Type 0
-AreInRange o = IsInRange (config_of o) × ((0 < o.threads) × (o.threads ≤ 16))
+-- the task was carried out to the end
+abbrev pub IsTaskDone : Options → (i i' : Input) (o o' : Output) → Type 0
+IsTaskDone options i i' o o' = ByTask options.task (IsRunDone (config_of options) i i' o o') (IsReplayDone (config_of options) options.threads i i' o o')
 
--- what is printed is the output of the lines before the first faulty one
-pub record PrintsFaulty (run : Meant) (old new : Option (List ℕ)) : Type 0 where
-  pub faulty : IsSome run.fault
-  pub held : Appends old new run.output
+-- it stopped for this reason
+abbrev pub IsTaskStopped : Options → (untouched : Type 0) → (i i' : Input) (o o' : Output) → (failed_read failed_write : Type 0) → Fault → Type 0
+IsTaskStopped options untouched i i' o o' failed_read failed_write fault = ByTask options.task
+    (IsRunStopped (config_of options) options.threads ((options.cells ≡ Box) × (options.threads ≢ 1)) untouched i i' o o' failed_read failed_write fault)
+    (IsReplayStopped (config_of options) options.threads untouched i i' o o' failed_read failed_write fault)
 
--- a replay stops at a faulty line of the trace or of a schedule
-pub data StopsFaulty (config : Config) (n : ℕ) (old new : Option (List ℕ)) (input : List ℕ) : Type 0 where
-  in_trace : (kind : Kind) (at : ℕ) → Stops (Quietly (HasTraceFault config n kind)) config n at old new input → StopsFaulty config n old new input
-  in_schedule : (kind : ScheduleKind) (at : ℕ) → Stops (Quietly (HasScheduleFault config n kind)) config n at old new input → StopsFaulty config n old new input
+-- a text was written, or a write of it failed after a front of it
+pub data Tells (failed : Type 0) (e e' : Output) (text : List ℕ) : Type 0 where
+  all : Appends e e' text → Tells failed e e' text
+  cut_off : failed → AppendsFront e e' text → Tells failed e e' text
 
-abbrev pub IsDone : Options → (old new : Option (List ℕ)) → List ℕ → Type 0
-IsDone o old new input = ByTask o.task (Prints (outcome (config_of o) input) None old new) (IsReplayed (config_of o) o.threads old new input)
-
-abbrev pub IsFaulty : Options → (old new : Option (List ℕ)) → List ℕ → Type 0
-IsFaulty o old new input = ByTask o.task (PrintsFaulty (outcome (config_of o) input) old new) (StopsFaulty (config_of o) o.threads old new input)
-
--- how a trace ends, by its status
-pub record EndsAs (options : Options) (status : ℕ) (remaining old new : Option (List ℕ)) : Type 0 where
-  pub done : status ≡ 0 → IfSome remaining (IsDone options old new)
-  pub faulty : status ≡ 2 → IfSome remaining (IsFaulty options old new)
-  pub out_of_range : (status ≡ 3) ↔ ¬ (AreInRange options)
+-- how a task with these options ends, by its status, with what was read, what was written, and what the errors were told
+pub data TaskEnds (options : Options) (untouched quiet failed_read failed_write failed_tell : Type 0) (i i' : Input) (o o' e e' : Output) : ℕ → Type 0 where
+  done : AreInRange options → IsTaskDone options i i' o o' → quiet → TaskEnds options untouched quiet failed_read failed_write failed_tell i i' o o' e e' 0
+  stopped : (fault : Fault) → AreInRange options → IsTaskStopped options untouched i i' o o' failed_read failed_write fault → Tells failed_tell e e' (fault_line fault) → TaskEnds options untouched quiet failed_read failed_write failed_tell i i' o o' e e' (status_of fault)
+  out_of_range : ¬ AreInRange options → untouched → Tells failed_tell e e' (codes "gctrace: bad configuration\n") → TaskEnds options untouched quiet failed_read failed_write failed_tell i i' o o' e e' 3

@@ -5,11 +5,12 @@ use Rattle.model.specs.Config.{Config, config_code}
 use Rattle.collector.specs.declared.apart.CellKind.{CellKind}
 use Rattle.collector.specs.declared.apart.CellKind.TheVariants.{Box, Word}
 
--- the heap's sizes, how many workers collect, and their cells
+-- the heap's sizes, how many workers collect, their cells, and how many bytes one read asks for
 pub record RunValue : Type 0 where
   pub config : Config
   pub workers : ℕ
   pub kind : CellKind
+  pub piece : ℕ
 
 -- the kinds of cells by a test
 abbrev pub is_word : CellKind → Bool
@@ -21,11 +22,12 @@ kind_by false = Box
 kind_by true = Word
 
 -- and the code gives them back
-pub same_run : (config : Config) (workers : ℕ) (kind : CellKind) → ◌≡◌ {A = RunValue} (record { config = config; workers = workers; kind = kind_by (is_word kind) }) (record { config = config; workers = workers; kind = kind })
-same_run config workers Box = refl
-same_run config workers Word = refl
+pub same_run : (config : Config) (workers : ℕ) (kind : CellKind) (piece : ℕ) → ◌≡◌ {A = RunValue} (record { config = config; workers = workers; kind = kind_by (is_word kind); piece = piece }) (record { config = config; workers = workers; kind = kind; piece = piece })
+same_run config workers Box piece = refl
+same_run config workers Word piece = refl
 
 abbrev pub run_code : Coded RunValue
 run_code =
-    code_by (Config × (ℕ × Bool)) (coded× config_code (coded× coded_ℕ coded_bool)) (λ r. (r.config, (r.workers, is_word r.kind))) (λ p. record { config = p.0; workers = p.1.0; kind = kind_by p.1.1 })
-    (λ r. same_run r.config r.workers r.kind)
+    code_by (Config × (ℕ × (Bool × ℕ))) (coded× config_code (coded× coded_ℕ (coded× coded_bool coded_ℕ))) (λ r. (r.config, (r.workers, (is_word r.kind, r.piece))))
+    (λ p. record { config = p.0; workers = p.1.0; kind = kind_by p.1.1.0; piece = p.1.1.1 })
+    (λ r. same_run r.config r.workers r.kind r.piece)

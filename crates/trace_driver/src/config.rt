@@ -4,13 +4,18 @@ ghost use Rattle.std.specs.Prelude.{◌≡◌, ◌<◌, ◌≤◌, ◌↔◌, Is
 use collector::CellKind;
 use heap::{BadConfig, Config};
 use std::marker::Model;
+use trace_session::MOST_PIECE;
 
-/// The sizes of the heap, the number of workers that collect, and their cells.
+/// How many bytes a read asks for where nothing else is said.
+const PIECE: u32 = 4096;
+
+/// The sizes of the heap, the number of workers that collect, their cells, and how many bytes one read asks for.
 #[derive(Clone, Copy, Debug)]
 pub struct RunConfig {
     config: Config,
     workers: u32,
     kind: CellKind,
+    piece: u32,
 }
 
 impl Model for RunConfig {
@@ -21,17 +26,17 @@ impl Model for RunConfig {
 
     ghost coded = { run_code };
 
-    ghost view = { λ r. record { config = r.config; workers = r.workers; kind = r.kind } };
+    ghost view = { λ r. record { config = r.config; workers = r.workers; kind = r.kind; piece = r.piece } };
 
-    ghost invariant = { λ r. (0 < r.workers) × (r.workers ≤ 16) };
+    ghost invariant = { λ r. ((0 < r.workers) × (r.workers ≤ 16)) × ((0 < r.piece) × (r.piece ≤ 65536)) };
 
-    ghost inverse = { λ v. record { config = v.config; workers = v.workers; kind = v.kind } };
+    ghost inverse = { λ v. record { config = v.config; workers = v.workers; kind = v.kind; piece = v.piece } };
 }
 
 impl RunConfig {
-    /// A run with so many workers, 1 to 16, whose cells are of this kind where they are threads.
+    /// A run with so many workers, 1 to 16, whose cells are of this kind where they are threads. A read asks for 4,096 bytes.
     pub fn new(config: Config, workers: u64, kind: CellKind) -> Result<RunConfig, BadConfig>
-        ensures ok { IfOk result (λ run. (run.config ≡ config) × (run.workers ≡ workers) × (run.kind ≡ kind)) }
+        ensures ok { IfOk result (λ run. run ≡ record { config = config; workers = workers; kind = kind; piece = 4096 }) }
         ensures in_range { IsOk result ↔ ((0 < workers) × (workers ≤ 16)) }
     {
         if workers == 0 || workers > 16 {
@@ -41,6 +46,21 @@ impl RunConfig {
             config,
             workers: workers as u32,
             kind,
+            piece: PIECE,
+        })
+    }
+
+    /// The same run, in which a read asks for so many bytes, 1 to 65,536.
+    pub fn with_piece(self, bytes: u64) -> Result<RunConfig, BadConfig>
+        ensures ok { IfOk result (λ run. run ≡ record self { piece = bytes }) }
+        ensures in_range { IsOk result ↔ ((0 < bytes) × (bytes ≤ 65536)) }
+    {
+        if bytes == 0 || bytes > MOST_PIECE as u64 {
+            return Err(BadConfig);
+        }
+        Ok(RunConfig {
+            piece: bytes as u32,
+            ..self
         })
     }
 
@@ -68,5 +88,15 @@ impl RunConfig {
     {
         let _workers = self.workers;
         self.kind
+    }
+
+    /// How many bytes one read asks for.
+    pub fn piece(&self) -> usize
+        ensures piece { result ≡ self.now.piece }
+        ensures some { 0 < result }
+        ensures most { result ≤ 65536 }
+    {
+        let _workers = self.workers;
+        self.piece as usize
     }
 }

@@ -1,4 +1,4 @@
-//! From bytes to bytes: a run, a replay, and the whole program over memory.
+//! From bytes to bytes: a run, a replay, and the whole program over any reader and writers.
 #![tactic(auto)]
 
 mod apart;

@@ -1,10 +1,10 @@
-//! The whole program over memory: the words of a command line, and what is read and written.
+//! The whole program: the words of a command line, and what is read and written.
 ghost use Rattle.std.specs.Prelude.{◌≡◌, ◌+◌, ◌-◌, ◌^◌, ◌<◌, ◌≤◌, ◌⊎◌, ◌↔◌, IfOk, IsOk};
-ghost use Rattle.std.specs.Io.KnownBytes.{Appends};
-ghost use Rattle.trace_session.specs.Faults.{MatchAnyFault};
-ghost use Rattle.trace_session.specs.FaultText.{fault_line};
-ghost use Rattle.trace_driver.specs.Program.{config_of, AreInRange, EndsAs};
+ghost use Rattle.trace_session.specs.FaultText.{fault_line, status_of};
+ghost use Rattle.trace_driver.specs.Program.{config_of, AreInRange, Tells, TaskEnds};
+ghost use Rattle.trace_driver.specs.Refusals.{IsRefusal};
 ghost use Rattle.trace_driver.specs.declared.command_line.words.Options.{Options as Asked};
+ghost use Rattle.trace_driver.specs.declared.command_line.words.Refused.{Refused as Mistaken};
 
 use crate::apart::run;
 use crate::command_line::{Options, Refused, Task, read_words};
@@ -31,9 +31,9 @@ fn run_config(options: &Options) -> Result<RunConfig, BadConfig>
 /// The status of a fault, whose line is written to `errors`. A failed write of the line changes nothing.
 fn tell<E: Sink>(fault: &Fault, errors: &mut E) -> u8
     requires { E.failed_writes errors.old < 2 ^ 64 - 1 }
-    ensures status { MatchAnyFault fault.now (λ _ _. result ≡ 2) (λ _ _. result ≡ 2) (λ _. result ≡ 1) (λ _. result ≡ 1) (λ _. result ≡ 1) (result ≡ 4) (result ≡ 4) }
-    ensures told { (E.failed_writes errors.new ≡ E.failed_writes errors.old + 1)
-        ⊎ ((E.failed_writes errors.new ≡ E.failed_writes errors.old) × Appends (E.contents errors.old) (E.contents errors.new) (fault_line fault.now)) }
+    ensures status { result ≡ status_of fault.now }
+    ensures told { Tells (E.failed_writes errors.new ≡ E.failed_writes errors.old + 1)
+        (E.output errors.old) (E.output errors.new) (fault_line fault.now) }
     ensures rises { E.failed_writes errors.new ≤ E.failed_writes errors.old + 1 }
 {
     let _ = write_fault(fault, errors);
@@ -46,6 +46,9 @@ fn refuse<W: Sink, E: Sink>(refused: &Refused, writer: &mut W, errors: &mut E) -
     requires writable { W.failed_writes writer.old < 2 ^ 64 - 1 }
     requires tellable { E.failed_writes errors.old < 2 ^ 64 - 1 }
     ensures status { result ≤ 4 }
+    ensures ends { IsRefusal refused.now (writer.new ≡ writer.old) (errors.new ≡ errors.old)
+        (W.failed_writes writer.new ≡ W.failed_writes writer.old + 1) (E.failed_writes errors.new ≡ E.failed_writes errors.old + 1)
+        (W.output writer.old) (W.output writer.new) (E.output errors.old) (E.output errors.new) result }
     ensures writes { W.failed_writes writer.new ≤ W.failed_writes writer.old + 1 }
     ensures error_writes { E.failed_writes errors.new ≤ E.failed_writes errors.old + 1 }
 {
@@ -74,7 +77,10 @@ fn run_with<R: Threads + Wait + Sync + AllocGlobal, S: Source, W: Sink, E: Sink>
     requires writable { W.failed_writes writer.old < 2 ^ 64 - 1 }
     requires tellable { E.failed_writes errors.old < 2 ^ 64 - 1 }
     ensures status { result ≤ 4 }
-    ensures ends { EndsAs options.now result (S.remaining reader.old) (W.contents writer.old) (W.contents writer.new) }
+    ensures ends { TaskEnds options.now ((writer.new ≡ writer.old) × (reader.new ≡ reader.old)) (errors.new ≡ errors.old)
+        (S.failed_reads reader.new ≡ S.failed_reads reader.old + 1) (W.failed_writes writer.new ≡ W.failed_writes writer.old + 1)
+        (E.failed_writes errors.new ≡ E.failed_writes errors.old + 1)
+        (S.input reader.old) (S.input reader.new) (W.output writer.old) (W.output writer.new) (E.output errors.old) (E.output errors.new) result }
     ensures reads { S.failed_reads reader.new ≤ S.failed_reads reader.old + 1 }
     ensures writes { W.failed_writes writer.new ≤ W.failed_writes writer.old + 1 }
     ensures error_writes { E.failed_writes errors.new ≤ E.failed_writes errors.old + 1 }
@@ -113,8 +119,13 @@ pub fn main_with<R: Threads + Wait + Sync + AllocGlobal, T: AsStr, S: Source, W:
     requires writable { W.failed_writes writer.old < 2 ^ 64 - 1 }
     requires tellable { E.failed_writes errors.old < 2 ^ 64 - 1 }
     ensures status { result ≤ 4 }
-    ensures ends { (reader.new ≡ reader.old)
-        ⊎ ((options : Asked) × EndsAs options result (S.remaining reader.old) (W.contents writer.old) (W.contents writer.new)) }
+    ensures ends { ((options : Asked) × TaskEnds options ((writer.new ≡ writer.old) × (reader.new ≡ reader.old)) (errors.new ≡ errors.old)
+        (S.failed_reads reader.new ≡ S.failed_reads reader.old + 1) (W.failed_writes writer.new ≡ W.failed_writes writer.old + 1)
+        (E.failed_writes errors.new ≡ E.failed_writes errors.old + 1)
+        (S.input reader.old) (S.input reader.new) (W.output writer.old) (W.output writer.new) (E.output errors.old) (E.output errors.new) result)
+        ⊎ ((reader.new ≡ reader.old) × ((mistaken : Mistaken) × IsRefusal mistaken (writer.new ≡ writer.old) (errors.new ≡ errors.old)
+        (W.failed_writes writer.new ≡ W.failed_writes writer.old + 1) (E.failed_writes errors.new ≡ E.failed_writes errors.old + 1)
+        (W.output writer.old) (W.output writer.new) (E.output errors.old) (E.output errors.new) result)) }
     ensures reads { S.failed_reads reader.new ≤ S.failed_reads reader.old + 1 }
     ensures writes { W.failed_writes writer.new ≤ W.failed_writes writer.old + 1 }
     ensures error_writes { E.failed_writes errors.new ≤ E.failed_writes errors.old + 1 }

@@ -1,7 +1,7 @@
 -- What a collection for a new object does to a session that stands for a store.
 use Rattle.std.proofs.Common.{◌≡◌, ℕ, ◌+◌, List, ◌++◌, length, Option, codes, ap, ◌∙◌}
 use Rattle.std.specs.Prelude.{sum_by}
-use Rattle.std.specs.Io.KnownBytes.{Appends}
+use Rattle.heap_text.specs.Streams.{Output, Appends}
 use Rattle.layout.specs.declared.place.Place.{Place}
 use Rattle.block_pool.specs.BlockValue.{BlockValue}
 use Rattle.model.specs.Config.{Config}
@@ -36,7 +36,7 @@ module _ (heap : HeapValue) (n : ℕ) (collection : CollectionValue) (places : L
       let run = stepped_run (setting_at heap 0 n) b.finishes.run in
       record { collects = collects; runs = record { last = b.last; events = run.0; run = run.1; reports_are = b.brought.reports_are } }
 
-  pub room_made : (names : List (List ℕ × ℕ)) (config : Config) (store : Store) (stands : StandsFor heap names config store) (printed printed' : Option (List ℕ))
+  pub room_made : (names : List (List ℕ × ℕ)) (config : Config) (store : Store) (stands : StandsFor heap names config store) (printed printed' : Output)
       → Appends printed printed' (collection_line (codes "auto") 0 kept freed ++ workers_text workers deliveries)
       → StandsFor heap' names config (collected config 0 store) × Writes (λ written. MakesRoom n (record { heap = heap; names = names; store = store }) written heap') printed printed'
   room_made names config store stands printed printed' held = (

@@ -1,7 +1,7 @@
 -- What a collection by a schedule does to a session that stands for a store.
 use Rattle.std.proofs.Common.{◌≡◌, ℕ, ◌+◌, ◌<◌, ◌≤◌, true, false, List, [], ◌∷◌, ◌++◌, length, Option, Some, None, Result, Ok, ◌⊎◌, inl, inr, refl, sym, ap, subst, ◌∙◌, codes, arith}
 use Rattle.std.specs.Prelude.{nat_lt, sum_by, MatchOption, is_ok}
-use Rattle.std.specs.Io.KnownBytes.{Appends}
+use Rattle.heap_text.specs.Streams.{Input, Output, Appends, OfGiven, OfInput}
 use Rattle.std.proofs.lemmas.Bool.{lt-ltb, le-ltb}
 use Rattle.layout.specs.declared.place.Place.{Place}
 use Rattle.block_pool.specs.BlockValue.{BlockValue}
@@ -33,7 +33,10 @@ use Rattle.trace_text.specs.declared.schedule.ScheduleLine.TheVariants.{Nothing,
 use Rattle.trace_session.specs.declared.trace_lines.fault.Fault.{Fault}
 use Rattle.trace_session.specs.declared.trace_lines.fault.Fault.TheVariants.{BadTrace, BadSchedule, HeapFull, NoMemory, Unsettled, ReadFailed, WriteFailed}
 use Rattle.trace_session.specs.Faults.{MatchEachFault}
+use Rattle.trace_session.specs.Lines.{LinesValue, Moves}
 use Rattle.trace_session.specs.Pieces.{finished, pieces}
+use Rattle.trace_session.specs.declared.session.Session.{Session}
+use Rattle.trace_session.specs.Session.{Stands}
 use Rattle.trace_session.specs.Outcome.{line_step, entry_step, command_step}
 use Rattle.trace_session.specs.Sound.{IsSoundCommand}
 use Rattle.trace_session.specs.Stepped.{AtEach}
@@ -41,11 +44,12 @@ use Rattle.trace_session.specs.Made as made_by
 use Rattle.trace_session.specs.Stands.{StandsFor}
 use Rattle.trace_session.proofs.StandsCollected.{stands_collected, kept_same, freed_same}
 use Rattle.trace_replay.specs.Runs.{Brings, LinesRun, stay, go}
-use Rattle.trace_replay.specs.Stops.{IsUnreadable, IsRefusedBlocks, IsSoundLine, OfLine, StopsAt, StopsWith}
+use Rattle.trace_replay.specs.Stops.{IsUnreadable, IsRefusedBlocks, IsSoundLine, IsUsedUp, OfLine, StopsAt, StopsWith}
 use Rattle.trace_replay.specs.Brought.{IsBrought, BringsToCommit}
-use Rattle.trace_replay.specs.Replays.{State, HasCollected}
-use Rattle.trace_replay.specs.ReplayStops.{OpensSchedule, AfterCollect, HasTraceFault, HasScheduleFault, WantsBlocks, IsSoundAt, outside, inside}
+use Rattle.trace_replay.specs.Replays.{State, HasCollected, CollectsTo, state_of}
+use Rattle.trace_replay.specs.ReplayStops.{OpensSchedule, AfterCollect, HasTraceFault, HasScheduleFault, WantsBlocks, IsSoundAt, LeavesNothingWhole, outside, inside}
 use Rattle.trace_replay.specs.ReplayStops as stops
+use Rattle.trace_replay.proofs.LinesRead.{OfInput-map, OfGiven-map, moves_as, stops_moved}
 
 -- the lines of a schedule are events, one after another
 module _ (setting : Setting) where
@@ -105,30 +109,41 @@ module _ (heap : HeapValue) (names : List (List ℕ × ℕ)) (config : Config) (
     pub blocks_wanted_in : (at : ℕ) → StopsAt (OfLine (IsRefusedBlocks (setting_at heap g n))) (setting_at heap g n) (opening_at heap g n) (number + 1) text at → IsShortOfBlocks heap g n → AfterCollect g text (λ left. WantsBlocks config n before number left at)
     blocks_wanted_in at stop short = λ line asks. stops.inside (opens line asks) stop short
 
+    no_memory_either : (at : ℕ) → (at ≡ number) ⊎ StopsAt (OfLine (IsSoundLine (setting_at heap g n))) (setting_at heap g n) (opening_at heap g n) (number + 1) text at
+        → AfterCollect g text (λ left. IsSoundAt config n before number left at [])
+    no_memory_either at (inl is) = subst (λ k. AfterCollect g text (λ left. IsSoundAt config n before number left k [])) (sym is) no_memory_at
+    no_memory_either at (inr stop) = no_memory_in at stop
+
+    -- reads came to no whole line more
+    pub used_up_in : IsUsedUp (setting_at heap g n) (opening_at heap g n) text → AfterCollect g text (LeavesNothingWhole config n before)
+    used_up_in used = λ line asks. stops.inside (opens line asks) used
+
 -- where the schedule stops
-module _ (heap : HeapValue) (names : List (List ℕ × ℕ)) (g n number : ℕ) (text : List ℕ) (in_range : g < heap.config.shape.generations) {W : Type 0} (old new : W) (written : Type 0) where
+module _ (heap : HeapValue) (names : List (List ℕ × ℕ)) (g n number : ℕ) (in_range : g < heap.config.shape.generations) (front : List ℕ) (i j : Input) {W : Type 0} (old new : W) (failed written : Type 0) where
   pub fault_of_schedule : new ≡ old → (e : Fault)
       → MatchEachFault e
-      (λ at kind. StopsAt (IsUnreadable kind) (setting_at heap g n) (opening_at heap g n) (number + 1) text at)
-      (λ at kind. StopsWith (setting_at heap g n) (opening_at heap g n) number text at kind)
-      (λ at. MatchOption at ⊥ (λ line. StopsAt (OfLine (IsRefusedBlocks (setting_at heap g n))) (setting_at heap g n) (opening_at heap g n) (number + 1) text line × IsShortOfBlocks heap g n))
-      (λ at. MatchOption at ⊥ (λ line. (line ≡ number) ⊎ StopsAt (OfLine (IsSoundLine (setting_at heap g n))) (setting_at heap g n) (opening_at heap g n) (number + 1) text line))
-      ⊥ ⊥
+      (λ at kind. OfInput front i j (λ text. StopsAt (IsUnreadable kind) (setting_at heap g n) (opening_at heap g n) (number + 1) text at))
+      (λ at kind. OfInput front i j (λ text. StopsWith (setting_at heap g n) (opening_at heap g n) number text at kind))
+      (λ at. MatchOption at ⊥ (λ line. OfInput front i j (λ text. StopsAt (OfLine (IsRefusedBlocks (setting_at heap g n))) (setting_at heap g n) (opening_at heap g n) (number + 1) text line)
+      × IsShortOfBlocks heap g n))
+      (λ at. MatchOption at ⊥ (λ line. OfInput front i j (λ text. (line ≡ number)
+      ⊎ StopsAt (OfLine (IsSoundLine (setting_at heap g n))) (setting_at heap g n) (opening_at heap g n) (number + 1) text line)))
+      (OfGiven front i j (IsUsedUp (setting_at heap g n) (opening_at heap g n)) × failed) ⊥
       → MatchEachFault e
-      (λ at kind. AtEach (StandsFor heap names) (λ config store. AfterCollect g text (λ left. HasTraceFault config n kind (record { heap = heap; names = names; store = store }) number left at)) × (new ≡ old))
-      (λ at kind. AtEach (StandsFor heap names) (λ config store. AfterCollect g text (λ left. HasScheduleFault config n kind (record { heap = heap; names = names; store = store }) number left at)) × (new ≡ old))
-      (λ at. MatchOption at ⊥ (λ line. AtEach (StandsFor heap names) (λ config store. AfterCollect g text (λ left. WantsBlocks config n (record { heap = heap; names = names; store = store }) number left line))) × (new ≡ old))
-      (λ at. MatchOption at ⊥ (λ line. AtEach (StandsFor heap names) (λ config store. AfterCollect g text (λ left. IsSoundAt config n (record { heap = heap; names = names; store = store }) number left line []))) × (new ≡ old))
-      ⊥ written
-  fault_of_schedule same (BadTrace at kind) f = (λ config store stands. trace_fault_in heap names config store stands g in_range n number text kind at f, same)
-  fault_of_schedule same (BadSchedule at kind) f = (λ config store stands. schedule_fault_in heap names config store stands g in_range n number text kind at f, same)
+      (λ at kind. OfInput front i j (λ text. AtEach (StandsFor heap names) (λ config store. AfterCollect g text (λ left. HasTraceFault config n kind (record { heap = heap; names = names; store = store }) number left at))) × (new ≡ old))
+      (λ at kind. OfInput front i j (λ text. AtEach (StandsFor heap names) (λ config store. AfterCollect g text (λ left. HasScheduleFault config n kind (record { heap = heap; names = names; store = store }) number left at))) × (new ≡ old))
+      (λ at. MatchOption at ⊥ (λ line. OfInput front i j (λ text. AtEach (StandsFor heap names) (λ config store. AfterCollect g text (λ left. WantsBlocks config n (record { heap = heap; names = names; store = store }) number left line)))) × (new ≡ old))
+      (λ at. MatchOption at ⊥ (λ line. OfInput front i j (λ text. AtEach (StandsFor heap names) (λ config store. AfterCollect g text (λ left. IsSoundAt config n (record { heap = heap; names = names; store = store }) number left line [])))) × (new ≡ old))
+      (OfGiven front i j (λ text. AtEach (StandsFor heap names) (λ config store. AfterCollect g text (LeavesNothingWhole config n (record { heap = heap; names = names; store = store })))) × (new ≡ old) × failed)
+      written
+  fault_of_schedule same (BadTrace at kind) f = (OfInput-map front i j f (λ text stop config store stands. trace_fault_in heap names config store stands g in_range n number text kind at stop), same)
+  fault_of_schedule same (BadSchedule at kind) f = (OfInput-map front i j f (λ text stop config store stands. schedule_fault_in heap names config store stands g in_range n number text kind at stop), same)
   fault_of_schedule same (HeapFull None) f = absurd f
-  fault_of_schedule same (HeapFull (Some at)) f = (λ config store stands. blocks_wanted_in heap names config store stands g in_range n number text at f.0 f.1, same)
+  fault_of_schedule same (HeapFull (Some at)) f = (OfInput-map front i j f.0 (λ text stop config store stands. blocks_wanted_in heap names config store stands g in_range n number text at stop f.1), same)
   fault_of_schedule same (NoMemory None) f = absurd f
-  fault_of_schedule same (NoMemory (Some at)) (inl is) = (λ config store stands. subst (λ k. AfterCollect g text (λ left. IsSoundAt config n (record { heap = heap; names = names; store = store }) number left k [])) (sym is) (no_memory_at heap names config store stands g in_range n number text), same)
-  fault_of_schedule same (NoMemory (Some at)) (inr f) = (λ config store stands. no_memory_in heap names config store stands g in_range n number text at f, same)
+  fault_of_schedule same (NoMemory (Some at)) f = (OfInput-map front i j f (λ text stop config store stands. no_memory_either heap names config store stands g in_range n number text at stop), same)
   fault_of_schedule same (Unsettled line) f = absurd f
-  fault_of_schedule same ReadFailed f = absurd f
+  fault_of_schedule same ReadFailed f = (OfGiven-map front i j f.0 (λ text used config store stands. used_up_in heap names config store stands g in_range n number text used), same, f.1)
   fault_of_schedule same WriteFailed f = absurd f
 
 -- what was brought is committed
@@ -168,7 +183,7 @@ module _ (heap : HeapValue) (g n number : ℕ) (text : List ℕ) (commit : ℕ) 
         record { collects = collects; runs = record { last = b.last; events = run.0; run = run.1; reports_are = b.brought.reports_are } }
 
     pub collected_to : (names : List (List ℕ × ℕ)) (config : Config) (store : Store) (stands : StandsFor heap names config store) → g < heap.config.shape.generations
-        → (printed printed' : Option (List ℕ)) → Appends printed printed' (report_text Command g kept freed workers deliveries)
+        → (printed printed' : Output) → Appends printed printed' (report_text Command g kept freed workers deliveries)
         → HasCollected config n g (record { heap = heap; names = names; store = store }) number text (commit + 1) rest printed printed' (record { heap = heap'; names = names; store = collected config g store })
     collected_to names config store stands in_range printed printed' held = record {
       lines = b.schedule.lines;
@@ -196,3 +211,27 @@ module _ (heap : HeapValue) (g n number : ℕ) (text : List ℕ) (commit : ℕ) 
       number_is = omega (arith, b.schedule.number_is);
       held = held;
     }
+
+-- of a schedule that is read
+module _ {A : Type 0} (old : Session A) (g n number : ℕ) (in_range : g < old.heap.config.shape.generations) (commit : ℕ) (a b : LinesValue) (i j : Input)
+    (collection : CollectionValue) (places : List (Option Place)) (blocks : List BlockValue) (workers : List WorkerLists) (deliveries : List Delivery)
+    (brings : Moves a b i j (λ text rest. BringsToCommit old.heap g n number text commit rest collection places blocks workers deliveries)) where
+  -- memory is wanted in the schedule's last line
+  pub no_memory_read : OfInput a.pending i j (λ text. AtEach (Stands old) (λ config store. AfterCollect g text (λ left. IsSoundAt config n (state_of old store) number left commit [])))
+  no_memory_read = stops_moved a b i j brings (λ text rest h config store stands.
+      no_memory_in old.heap old.names config store stands g in_range n number text commit (at_commit old.heap g n number text commit rest collection places blocks workers deliveries h))
+
+  pub collects_read : (new : Session A) → new.names ≡ old.names → (kept freed : ℕ) → CollectedHeap old.heap collection.generation (renaming_of (young_names old.heap.graph collection.generation) (all_won workers)) new.heap
+      → LiveCount old.heap.graph collection.generation kept → kept ≡ sum_by (λ (w : WorkerLists). length w.won) workers → kept + freed ≡ length (young_names old.heap.graph collection.generation)
+      → (printed printed' : Output) → Appends printed printed' (report_text Command g kept freed workers deliveries)
+      → Moves a b i j (λ text rest. AtEach (Stands old) (λ config store. CollectsTo new config n g (state_of old store) number text (commit + 1) rest printed printed'))
+  collects_read new same kept freed moves live sum count printed printed' held = moves_as a b i j brings (λ text rest h config store stands. record {
+    store' = collected config g store;
+    collected = subst (λ names. HasCollected config n g (state_of old store) number text (commit + 1) rest printed printed' (record { heap = new.heap; names = names; store = collected config g store })) (sym same)
+        (collected_to old.heap g n number text commit rest collection places blocks workers deliveries h kept freed new.heap moves live sum count old.names config store stands in_range printed printed' held);
+  })
+
+  pub later_read : number < commit + 1
+  later_read =
+      let brought = brings.holds [] in
+      omega (arith, brought.schedule.number_is)

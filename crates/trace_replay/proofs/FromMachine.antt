@@ -1,6 +1,7 @@
 -- From a machine's values to those of the heap whose collection it is.
 use Rattle.std.proofs.Common.{◌≡◌, ℕ, ◌+◌, Bool, true, false, List, Option, Some, None, ◌⊎◌, inr, refl, ap, subst, ◌∙◌}
 use Rattle.std.specs.Prelude.{MatchOption, slice_get}
+use Rattle.heap_text.specs.Streams.{Input, OfGiven, OfInput}
 use Rattle.layout.specs.declared.place.Place.{Place}
 use Rattle.block_pool.specs.BlockValue.{BlockValue}
 use Rattle.steps.specs.HeapValue.{HeapValue}
@@ -19,12 +20,14 @@ use Rattle.trace_text.specs.declared.schedule.ScheduleLine.TheVariants.{Commit}
 use Rattle.trace_session.specs.declared.trace_lines.fault.Fault.{Fault}
 use Rattle.trace_session.specs.declared.trace_lines.fault.Fault.TheVariants.{BadTrace, BadSchedule, HeapFull, NoMemory, Unsettled, ReadFailed, WriteFailed}
 use Rattle.trace_session.specs.Faults.{MatchEachFault}
+use Rattle.trace_session.specs.Lines.{LinesValue, Moves}
 use Rattle.trace_session.specs.Pieces.{Piece, finished, pieces}
 use Rattle.machine.specs.MachineValue.{MachineValue, setting_in}
 use Rattle.machine.specs.Events.{IsSameCollection, IsShortOfBlocks, Opens}
 use Rattle.machine.specs.Settles.{Settles}
 use Rattle.trace_replay.specs.Runs.{Finishes, IsSchedule}
-use Rattle.trace_replay.specs.Stops.{IsUnreadable, IsFaulty, IsRefusedBlocks, IsSoundLine, OfLine, StopsAt, StopsWith, IsStuckAfter, faulty, not_ended}
+use Rattle.trace_replay.specs.Stops.{IsUnreadable, IsFaulty, IsRefusedBlocks, IsSoundLine, IsUsedUp, OfLine, StopsAt, StopsWith, IsStuckAfter, faulty, not_ended}
+use Rattle.trace_replay.proofs.LinesRead.{OfInput-map, moves_as, stops_moved}
 use Rattle.trace_replay.specs.Brought.{IsBrought, BringsToCommit, ComesToCommit}
 
 -- what can't be refused holds
@@ -52,28 +55,33 @@ module _ (heap : HeapValue) (g n : ℕ) (first : MachineValue) (opens : Opens he
       (subst (λ k. IsShortOfBlocks first.heap k n) opens.opened.generation
       (subst (λ k. IsShortOfBlocks first.heap first.collection.generation k) opens.workers_are short))
 
-  pub fault_at_heap : (start : ℕ) (text : List ℕ) (e : Fault)
+  pub fault_at_heap : (start : ℕ) (front : List ℕ) (i j : Input) (failed : Type 0) (e : Fault)
       → MatchEachFault e
-      (λ at kind. StopsAt (IsUnreadable kind) (setting_in first) first.system (start + 1) text at)
-      (λ at kind. StopsWith (setting_in first) first.system start text at kind)
-      (λ at. MatchOption at ⊥ (λ line. StopsAt (OfLine (IsRefusedBlocks (setting_in first))) (setting_in first) first.system (start + 1) text line × IsShortOfBlocks first.heap first.collection.generation first.workers))
-      (λ at. MatchOption at ⊥ (λ line. StopsAt (OfLine (IsSoundLine (setting_in first))) (setting_in first) first.system (start + 1) text line))
-      ⊥ ⊥
+      (λ at kind. OfInput front i j (λ text. StopsAt (IsUnreadable kind) (setting_in first) first.system (start + 1) text at))
+      (λ at kind. OfInput front i j (λ text. StopsWith (setting_in first) first.system start text at kind))
+      (λ at. MatchOption at ⊥ (λ line. OfInput front i j (λ text. StopsAt (OfLine (IsRefusedBlocks (setting_in first))) (setting_in first) first.system (start + 1) text line)
+      × IsShortOfBlocks first.heap first.collection.generation first.workers))
+      (λ at. MatchOption at ⊥ (λ line. OfInput front i j (λ text. StopsAt (OfLine (IsSoundLine (setting_in first))) (setting_in first) first.system (start + 1) text line)))
+      (OfGiven front i j (IsUsedUp (setting_in first) first.system) × failed) ⊥
       → MatchEachFault e
-      (λ at kind. StopsAt (IsUnreadable kind) (setting_at heap g n) (opening_at heap g n) (start + 1) text at)
-      (λ at kind. StopsWith (setting_at heap g n) (opening_at heap g n) start text at kind)
-      (λ at. MatchOption at ⊥ (λ line. StopsAt (OfLine (IsRefusedBlocks (setting_at heap g n))) (setting_at heap g n) (opening_at heap g n) (start + 1) text line × IsShortOfBlocks heap g n))
-      (λ at. MatchOption at ⊥ (λ line. (line ≡ start) ⊎ StopsAt (OfLine (IsSoundLine (setting_at heap g n))) (setting_at heap g n) (opening_at heap g n) (start + 1) text line))
-      ⊥ ⊥
-  fault_at_heap start text (BadTrace at kind) f = at_heap (λ k s. StopsAt (IsUnreadable kind) k s (start + 1) text at) f
-  fault_at_heap start text (BadSchedule at kind) f = at_heap (λ k s. StopsWith k s start text at kind) f
-  fault_at_heap start text (HeapFull None) f = f
-  fault_at_heap start text (HeapFull (Some at)) f = (at_heap (λ k s. StopsAt (OfLine (IsRefusedBlocks k)) k s (start + 1) text at) f.0, short_is f.1)
-  fault_at_heap start text (NoMemory None) f = f
-  fault_at_heap start text (NoMemory (Some at)) f = inr (at_heap (λ k s. StopsAt (OfLine (IsSoundLine k)) k s (start + 1) text at) f)
-  fault_at_heap start text (Unsettled line) f = absurd f
-  fault_at_heap start text ReadFailed f = f
-  fault_at_heap start text WriteFailed f = f
+      (λ at kind. OfInput front i j (λ text. StopsAt (IsUnreadable kind) (setting_at heap g n) (opening_at heap g n) (start + 1) text at))
+      (λ at kind. OfInput front i j (λ text. StopsWith (setting_at heap g n) (opening_at heap g n) start text at kind))
+      (λ at. MatchOption at ⊥ (λ line. OfInput front i j (λ text. StopsAt (OfLine (IsRefusedBlocks (setting_at heap g n))) (setting_at heap g n) (opening_at heap g n) (start + 1) text line)
+      × IsShortOfBlocks heap g n))
+      (λ at. MatchOption at ⊥ (λ line. OfInput front i j (λ text. (line ≡ start)
+      ⊎ StopsAt (OfLine (IsSoundLine (setting_at heap g n))) (setting_at heap g n) (opening_at heap g n) (start + 1) text line)))
+      (OfGiven front i j (IsUsedUp (setting_at heap g n) (opening_at heap g n)) × failed) ⊥
+  fault_at_heap start front i j failed (BadTrace at kind) f = at_heap (λ k s. OfInput front i j (λ text. StopsAt (IsUnreadable kind) k s (start + 1) text at)) f
+  fault_at_heap start front i j failed (BadSchedule at kind) f = at_heap (λ k s. OfInput front i j (λ text. StopsWith k s start text at kind)) f
+  fault_at_heap start front i j failed (HeapFull None) f = f
+  fault_at_heap start front i j failed (HeapFull (Some at)) f =
+      (at_heap (λ k s. OfInput front i j (λ text. StopsAt (OfLine (IsRefusedBlocks k)) k s (start + 1) text at)) f.0, short_is f.1)
+  fault_at_heap start front i j failed (NoMemory None) f = f
+  fault_at_heap start front i j failed (NoMemory (Some at)) f =
+      OfInput-map front i j (at_heap (λ k s. OfInput front i j (λ text. StopsAt (OfLine (IsSoundLine k)) k s (start + 1) text at)) f) (λ text stop. inr stop)
+  fault_at_heap start front i j failed (Unsettled line) f = absurd f
+  fault_at_heap start front i j failed ReadFailed f = (at_heap (λ k s. OfGiven front i j (IsUsedUp k s)) f.0, f.1)
+  fault_at_heap start front i j failed WriteFailed f = f
 
   module _ (last : MachineValue) (same : IsSameCollection first last) where
     heap_is : last.heap ≡ heap
@@ -140,3 +148,18 @@ module _ (heap : HeapValue) (g n : ℕ) (first : MachineValue) (opens : Opens he
 
     pub no_memory : ¬ (¬ AllEnded last.system) → StopsAt (OfLine (IsSoundLine (setting_at heap g n))) (setting_at heap g n) (opening_at heap g n) (start + 1) text commit
     no_memory not_not = at_commit (OfLine (IsSoundLine (setting_at heap g n))) (record { said = Commit; says = schedule_is.commits; may = all_ended_if last.system not_not })
+
+  -- of a schedule that is read
+  module _ (last : MachineValue) (same : IsSameCollection first last) (start commit : ℕ) (a b : LinesValue) (i j : Input)
+      (schedule : Moves a b i j (λ text rest. IsSchedule (setting_in first) first.system (start + 1) text commit rest last.system)) where
+    pub brings_read : (collection : CollectionValue) (places : List (Option Place)) (blocks : List BlockValue) (workers : List WorkerLists) (deliveries : List Delivery) → Settles last collection places blocks workers deliveries
+        → Moves a b i j (λ text rest. BringsToCommit heap g n start text commit rest collection places blocks workers deliveries)
+    brings_read collection places blocks workers deliveries settles =
+        moves_as a b i j schedule (λ text rest h. brings last same start text commit rest h collection places blocks workers deliveries settles)
+
+    pub not_all_ended_read : ¬ AllEnded last.system → OfInput a.pending i j (λ text. StopsWith (setting_at heap g n) (opening_at heap g n) start text commit NotEnded)
+    not_all_ended_read not = stops_moved a b i j schedule (λ text rest h. not_all_ended last same start text commit rest h not)
+
+    pub no_memory_read : ¬ (¬ AllEnded last.system)
+        → OfInput a.pending i j (λ text. (commit ≡ start) ⊎ StopsAt (OfLine (IsSoundLine (setting_at heap g n))) (setting_at heap g n) (opening_at heap g n) (start + 1) text commit)
+    no_memory_read not_not = stops_moved a b i j schedule (λ text rest h. inr (no_memory last same start text commit rest h not_not))

@@ -1,17 +1,14 @@
 -- A replay goes on by one line, and stops at one.
-use Rattle.std.proofs.Common.{◌≡◌, ℕ, ◌+◌, ◌<◌, ◌≤◌, true, false, List, [], ◌∷◌, ◌++◌, length, length-append, map, Option, Some, None, Result, Ok, Err, refl, sym, ap, subst, ◌∙◌, append_assoc, append-nil, arith, rules, ◌⊎◌, inl, inr}
-use Rattle.std.specs.Prelude.{nat_lt, MatchOption, IfOk, IfErr}
-use Rattle.std.specs.Io.KnownBytes.{Appends}
-use Rattle.std.proofs.KnownBytes.{Appends-nil, Appends-trans}
+use Rattle.std.proofs.Common.{◌≡◌, ℕ, ◌+◌, ◌<◌, ◌≤◌, true, false, List, [], ◌∷◌, ◌++◌, length, length-append, map, Some, Result, Ok, Err, refl, sym, ap, subst, ◌∙◌, append_assoc, append-nil, arith, rules, ◌⊎◌, inl, inr}
+use Rattle.std.specs.Prelude.{nat_lt, IfOk, IfErr}
+use Rattle.heap_text.specs.Streams.{Output, Appends}
+use Rattle.heap_text.proofs.Streams.{Appends-nil, Appends-trans}
 use Rattle.std.proofs.lemmas.List.{length-map}
 use Rattle.model.specs.declared.kind.Kind.TheVariants.{LineTooLong, UnfinishedLine}
 use Rattle.model.specs.Config.{Config}
 use Rattle.model.specs.Store.{Store}
 use Rattle.model.specs.Commands.{Collect}
 use Rattle.trace_text.specs.Grammar.{entry_of}
-use Rattle.trace_session.specs.declared.trace_lines.fault.Fault.{Fault}
-use Rattle.trace_session.specs.declared.trace_lines.fault.Fault.TheVariants.{BadTrace, BadSchedule, HeapFull, NoMemory, Unsettled, ReadFailed, WriteFailed}
-use Rattle.trace_session.specs.Faults.{MatchFault, MatchEachFault}
 use Rattle.trace_session.specs.Pieces.{HasNoFeed, Piece, finished, unfinished, pieces}
 use Rattle.trace_session.specs.Outcome.{line_step}
 use Rattle.trace_session.specs.Stepped.{AtEach, Writes}
@@ -19,8 +16,8 @@ use Rattle.trace_session.proofs.PieceLemmas.{pieces_line, pieces_last}
 use Rattle.trace_session.specs.declared.session.Session.{Session}
 use Rattle.trace_session.specs.Session.{Stands}
 use Rattle.trace_replay.specs.Replays.{State, state_of, Steps, StepsWithRoom, Replays, stay, step, with_room, collection, CollectsTo, LineReplayed, ReplaysTo, ReplaysAll}
-use Rattle.trace_replay.specs.ReplayStops.{AfterCollect, HasTraceFault, HasScheduleFault, WantsRoom, WantsBlocks, IsLineSoFar, IsSoundAt, Quietly, StopsIn, outside}
-use Rattle.trace_replay.specs.ReplayStops as stops
+use Rattle.trace_replay.specs.ReplayStops.{HasTraceFault, Quietly, StopsIn, LeavesNothingWhole, ReplaysWholeIn, outside}
+use Rattle.trace_replay.proofs.LinesRead.{BeginsLong, long_finished, long_unfinished}
 
 -- what follows for each answer
 pub if_ok : {T E : Type 0} {P Q : T → Type 0} → ((x : T) → P x → Q x) → (r : Result T E) → IfOk r P → IfOk r Q
@@ -30,6 +27,12 @@ if_ok f (Err e) p = tt
 pub if_err : {T E : Type 0} {P Q : E → Type 0} → ((e : E) → P e → Q e) → (r : Result T E) → IfErr r P → IfErr r Q
 if_err f (Ok x) p = tt
 if_err f (Err e) p = f e p
+
+long_line : (config : Config) (store : Store) (line : List ℕ) → 4096 < length line → line_step config store line ≡ Err LineTooLong
+unfolding line_step entry_of
+long_line config store line long =
+    let too_long : nat_lt 4096 (length line) ≡ true = search rules in
+    rw too_long refl
 
 module _ (config : Config) (n : ℕ) where
   pub replays_append : {s mid last : State} {a b : List Piece} {out more : List ℕ} → Replays config n s a out mid → Replays config n mid b more last → Replays config n s (a ++ b) (out ++ more) last
@@ -47,7 +50,7 @@ module _ (config : Config) (n : ℕ) where
     one_line line out (inl steps) = step steps stay
     one_line line out (inr steps) = with_room steps stay
 
-    pub goes_by_line : (line after : List ℕ) (printed printed' : Option (List ℕ)) → LineReplayed session config n old line printed printed'
+    pub goes_by_line : (line after : List ℕ) (printed printed' : Output) → LineReplayed session config n old line printed printed'
         → ReplaysTo session config n old number (finished line ∷ pieces after) (number + 1) after printed printed'
     goes_by_line line after printed printed' done = record {
       store' = done.store';
@@ -60,7 +63,7 @@ module _ (config : Config) (n : ℕ) where
       held = rw (append-nil done.out) done.held;
     }
 
-    pub goes_by_schedule : (g : ℕ) (line text : List ℕ) (number' : ℕ) (rest : List ℕ) (printed printed' : Option (List ℕ)) → entry_of line ≡ Ok (Some (Collect g)) → CollectsTo session config n g old number text number' rest printed printed'
+    pub goes_by_schedule : (g : ℕ) (line text : List ℕ) (number' : ℕ) (rest : List ℕ) (printed printed' : Output) → entry_of line ≡ Ok (Some (Collect g)) → CollectsTo session config n g old number text number' rest printed printed'
         → ReplaysTo session config n old number (finished line ∷ pieces text) number' rest printed printed'
     goes_by_schedule g line text number' rest printed printed' asks to =
         let c = to.collected in
@@ -75,8 +78,8 @@ module _ (config : Config) (n : ℕ) where
           held = rw (append-nil c.out) c.held;
         }
 
-  module _ {A : Type 0} (mid : Session A) (old : State) (number : ℕ) (left : List Piece) (number' : ℕ) (rest : List ℕ) (printed printed' : Option (List ℕ)) (so_far : ReplaysTo mid config n old number left number' rest printed printed') where
-    pub joins : (new : Session A) (left' : List Piece) (number'' : ℕ) (rest' : List ℕ) (printed'' : Option (List ℕ)) → pieces rest ≡ left' → ReplaysTo new config n (state_of mid so_far.store') number' left' number'' rest' printed' printed''
+  module _ {A : Type 0} (mid : Session A) (old : State) (number : ℕ) (left : List Piece) (number' : ℕ) (rest : List ℕ) (printed printed' : Output) (so_far : ReplaysTo mid config n old number left number' rest printed printed') where
+    pub joins : (new : Session A) (left' : List Piece) (number'' : ℕ) (rest' : List ℕ) (printed'' : Output) → pieces rest ≡ left' → ReplaysTo new config n (state_of mid so_far.store') number' left' number'' rest' printed' printed''
         → ReplaysTo new config n old number left number'' rest' printed printed''
     joins new left' number'' rest' printed'' is next = record {
       store' = next.store';
@@ -89,7 +92,7 @@ module _ (config : Config) (n : ℕ) where
       held = Appends-trans printed printed' printed'' so_far.out next.out so_far.held next.held;
     }
 
-    pub stops_here : (P : State → ℕ → List Piece → ℕ → List ℕ → Type 0) (left' : List Piece) (at : ℕ) (printed'' : Option (List ℕ)) → pieces rest ≡ left' → Writes (P (state_of mid so_far.store') number' left' at) printed' printed'' → StopsIn P config n old number left at printed printed''
+    pub stops_here : (P : State → ℕ → List Piece → ℕ → List ℕ → Type 0) (left' : List Piece) (at : ℕ) (printed'' : Output) → pieces rest ≡ left' → Writes (P (state_of mid so_far.store') number' left' at) printed' printed'' → StopsIn P config n old number left at printed printed''
     stops_here P left' at printed'' is own = record {
       lines = so_far.lines;
       out = so_far.out;
@@ -123,113 +126,64 @@ module _ (config : Config) (n : ℕ) where
       held = so_far.held;
     }
 
-    pub ends_long : HasNoFeed rest → 4096 < length rest → StopsIn (Quietly (HasTraceFault config n LineTooLong)) config n old number left number' printed printed'
-    ends_long free long =
-        let too_long : nat_lt 4096 (length rest) ≡ true = search rules in
-        stops_quietly (HasTraceFault config n LineTooLong) _ number' (one_piece rest free (omega (arith, long))) (outside {p = unfinished rest} refl refl (rw too_long refl))
+    pub ends_long : BeginsLong (pieces rest) → StopsIn (Quietly (HasTraceFault config n LineTooLong)) config n old number left number' printed printed'
+    ends_long (long_finished {line = line} {more = more} is long) =
+        stops_quietly (HasTraceFault config n LineTooLong) _ number' is (outside {p = finished line} refl refl (long_line config (state_of mid so_far.store').store line long))
+    ends_long (long_unfinished {line = line} is long) =
+        let too_long : nat_lt 4096 (length line) ≡ true = search rules in
+        stops_quietly (HasTraceFault config n LineTooLong) _ number' is (outside {p = unfinished line} refl refl (rw too_long refl))
 
     pub ends_unfinished : HasNoFeed rest → 0 < length rest → length rest ≤ 4096 → StopsIn (Quietly (HasTraceFault config n UnfinishedLine)) config n old number left number' printed printed'
     ends_unfinished free some short =
         let fits : nat_lt 4096 (length rest) ≡ false = search rules in
         stops_quietly (HasTraceFault config n UnfinishedLine) _ number' (one_piece rest free some) (outside {p = unfinished rest} refl refl (rw fits refl))
 
--- the fault of a line outside schedules
-module _ {A : Type 0} (session : Session A) (n number : ℕ) (line after : List ℕ) {W : Type 0} (contents : W → Option (List ℕ)) (old new : W) (written : Type 0) where
-  pub fault_of_line : (e : Fault)
-      → MatchFault e
-      (λ at kind. (at ≡ number) × AtEach (Stands session) (λ config store. (line_step config store line ≡ Err kind) × (new ≡ old)))
-      (λ at. (at ≡ Some number) × AtEach (Stands session) (λ config store. WantsRoom config n (state_of session store) line × (new ≡ old)))
-      (λ at. (at ≡ Some number) × AtEach (Stands session) (λ config store. Writes (IsLineSoFar config n (state_of session store) line) (contents old) (contents new)))
-      ⊥ written
-      → MatchEachFault e
-      (λ at kind. AtEach (Stands session) (λ config store. HasTraceFault config n kind (state_of session store) number (finished line ∷ pieces after) at × (new ≡ old)))
-      (λ at kind. AtEach (Stands session) (λ config store. HasScheduleFault config n kind (state_of session store) number (finished line ∷ pieces after) at × (new ≡ old)))
-      (λ at. MatchOption at ⊥ (λ k. AtEach (Stands session) (λ config store. WantsBlocks config n (state_of session store) number (finished line ∷ pieces after) k × (new ≡ old))))
-      (λ at. MatchOption at ⊥ (λ k. AtEach (Stands session) (λ config store. Writes (IsSoundAt config n (state_of session store) number (finished line ∷ pieces after) k) (contents old) (contents new))))
-      ⊥ written
-  fault_of_line (BadTrace at kind) f = λ config store stands. let fault = f.1 config store stands in (outside {p = finished line} refl f.0 fault.0, fault.1)
-  fault_of_line (BadSchedule at kind) f = absurd f
-  fault_of_line (HeapFull None) f = absurd (let is = f.0 in cc)
-  fault_of_line (HeapFull (Some at)) f = λ config store stands. let fault = f.1 config store stands in (stops.outside {line = line} refl (let is = f.0 in cc) fault.0, fault.1)
-  fault_of_line (NoMemory None) f = absurd (let is = f.0 in cc)
-  fault_of_line (NoMemory (Some at)) f = λ config store stands. let own = f.1 config store stands in record { written = own.written; held = own.held; holds = stops.outside {line = line} refl (let is = f.0 in cc) own.holds }
-  fault_of_line (Unsettled line) f = absurd f
-  fault_of_line ReadFailed f = f
-  fault_of_line WriteFailed f = f
-
--- that of a line with its schedule
-module _ {A : Type 0} (session : Session A) (n g number : ℕ) (line after : List ℕ) (asks : entry_of line ≡ Ok (Some (Collect g))) {W : Type 0} (contents : W → Option (List ℕ)) (old new : W) (written : Type 0) where
-  pub fault_of_schedule : (e : Fault)
-      → MatchEachFault e
-      (λ at kind. AtEach (Stands session) (λ config store. AfterCollect g after (λ left. HasTraceFault config n kind (state_of session store) number left at)) × (new ≡ old))
-      (λ at kind. AtEach (Stands session) (λ config store. AfterCollect g after (λ left. HasScheduleFault config n kind (state_of session store) number left at)) × (new ≡ old))
-      (λ at. MatchOption at ⊥ (λ k. AtEach (Stands session) (λ config store. AfterCollect g after (λ left. WantsBlocks config n (state_of session store) number left k))) × (new ≡ old))
-      (λ at. MatchOption at ⊥ (λ k. AtEach (Stands session) (λ config store. AfterCollect g after (λ left. IsSoundAt config n (state_of session store) number left k []))) × (new ≡ old))
-      ⊥ written
-      → MatchEachFault e
-      (λ at kind. AtEach (Stands session) (λ config store. HasTraceFault config n kind (state_of session store) number (finished line ∷ pieces after) at × (new ≡ old)))
-      (λ at kind. AtEach (Stands session) (λ config store. HasScheduleFault config n kind (state_of session store) number (finished line ∷ pieces after) at × (new ≡ old)))
-      (λ at. MatchOption at ⊥ (λ k. AtEach (Stands session) (λ config store. WantsBlocks config n (state_of session store) number (finished line ∷ pieces after) k × (new ≡ old))))
-      (λ at. MatchOption at ⊥ (λ k. AtEach (Stands session) (λ config store. Writes (IsSoundAt config n (state_of session store) number (finished line ∷ pieces after) k) (contents old) (contents new))))
-      ⊥ written
-  fault_of_schedule (BadTrace at kind) f = λ config store stands. (f.0 config store stands line asks, f.1)
-  fault_of_schedule (BadSchedule at kind) f = λ config store stands. (f.0 config store stands line asks, f.1)
-  fault_of_schedule (HeapFull None) f = absurd f.0
-  fault_of_schedule (HeapFull (Some at)) f = λ config store stands. (f.0 config store stands line asks, f.1)
-  fault_of_schedule (NoMemory None) f = absurd f.0
-  fault_of_schedule (NoMemory (Some at)) f = λ config store stands. record { written = []; held = subst (λ w. Appends (contents old) (contents w) []) (sym f.1) (Appends-nil (contents old)); holds = f.0 config store stands line asks }
-  fault_of_schedule (Unsettled line) f = absurd f
-  fault_of_schedule ReadFailed f = f
-  fault_of_schedule WriteFailed f = f
+    -- reads came to no whole line more
+    pub uses_up : (left' : List Piece) → pieces rest ≡ left' → LeavesNothingWhole config n (state_of mid so_far.store') left' → ReplaysWholeIn config n old left printed printed'
+    uses_up left' is none = record {
+      lines = so_far.lines;
+      out = so_far.out;
+      mid = state_of mid so_far.store';
+      replays = so_far.replays;
+      left = left';
+      all_are = so_far.left_is ∙ ap (λ ps. so_far.lines ++ ps) is;
+      held = so_far.held;
+      whole = none;
+    }
 
 -- before any line
-pub starts : (config : Config) (n : ℕ) {A : Type 0} (session : Session A) (store : Store) (number : ℕ) (text : List ℕ) (printed : Option (List ℕ)) → Stands session config store → ReplaysTo session config n (state_of session store) number (pieces text) number text printed printed
+pub starts : (config : Config) (n : ℕ) {A : Type 0} (session : Session A) (store : Store) (number : ℕ) (text : List ℕ) (printed : Output) → Stands session config store → ReplaysTo session config n (state_of session store) number (pieces text) number text printed printed
 starts config n session store number text printed stands = record { store' = store; stands' = stands; lines = []; out = []; replays = stay; left_is = refl; number_is = omega arith; held = Appends-nil printed }
 
 -- at each store for which a session stands
-module _ {A : Type 0} (old mid : Session A) (n number : ℕ) (text : List ℕ) (number' : ℕ) (rest : List ℕ) {W : Type 0} (contents : W → Option (List ℕ)) (printed : Option (List ℕ)) (before : W) (so_far : AtEach (Stands old) (λ config store. ReplaysTo mid config n (state_of old store) number (pieces text) number' rest printed (contents before)))
+module _ {A : Type 0} (old mid : Session A) (n number : ℕ) (text : List ℕ) (number' : ℕ) (rest : List ℕ) {W : Type 0} (contents : W → Output) (printed : Output) (before : W) (so_far : AtEach (Stands old) (λ config store. ReplaysTo mid config n (state_of old store) number (pieces text) number' rest printed (contents before)))
     (line after : List ℕ) (is : rest ≡ line ++ 10 ∷ after) (free : HasNoFeed line) where
   pieces_is : pieces rest ≡ finished line ∷ pieces after
   pieces_is = ap pieces is ∙ pieces_line line after free
 
-  pub goes_on : (new : Session A) (number'' : ℕ) (rest' : List ℕ) (printed'' : Option (List ℕ))
+  pub goes_on : (new : Session A) (number'' : ℕ) (rest' : List ℕ) (printed'' : Output)
       → AtEach (Stands mid) (λ config store. ReplaysTo new config n (state_of mid store) number' (finished line ∷ pieces after) number'' rest' (contents before) printed'')
       → AtEach (Stands old) (λ config store. ReplaysTo new config n (state_of old store) number (pieces text) number'' rest' printed printed'')
   goes_on new number'' rest' printed'' next = λ config store stands.
       let here = so_far config store stands in
       joins config n mid (state_of old store) number (pieces text) number' rest printed (contents before) here new _ number'' rest' printed'' pieces_is (next config here.store' here.stands')
 
-  stops_somewhere : (P : Config → State → ℕ → List Piece → ℕ → List ℕ → Type 0) (at : ℕ) (printed'' : Option (List ℕ)) → AtEach (Stands mid) (λ config store. Writes (P config (state_of mid store) number' (finished line ∷ pieces after) at) (contents before) printed'')
+  -- reads came to no whole line of its schedule more
+  pub stops_used_up : (new : W) → new ≡ before → AtEach (Stands mid) (λ config store. LeavesNothingWhole config n (state_of mid store) (finished line ∷ pieces after))
+      → AtEach (Stands old) (λ config store. ReplaysWholeIn config n (state_of old store) (pieces text) printed (contents new))
+  stops_used_up new same none = λ config store stands.
+      let here = so_far config store stands in
+      subst (λ w. ReplaysWholeIn config n (state_of old store) (pieces text) printed (contents w)) (sym same)
+      (uses_up config n mid (state_of old store) number (pieces text) number' rest printed (contents before) here _ pieces_is (none config here.store' here.stands'))
+
+  pub stops_somewhere : (P : Config → State → ℕ → List Piece → ℕ → List ℕ → Type 0) (at : ℕ) (printed'' : Output) → AtEach (Stands mid) (λ config store. Writes (P config (state_of mid store) number' (finished line ∷ pieces after) at) (contents before) printed'')
       → AtEach (Stands old) (λ config store. StopsIn (P config) config n (state_of old store) number (pieces text) at printed printed'')
   stops_somewhere P at printed'' own = λ config store stands.
       let here = so_far config store stands in
       stops_here config n mid (state_of old store) number (pieces text) number' rest printed (contents before) here (P config) _ at printed'' pieces_is (own config here.store' here.stands')
 
-  stops_silently : (P : Config → State → ℕ → List Piece → ℕ → Type 0) (at : ℕ) (new : W) → AtEach (Stands mid) (λ config store. P config (state_of mid store) number' (finished line ∷ pieces after) at × (new ≡ before))
+  pub stops_silently : (P : Config → State → ℕ → List Piece → ℕ → Type 0) (at : ℕ) (new : W) → AtEach (Stands mid) (λ config store. P config (state_of mid store) number' (finished line ∷ pieces after) at × (new ≡ before))
       → AtEach (Stands old) (λ config store. StopsIn (Quietly (P config)) config n (state_of old store) number (pieces text) at printed (contents new))
   stops_silently P at new holds = stops_somewhere (λ config. Quietly (P config)) at (contents new) (λ config store stands.
       let fault = holds config store stands in
       record { written = []; held = subst (λ w. Appends (contents before) (contents w) []) (sym fault.1) (Appends-nil (contents before)); holds = (fault.0, refl) })
-
-  pub fault_of_next : (new : W) (written written' : Type 0) → (written → written') → (e : Fault)
-      → MatchEachFault e
-      (λ at kind. AtEach (Stands mid) (λ config store. HasTraceFault config n kind (state_of mid store) number' (finished line ∷ pieces after) at × (new ≡ before)))
-      (λ at kind. AtEach (Stands mid) (λ config store. HasScheduleFault config n kind (state_of mid store) number' (finished line ∷ pieces after) at × (new ≡ before)))
-      (λ at. MatchOption at ⊥ (λ k. AtEach (Stands mid) (λ config store. WantsBlocks config n (state_of mid store) number' (finished line ∷ pieces after) k × (new ≡ before))))
-      (λ at. MatchOption at ⊥ (λ k. AtEach (Stands mid) (λ config store. Writes (IsSoundAt config n (state_of mid store) number' (finished line ∷ pieces after) k) (contents before) (contents new))))
-      ⊥ written
-      → MatchEachFault e
-      (λ at kind. AtEach (Stands old) (λ config store. StopsIn (Quietly (HasTraceFault config n kind)) config n (state_of old store) number (pieces text) at printed (contents new)))
-      (λ at kind. AtEach (Stands old) (λ config store. StopsIn (Quietly (HasScheduleFault config n kind)) config n (state_of old store) number (pieces text) at printed (contents new)))
-      (λ at. MatchOption at ⊥ (λ k. AtEach (Stands old) (λ config store. StopsIn (Quietly (WantsBlocks config n)) config n (state_of old store) number (pieces text) k printed (contents new))))
-      (λ at. MatchOption at ⊥ (λ k. AtEach (Stands old) (λ config store. StopsIn (IsSoundAt config n) config n (state_of old store) number (pieces text) k printed (contents new))))
-      ⊥ written'
-  fault_of_next new written written' told (BadTrace at kind) f = stops_silently (λ config. HasTraceFault config n kind) at new f
-  fault_of_next new written written' told (BadSchedule at kind) f = stops_silently (λ config. HasScheduleFault config n kind) at new f
-  fault_of_next new written written' told (HeapFull None) f = f
-  fault_of_next new written written' told (HeapFull (Some at)) f = stops_silently (λ config. WantsBlocks config n) at new f
-  fault_of_next new written written' told (NoMemory None) f = f
-  fault_of_next new written written' told (NoMemory (Some at)) f = stops_somewhere (λ config. IsSoundAt config n) at (contents new) f
-  fault_of_next new written written' told (Unsettled line) f = absurd f
-  fault_of_next new written written' told ReadFailed f = f
-  fault_of_next new written written' told WriteFailed f = told f

@@ -1,5 +1,6 @@
 -- A line of a replay that is carried out once room was made for it.
-use Rattle.std.proofs.Common.{◌≡◌, ℕ, List, Option, Ok, subst, inl, inr}
+use Rattle.std.proofs.Common.{◌≡◌, ℕ, List, Ok, subst, inl, inr}
+use Rattle.heap_text.specs.Streams.{Output}
 use Rattle.model.specs.Config.{Config}
 use Rattle.model.specs.Store.{Store, collected}
 use Rattle.trace_text.specs.Grammar.{entry_of}
@@ -12,7 +13,7 @@ use Rattle.trace_session.specs.Commands.{IsNoCollection}
 use Rattle.trace_replay.specs.Replays.{state_of, MakesRoom, HasMadeRoom, LineReplayed}
 
 -- a line that needed no room
-pub plain_steps : {A : Type 0} (old new : Session A) (config : Config) (n : ℕ) (store : Store) (line : List ℕ) (printed printed' : Option (List ℕ)) → IsNoCollection (entry_of line) → ¬ LineCollectsFirst config store line
+pub plain_steps : {A : Type 0} (old new : Session A) (config : Config) (n : ℕ) (store : Store) (line : List ℕ) (printed printed' : Output) → IsNoCollection (entry_of line) → ¬ LineCollectsFirst config store line
     → StepsTo (Stands new) config (line_step config store line) printed printed' → LineReplayed new config n (state_of old store) line printed printed'
 plain_steps old new config n store line printed printed' plain has_room done = record {
   store' = done.next;
@@ -23,7 +24,7 @@ plain_steps old new config n store line printed printed' plain has_room done = r
 }
 
 -- a line for which room was made
-pub with_room_steps : {A : Type 0} (old new : Session A) (config : Config) (n : ℕ) (store : Store) (line : List ℕ) (printed printed' : Option (List ℕ)) → LineCollectsFirst config store line
+pub with_room_steps : {A : Type 0} (old new : Session A) (config : Config) (n : ℕ) (store : Store) (line : List ℕ) (printed printed' : Output) → LineCollectsFirst config store line
     → (next : Store) × ((line_step config store line ≡ Ok (next, auto_line store)) × Stands new config next × Writes (HasMadeRoom n (state_of old store)) printed printed') → LineReplayed new config n (state_of old store) line printed printed'
 with_room_steps old new config n store line printed printed' first done =
     let own = done.1.2 in
@@ -36,7 +37,7 @@ with_room_steps old new config n store line printed printed' first done =
     }
 
 -- nothing had changed before room was made
-pub made_at_first : {A : Type 0} (n : ℕ) (first before after : Session A) → before ≡ first → {W : Type 0} (contents : W → Option (List ℕ)) (old between new : W) → between ≡ old
+pub made_at_first : {A : Type 0} (n : ℕ) (first before after : Session A) → before ≡ first → {W : Type 0} (contents : W → Output) (old between new : W) → between ≡ old
     → AtEach (Stands before) (λ config store. Stands after config (collected config 0 store) × Writes (λ written. MakesRoom n (state_of before store) written after.heap) (contents between) (contents new))
     → AtEach (Stands first) (λ config store. Stands after config (collected config 0 store) × Writes (HasMadeRoom n (state_of first store)) (contents old) (contents new))
 made_at_first n first before after same contents old between new same_writer made = λ config store there.

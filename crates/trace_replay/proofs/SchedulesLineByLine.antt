@@ -19,13 +19,14 @@ use Rattle.trace_text.specs.declared.schedule.LineFault.TheVariants as faults
 use Rattle.trace_session.specs.declared.trace_lines.fault.Fault.{Fault}
 use Rattle.trace_session.specs.declared.trace_lines.fault.Fault.TheVariants.{BadTrace, BadSchedule, HeapFull, NoMemory, Unsettled, ReadFailed, WriteFailed}
 use Rattle.trace_session.specs.Faults.{MatchEachFault}
-use Rattle.trace_session.specs.Pieces.{HasNoFeed, Piece, finished, unfinished, pieces}
+use Rattle.trace_session.specs.Pieces.{HasNoFeed, Piece, finished, unfinished, pieces, whole_lines}
 use Rattle.trace_session.proofs.PieceLemmas.{pieces_line, pieces_last}
 use Rattle.trace_replay.specs.Naming.{HasFewWorkers, meant}
+use Rattle.trace_replay.proofs.LinesRead.{BeginsLong, long_finished, long_unfinished, whole_lines_are}
 use Rattle.machine.specs.MachineValue.{MachineValue, setting_in}
 use Rattle.machine.specs.Events.{IsSameCollection, IsFullForEvent, IsShortOfBlocks}
 use Rattle.trace_replay.specs.Runs.{Brings, LinesRun, stay, go, BringsOn, HasCarried, IsSchedule}
-use Rattle.trace_replay.specs.Stops.{IsUnreadable, IsFaulty, unlawful, IsRefusedBlocks, by_event, by_finish, IsShort, IsStuckAfter, IsSoundLine, OfLine, StopsAt, StopsWith, cut_short, faulty}
+use Rattle.trace_replay.specs.Stops.{IsUnreadable, IsFaulty, unlawful, IsRefusedBlocks, by_event, by_finish, IsShort, IsStuckAfter, IsSoundLine, IsUsedUp, OfLine, StopsAt, StopsWith, cut_short, faulty}
 
 -- numbers of 32 bits are enough for sixteen workers
 pub few_workers : (s : System) (n : ℕ) → HasWorkers s n → n ≤ 16 → HasFewWorkers s
@@ -51,6 +52,12 @@ no_pieces (b ∷ bs) none = absurd (omega (arith, none))
 one_piece : (text : List ℕ) → HasNoFeed text → 0 < length text → pieces text ≡ unfinished text ∷ []
 one_piece [] free some = elim some [ ]
 one_piece (b ∷ bs) free some = pieces_last (b ∷ bs) free
+
+long_line : (line : List ℕ) → 4096 < length line → schedule_line_of line ≡ Err (faults.Trace LineTooLong)
+unfolding schedule_line_of
+long_line line long =
+    let too_long : nat_lt 4096 (length line) ≡ true = search rules in
+    rw too_long refl
 
 pub carried_none : (number : ℕ) (text : List ℕ) (m : MachineValue) → HasCarried number text number text m m
 carried_none number text m = record {
@@ -130,30 +137,37 @@ module _ (start : ℕ) (text : List ℕ) (number' : ℕ) (rest : List ℕ) (old 
   pub ends_short : length rest ≡ 0 → StopsWith (setting_in old) old.system start text start UnfinishedSchedule
   ends_short none = cut_short refl (record { lines = so_far.lines; last = mid.system; run = so_far.carries.run; pieces_are = so_far.pieces_are ∙ ap (λ ps. map finished so_far.lines ++ ps) (no_pieces rest none) ∙ append-nil (map finished so_far.lines) })
 
-  last_piece_is : HasNoFeed rest → 0 < length rest → pieces rest ≡ unfinished rest ∷ []
-  last_piece_is free some = one_piece rest free some
-
-  unfinished_at : (kind : Kind) → HasNoFeed rest → 0 < length rest → IsUnreadable kind mid.system (unfinished rest) → StopsAt (IsUnreadable kind) (setting_in old) old.system (start + 1) text number'
-  unfinished_at kind free some is = record {
+  unreadable_at : (kind : Kind) (piece : Piece) (more : List Piece) → pieces rest ≡ piece ∷ more → IsUnreadable kind mid.system piece → StopsAt (IsUnreadable kind) (setting_in old) old.system (start + 1) text number'
+  unreadable_at kind piece more is holds = record {
     lines = so_far.lines;
     last = mid.system;
     run = so_far.carries.run;
-    piece = unfinished rest;
-    more = [];
-    pieces_are = so_far.pieces_are ∙ ap (λ ps. map finished so_far.lines ++ ps) (last_piece_is free some);
+    piece = piece;
+    more = more;
+    pieces_are = so_far.pieces_are ∙ ap (λ ps. map finished so_far.lines ++ ps) is;
     number_is = so_far.number_is;
-    holds = is;
+    holds = holds;
   }
 
-  pub ends_long : HasNoFeed rest → 4096 < length rest → StopsAt (IsUnreadable LineTooLong) (setting_in old) old.system (start + 1) text number'
-  ends_long free long =
-      let too_long : nat_lt 4096 (length rest) ≡ true = search rules in
-      unfinished_at LineTooLong free (omega (arith, long)) (rw too_long refl)
+  pub ends_long : BeginsLong (pieces rest) → StopsAt (IsUnreadable LineTooLong) (setting_in old) old.system (start + 1) text number'
+  ends_long (long_finished {line = line} {more = more} is long) = unreadable_at LineTooLong (finished line) more is (long_line line long)
+  ends_long (long_unfinished {line = line} is long) =
+      let too_long : nat_lt 4096 (length line) ≡ true = search rules in
+      unreadable_at LineTooLong (unfinished line) [] is (rw too_long refl)
 
   pub ends_unfinished : HasNoFeed rest → 0 < length rest → length rest ≤ 4096 → StopsAt (IsUnreadable UnfinishedLine) (setting_in old) old.system (start + 1) text number'
   ends_unfinished free some short =
       let fits : nat_lt 4096 (length rest) ≡ false = search rules in
-      unfinished_at UnfinishedLine free some (rw fits refl)
+      unreadable_at UnfinishedLine (unfinished rest) [] (one_piece rest free some) (rw fits refl)
+
+  -- no whole line is left of the text
+  pub used_up : HasNoFeed rest → IsUsedUp (setting_in old) old.system text
+  used_up free = record {
+    lines = so_far.lines;
+    last = mid.system;
+    run = so_far.carries.run;
+    lines_are = ap whole_lines so_far.pieces_are ∙ whole_lines_are so_far.lines rest free;
+  }
 
 -- the fault of what a line says is that of the line
 module _ (number : ℕ) (line : List ℕ) (m : MachineValue) where

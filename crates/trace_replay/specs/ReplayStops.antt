@@ -1,6 +1,6 @@
 -- Where the replay of a trace stops.
-use Rattle.std.specs.Prelude.{◌≡◌, ℕ, ◌+◌, ◌⊎◌, List, [], ◌∷◌, ◌++◌, length, Option, Some, Ok, Err}
-use Rattle.std.specs.Io.KnownBytes.{Appends}
+use Rattle.std.specs.Prelude.{◌≡◌, ℕ, ◌+◌, ◌-◌, ◌*◌, ◌^◌, ◌<◌, ◌⊎◌, MatchOption, IsTrue, List, [], ◌∷◌, ◌++◌, length, Some, Ok, Err}
+use Rattle.heap_text.specs.Streams.{Input, Output, Appends, OfGiven, OfInput}
 use Rattle.model.specs.Config.{Config}
 use Rattle.model.specs.Store.{empty_store}
 use Rattle.model.specs.Commands.{Collect}
@@ -9,14 +9,17 @@ use Rattle.settling.specs.Collects.{setting_at, opening_at}
 use Rattle.trace_replay.specs.Events.{IsShortOfBlocks}
 use Rattle.trace_text.specs.Grammar.{entry_of}
 use Rattle.trace_text.specs.declared.schedule.ScheduleKind.{ScheduleKind}
-use Rattle.trace_session.specs.Pieces.{Piece, finished, pieces}
+use Rattle.trace_session.specs.Lines.{IsOutOfReads}
+use Rattle.trace_session.specs.declared.trace_lines.fault.Fault.{Fault}
+use Rattle.trace_session.specs.Faults.{MatchEachFault}
+use Rattle.trace_session.specs.Pieces.{Piece, finished, pieces, whole_lines}
 use Rattle.trace_session.specs.Outcome.{piece_step}
 use Rattle.trace_session.specs.Sound.{IsSoundTraceLine, IsSoundCommand}
 use Rattle.trace_session.specs.CollectsFirst.{LineCollectsFirst}
 use Rattle.trace_session.specs.Refusals.{IsFullFor}
 use Rattle.trace_session.specs.Commands.{IsNoCollection}
-use Rattle.trace_replay.specs.Stops.{IsUnreadable, IsRefusedBlocks, IsSoundLine, OfLine, StopsAt, StopsWith}
-use Rattle.trace_replay.specs.Replays.{State, Holds, HasMadeRoom, Replays}
+use Rattle.trace_replay.specs.Stops.{IsUnreadable, IsRefusedBlocks, IsSoundLine, OfLine, StopsAt, StopsWith, IsUsedUp}
+use Rattle.trace_replay.specs.Replays.{State, Holds, HasMadeRoom, Replays, IsReplayed}
 
 -- a `collect` line without a fault, and the text after it
 pub record OpensSchedule (config : Config) (s : State) (left : List Piece) : Type 0 where
@@ -66,7 +69,7 @@ abbrev pub Quietly : (State → ℕ → List Piece → ℕ → Type 0) → State
 Quietly P s number left at written = P s number left at × (written ≡ [])
 
 -- from line `number` on lines were carried out and printed, and then what line `at` has written; P holds of where they lead, of the number of the next line, of all pieces that are left, of line `at` and of what it has written
-pub record StopsIn (P : State → ℕ → List Piece → ℕ → List ℕ → Type 0) (config : Config) (n : ℕ) (old : State) (number : ℕ) (all : List Piece) (at : ℕ) (printed printed' : Option (List ℕ)) : Type 0 where
+pub record StopsIn (P : State → ℕ → List Piece → ℕ → List ℕ → Type 0) (config : Config) (n : ℕ) (old : State) (number : ℕ) (all : List Piece) (at : ℕ) (printed printed' : Output) : Type 0 where
   pub lines : List Piece
   pub out : List ℕ
   pub mid : State
@@ -78,8 +81,46 @@ pub record StopsIn (P : State → ℕ → List Piece → ℕ → List ℕ → Ty
   pub holds : P mid (number + length lines) left at written
 
 -- the same of a whole text, from a heap without objects on
-pub record Stops (P : State → ℕ → List Piece → ℕ → List ℕ → Type 0) (config : Config) (n : ℕ) (at : ℕ) (printed printed' : Option (List ℕ)) (text : List ℕ) : Type 0 where
+pub record Stops (P : State → ℕ → List Piece → ℕ → List ℕ → Type 0) (config : Config) (n : ℕ) (at : ℕ) (printed printed' : Output) (text : List ℕ) : Type 0 where
   pub first : State
   pub begins : first.store ≡ empty_store config
   pub holds : Holds config first
   pub stops : StopsIn P config n first 1 (pieces text) at printed printed'
+
+-- nothing whole is left, or a collection and of its schedule whole lines that were carried out and do not end it
+pub data LeavesNothingWhole (config : Config) (n : ℕ) (s : State) (left : List Piece) : Type 0 where
+  outside : whole_lines left ≡ [] → LeavesNothingWhole config n s left
+  inside : (opens : OpensSchedule config s left) → IsUsedUp (setting_at s.heap opens.g n) (opening_at s.heap opens.g n) opens.text → LeavesNothingWhole config n s left
+
+-- the lines that are whole were carried out and printed
+pub record ReplaysWholeIn (config : Config) (n : ℕ) (old : State) (all : List Piece) (printed printed' : Output) : Type 0 where
+  pub lines : List Piece
+  pub out : List ℕ
+  pub mid : State
+  pub replays : Replays config n old lines out mid
+  pub left : List Piece
+  pub all_are : all ≡ lines ++ left
+  pub held : Appends printed printed' out
+  pub whole : LeavesNothingWhole config n mid left
+
+-- the same of a text, from a heap without objects on
+pub record ReplaysWhole (config : Config) (n : ℕ) (printed printed' : Output) (text : List ℕ) : Type 0 where
+  pub first : State
+  pub begins : first.store ≡ empty_store config
+  pub holds : Holds config first
+  pub replays : ReplaysWholeIn config n first (pieces text) printed printed'
+
+-- reads came to the end of a text, and what was written is what it means with its schedules
+pub record IsReplayDone (config : Config) (n : ℕ) (i i' : Input) (o o' : Output) : Type 0 where
+  pub ended : IsTrue i'.ended
+  pub replayed : OfGiven [] i i' (IsReplayed config n o o')
+
+-- why a replay by n workers stops, and what was then written of each text that begins with what was read; nothing was touched before the first read
+abbrev pub IsReplayStopped : Config → ℕ → (untouched : Type 0) → (i i' : Input) (o o' : Output) → (failed_read failed_write : Type 0) → Fault → Type 0
+IsReplayStopped config n untouched i i' o o' failed_read failed_write fault = MatchEachFault fault
+    (λ at kind. OfInput [] i i' (Stops (Quietly (HasTraceFault config n kind)) config n at o o'))
+    (λ at kind. OfInput [] i i' (Stops (Quietly (HasScheduleFault config n kind)) config n at o o'))
+    (λ at. MatchOption at ((config.blocks < config.mutators * config.nursery_blocks) × untouched) (λ line. OfInput [] i i' (Stops (Quietly (WantsBlocks config n)) config n line o o')))
+    (λ at. MatchOption at untouched (λ line. OfInput [] i i' (Stops (IsSoundAt config n) config n line o o')))
+    (OfGiven [] i i' (ReplaysWhole config n o o') × (failed_read ⊎ IsOutOfReads (2 ^ 64 - 1) i i'))
+    failed_write

@@ -1,6 +1,6 @@
 -- What the lines of a trace print where each collection has a schedule.
-use Rattle.std.specs.Prelude.{◌≡◌, ℕ, ◌+◌, ◌⊎◌, List, [], ◌∷◌, ◌++◌, length, map, Option, Some, Result, Ok}
-use Rattle.std.specs.Io.KnownBytes.{Appends}
+use Rattle.std.specs.Prelude.{◌≡◌, ℕ, ◌+◌, ◌⊎◌, List, [], ◌∷◌, ◌++◌, length, map, Some, Ok}
+use Rattle.heap_text.specs.Streams.{Output, Appends}
 use Rattle.model.specs.Config.{Config}
 use Rattle.model.specs.Store.{Store, empty_store}
 use Rattle.model.specs.Commands.{Collect}
@@ -87,7 +87,7 @@ pub data Replays (config : Config) (n : ℕ) : State → List Piece → List ℕ
   collection : {g : ℕ} {s mid last : State} {line out more : List ℕ} {lines : List (List ℕ)} {rest : List Piece} (ends : List ℕ) → entry_of line ≡ Ok (Some (Collect g)) → Collection config n g s lines out mid → schedule_line_of ends ≡ Ok Commit → Replays config n mid rest more last → Replays config n s (finished line ∷ (map finished lines ++ finished ends ∷ rest)) (out ++ more) last
 
 -- after a `collect` line with this number its schedule was carried out and printed, and leaves the rest of the text, from line number' on
-pub record HasCollected (config : Config) (n g : ℕ) (old : State) (number : ℕ) (text : List ℕ) (number' : ℕ) (rest : List ℕ) (printed printed' : Option (List ℕ)) (new : State) : Type 0 where
+pub record HasCollected (config : Config) (n g : ℕ) (old : State) (number : ℕ) (text : List ℕ) (number' : ℕ) (rest : List ℕ) (printed printed' : Output) (new : State) : Type 0 where
   pub lines : List (List ℕ)
   pub out : List ℕ
   pub collection : Collection config n g old lines out new
@@ -98,12 +98,12 @@ pub record HasCollected (config : Config) (n g : ℕ) (old : State) (number : �
   pub held : Appends printed printed' out
 
 -- the same, where it leads to a store for which the session stands
-pub record CollectsTo {A : Type 0} (session : Session A) (config : Config) (n g : ℕ) (old : State) (number : ℕ) (text : List ℕ) (number' : ℕ) (rest : List ℕ) (printed printed' : Option (List ℕ)) : Type 0 where
+pub record CollectsTo {A : Type 0} (session : Session A) (config : Config) (n g : ℕ) (old : State) (number : ℕ) (text : List ℕ) (number' : ℕ) (rest : List ℕ) (printed printed' : Output) : Type 0 where
   pub store' : Store
   pub collected : HasCollected config n g old number text number' rest printed printed' (state_of session store')
 
 -- a line outside schedules was carried out and printed, and leads to a store for which the session stands
-pub record LineReplayed {A : Type 0} (session : Session A) (config : Config) (n : ℕ) (old : State) (line : List ℕ) (printed printed' : Option (List ℕ)) : Type 0 where
+pub record LineReplayed {A : Type 0} (session : Session A) (config : Config) (n : ℕ) (old : State) (line : List ℕ) (printed printed' : Output) : Type 0 where
   pub store' : Store
   pub stands' : Holds config (state_of session store')
   pub out : List ℕ
@@ -111,7 +111,7 @@ pub record LineReplayed {A : Type 0} (session : Session A) (config : Config) (n 
   pub held : Appends printed printed' out
 
 -- of the pieces that are left from line `number` on some were carried out and printed, and leave this text, from line number' on, and a store for which the session stands
-pub record ReplaysTo {A : Type 0} (session : Session A) (config : Config) (n : ℕ) (old : State) (number : ℕ) (left : List Piece) (number' : ℕ) (rest : List ℕ) (printed printed' : Option (List ℕ)) : Type 0 where
+pub record ReplaysTo {A : Type 0} (session : Session A) (config : Config) (n : ℕ) (old : State) (number : ℕ) (left : List Piece) (number' : ℕ) (rest : List ℕ) (printed printed' : Output) : Type 0 where
   pub store' : Store
   pub stands' : Holds config (state_of session store')
   pub lines : List Piece
@@ -122,14 +122,14 @@ pub record ReplaysTo {A : Type 0} (session : Session A) (config : Config) (n : �
   pub held : Appends printed printed' out
 
 -- all pieces
-pub record ReplaysAll (config : Config) (n : ℕ) (old : State) (all : List Piece) (printed printed' : Option (List ℕ)) : Type 0 where
+pub record ReplaysAll (config : Config) (n : ℕ) (old : State) (all : List Piece) (printed printed' : Output) : Type 0 where
   pub last : State
   pub out : List ℕ
   pub replays : Replays config n old all out last
   pub held : Appends printed printed' out
 
 -- a whole text, from a heap without objects on
-pub record IsReplayed (config : Config) (n : ℕ) (printed printed' : Option (List ℕ)) (text : List ℕ) : Type 0 where
+pub record IsReplayed (config : Config) (n : ℕ) (printed printed' : Output) (text : List ℕ) : Type 0 where
   pub first : State
   pub begins : first.store ≡ empty_store config
   pub holds : Holds config first

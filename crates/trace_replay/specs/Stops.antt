@@ -13,7 +13,7 @@ use Rattle.trace_text.specs.declared.schedule.ScheduleLine.TheVariants.{Nothing,
 use Rattle.trace_text.specs.declared.schedule.ScheduleKind.{ScheduleKind}
 use Rattle.trace_text.specs.declared.schedule.ScheduleKind.TheVariants.{NotLawful, NotEnded, UnfinishedSchedule}
 use Rattle.trace_text.specs.declared.schedule.LineFault.TheVariants as faults
-use Rattle.trace_session.specs.Pieces.{Piece, finished, unfinished, pieces}
+use Rattle.trace_session.specs.Pieces.{Piece, finished, unfinished, pieces, whole_lines}
 use Rattle.trace_replay.specs.Naming.{meant}
 use Rattle.machine.specs.MachineValue.{MachineValue, setting_in}
 use Rattle.machine.specs.Events.{IsShortOfBlocks}
@@ -83,6 +83,13 @@ pub record IsCutShort (setting : Setting) (first : System) (text : List ℕ) : T
   pub last : System
   pub run : LinesRun setting first lines last
   pub pieces_are : pieces text ≡ map finished lines
+
+-- the lines of the text that are whole were carried out, and none of them ends the schedule
+pub record IsUsedUp (setting : Setting) (first : System) (text : List ℕ) : Type 0 where
+  pub lines : List (List ℕ)
+  pub last : System
+  pub run : LinesRun setting first lines last
+  pub lines_are : whole_lines (pieces text) ≡ map finished lines
 
 -- the fault is that of a line, or of line `start`, which began the schedule
 pub data StopsWith (setting : Setting) (first : System) (start : ℕ) (text : List ℕ) (at : ℕ) : ScheduleKind → Type 0 where

@@ -1,46 +1,65 @@
 //! Collections by several workers in turn: by a schedule, and by themselves.
-ghost use Rattle.std.specs.Prelude.{◌≡◌, ◌+◌, ◌-◌, ◌^◌, ◌<◌, ◌≤◌, [], Some, length, MatchOption, IfOk, OnOk, IfErr};
+ghost use Rattle.std.specs.Prelude.{◌≡◌, ◌+◌, ◌-◌, ◌^◌, ◌<◌, ◌≤◌, ◌⊎◌, [], Some, MatchOption, IfOk, OnOk, IfErr};
+ghost use Rattle.heap_text.specs.Streams.{OfGiven, OfInput};
 ghost use Rattle.model.specs.Store.{collected};
 ghost use Rattle.trace_replay.specs.Events.{IsShortOfBlocks};
 ghost use Rattle.trace_session.specs.Faults.{MatchFault, MatchEachFault};
+ghost use Rattle.trace_session.specs.Lines.{IsOutOfReads, Moves, most_left};
 ghost use Rattle.trace_session.specs.Stepped.{AtEach, Writes};
 ghost use Rattle.trace_session.specs.Session.{Stands};
 ghost use Rattle.trace_replay.specs.Replays.{CollectsTo, MakesRoom, state_of};
-ghost use Rattle.trace_replay.specs.ReplayStops.{AfterCollect, HasTraceFault, HasScheduleFault, WantsBlocks, IsSoundAt};
+ghost use Rattle.trace_replay.specs.ReplayStops.{AfterCollect, HasTraceFault, HasScheduleFault, WantsBlocks, IsSoundAt, LeavesNothingWhole};
 
 use crate::schedules::{settled_by_itself, settled_by_schedule};
-use heap_text::{Cause, Sink, WriteFailed, workers_text, write_report};
+use heap_text::{Cause, Sink, Source, WriteFailed, workers_text, write_report};
 use model::Kind;
 use std::alloc::Allocator;
-use trace_session::{Fault, Session};
+use trace_session::{Fault, Lines, Session};
 
 /// Collects the generations 0 to `generation` by so many workers, 1 to 16, as the schedule says that follows line
-/// `number`, and writes what was kept and freed and what each worker did. It gives the number of the line after the
-/// schedule, and the text from there on.
-pub(crate) fn collect<'t, A: Allocator + Clone, W: Sink>(
+/// `number` and is read line by line, and writes what was kept and freed and what each worker did. It gives the number
+/// of the line after the schedule.
+pub(crate) fn collect<A: Allocator + Clone, S: Source, W: Sink>(
     session: &mut Session<A>,
     workers: u32,
     number: u128,
     generation: u64,
-    text: &'t [u8],
+    lines: &mut Lines<A>,
+    reader: &mut S,
     writer: &mut W,
-) -> Result<(u128, &'t [u8]), Fault>
+) -> Result<u128, Fault>
     requires some { 0 < workers }
     requires most { workers ≤ 16 }
-    requires room { number + 1 + length text.now < 2 ^ 127 }
+    requires room { number + 1 + most_left lines.old < 2 ^ 127 }
+    requires readable { S.failed_reads reader.old < 2 ^ 64 - 1 }
     requires countable { W.failed_writes writer.old < 2 ^ 64 - 1 }
-    ensures ok { IfOk result (λ found. AtEach (Stands session.old) (λ config store.
-        CollectsTo session.new config workers generation (state_of session.old store) number text.now found.0 found.1.now (W.contents writer.old) (W.contents writer.new))) }
-    ensures left { IfOk result (λ found. found.0 + length found.1.now ≤ number + 1 + length text.now) }
-    ensures later { IfOk result (λ found. number < found.0) }
+    ensures ok { IfOk result (λ found. Moves lines.old lines.new (S.input reader.old) (S.input reader.new) (λ text rest.
+        AtEach (Stands session.old) (λ config store. CollectsTo session.new config workers generation
+        (state_of session.old store) number text found rest (W.output writer.old) (W.output writer.new)))) }
+    ensures left { IfOk result (λ found. found + most_left lines.new ≤ number + 1 + most_left lines.old) }
+    ensures later { IfOk result (λ found. number < found) }
+    ensures reads { OnOk result (S.failed_reads reader.new ≡ S.failed_reads reader.old) }
+    ensures read_rises { S.failed_reads reader.new ≤ S.failed_reads reader.old + 1 }
     ensures counts { OnOk result (W.failed_writes writer.new ≡ W.failed_writes writer.old) }
     ensures rises { W.failed_writes writer.new ≤ W.failed_writes writer.old + 1 }
     ensures err { IfErr result (λ e. MatchEachFault e
-        (λ at kind. AtEach (Stands session.old) (λ config store. AfterCollect generation text.now (λ left. HasTraceFault config workers kind (state_of session.old store) number left at)) × (writer.new ≡ writer.old))
-        (λ at kind. AtEach (Stands session.old) (λ config store. AfterCollect generation text.now (λ left. HasScheduleFault config workers kind (state_of session.old store) number left at)) × (writer.new ≡ writer.old))
-        (λ at. MatchOption at ⊥ (λ line. AtEach (Stands session.old) (λ config store. AfterCollect generation text.now (λ left. WantsBlocks config workers (state_of session.old store) number left line))) × (writer.new ≡ writer.old))
-        (λ at. MatchOption at ⊥ (λ line. AtEach (Stands session.old) (λ config store. AfterCollect generation text.now (λ left. IsSoundAt config workers (state_of session.old store) number left line []))) × (writer.new ≡ writer.old))
-        ⊥
+        (λ at kind. OfInput lines.old.pending (S.input reader.old) (S.input reader.new) (λ text.
+        AtEach (Stands session.old) (λ config store. AfterCollect generation text (λ left.
+        HasTraceFault config workers kind (state_of session.old store) number left at))) × (writer.new ≡ writer.old))
+        (λ at kind. OfInput lines.old.pending (S.input reader.old) (S.input reader.new) (λ text.
+        AtEach (Stands session.old) (λ config store. AfterCollect generation text (λ left.
+        HasScheduleFault config workers kind (state_of session.old store) number left at))) × (writer.new ≡ writer.old))
+        (λ at. MatchOption at ⊥ (λ line. OfInput lines.old.pending (S.input reader.old) (S.input reader.new) (λ text.
+        AtEach (Stands session.old) (λ config store. AfterCollect generation text (λ left.
+        WantsBlocks config workers (state_of session.old store) number left line)))) × (writer.new ≡ writer.old))
+        (λ at. MatchOption at ⊥ (λ line. OfInput lines.old.pending (S.input reader.old) (S.input reader.new) (λ text.
+        AtEach (Stands session.old) (λ config store. AfterCollect generation text (λ left.
+        IsSoundAt config workers (state_of session.old store) number left line [])))) × (writer.new ≡ writer.old))
+        (OfGiven lines.old.pending (S.input reader.old) (S.input reader.new) (λ text.
+        AtEach (Stands session.old) (λ config store. AfterCollect generation text
+        (LeavesNothingWhole config workers (state_of session.old store)))) × (writer.new ≡ writer.old)
+        × ((S.failed_reads reader.new ≡ S.failed_reads reader.old + 1)
+        ⊎ IsOutOfReads lines.old.reads (S.input reader.old) (S.input reader.new)))
         (W.failed_writes writer.new ≡ W.failed_writes writer.old + 1)) }
 {
     if generation >= session.heap.config().generations() as u64 {
@@ -55,19 +74,20 @@ pub(crate) fn collect<'t, A: Allocator + Clone, W: Sink>(
     let Ok(text_alloc) = session.alloc.clone() else {
         return Err(Fault::NoMemory(Some(number)));
     };
-    let (settled, commit, rest) = match settled_by_schedule(
+    let (settled, commit) = match settled_by_schedule(
         alloc,
         &session.heap,
         generation,
         workers,
         number,
-        text,
+        lines,
+        reader,
     ) {
         Ok(found) => found,
         Err(fault) => return Err(fault),
     };
     let (won, taken) = (settled.workers.as_slice(), settled.deliveries.as_slice());
-    let Ok(lines) = workers_text(text_alloc, won, taken) else {
+    let Ok(told) = workers_text(text_alloc, won, taken) else {
         return Err(Fault::NoMemory(Some(commit)));
     };
     let Ok(report) = session.heap.commit(commit_alloc, settled) else {
@@ -79,10 +99,10 @@ pub(crate) fn collect<'t, A: Allocator + Clone, W: Sink>(
         generation,
         kept,
         freed,
-        lines.as_str(),
+        told.as_str(),
         writer,
     ) {
-        Ok(()) => Ok((commit + 1, rest)),
+        Ok(()) => Ok(commit + 1),
         Err(WriteFailed) => Err(Fault::WriteFailed),
     }
 }
@@ -100,7 +120,7 @@ pub(crate) fn make_room<A: Allocator + Clone, W: Sink>(
     requires most { workers ≤ 16 }
     requires countable { W.failed_writes writer.old < 2 ^ 64 - 1 }
     ensures ok { OnOk result (AtEach (Stands session.old) (λ config store. Stands session.new config (collected config 0 store)
-        × Writes (λ written. MakesRoom workers (state_of session.old store) written session.new.heap) (W.contents writer.old) (W.contents writer.new))) }
+        × Writes (λ written. MakesRoom workers (state_of session.old store) written session.new.heap) (W.output writer.old) (W.output writer.new))) }
     ensures counts { OnOk result (W.failed_writes writer.new ≡ W.failed_writes writer.old) }
     ensures rises { W.failed_writes writer.new ≤ W.failed_writes writer.old + 1 }
     ensures err { IfErr result (λ e. MatchFault e (λ _ _. ⊥)

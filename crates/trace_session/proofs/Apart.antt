@@ -1,6 +1,7 @@
 -- What a fault tells of a line whose collections are those of workers on threads of their own.
-use Rattle.std.proofs.Common.{◌≡◌, ℕ, List, Option, Some, None, Result, Ok, Err, refl, sym, ap, subst, ◌∙◌, inl, inr}
+use Rattle.std.proofs.Common.{◌≡◌, ℕ, List, Option, Some, None, Result, Ok, Err, refl, sym, subst, ◌∙◌, inl, inr}
 use Rattle.std.specs.Prelude.{OnOk, IfErr}
+use Rattle.heap_text.specs.Streams.{Output}
 use Rattle.model.specs.declared.kind.Kind.{Kind}
 use Rattle.model.specs.Config.{Config}
 use Rattle.model.specs.Store.{Store}
@@ -81,11 +82,11 @@ may_by_any n config store line plain later may = record { sound = may.sound; wan
 
 -- a line that is a command to collect
 module _ (line : List ℕ) (g : ℕ) (says : entry_of line ≡ Ok (Some (Collect g))) (stands : Config → Store → Type 0) where
-  pub collects_line : {X E : Type 0} (r : Result X E) (stands' : Config → Store → Type 0) (old new : Option (List ℕ)) → OnOk r (AtEach stands (λ config store. StepsTo stands' config (command_step config store (Collect g)) old new)) → OnOk r (AtEach stands (λ config store. StepsTo stands' config (line_step config store line) old new))
+  pub collects_line : {X E : Type 0} (r : Result X E) (stands' : Config → Store → Type 0) (old new : Output) → OnOk r (AtEach stands (λ config store. StepsTo stands' config (command_step config store (Collect g)) old new)) → OnOk r (AtEach stands (λ config store. StepsTo stands' config (line_step config store line) old new))
   collects_line (Ok x) stands' old new steps = λ config store there. subst (λ step. StepsTo stands' config step old new) (sym (line_is config store line (Collect g) says)) (steps config store there)
   collects_line (Err e) stands' old new steps = tt
 
-  module _ (n number : ℕ) (heap : HeapValue) (box : Type 0) {W : Type 0} (contents : W → Option (List ℕ)) (old new : W) (written : Type 0) where
+  module _ (n number : ℕ) (heap : HeapValue) (box : Type 0) {W : Type 0} (contents : W → Output) (old new : W) (written : Type 0) where
     -- what a fault of the collection tells
     abbrev OfCollection : Fault → Type 0
     OfCollection e =

@@ -3,7 +3,8 @@ use Rattle.std.proofs.Common.{◌≡◌, ℕ, suc, ◌+◌, ◌-◌, List, [], �
 use Rattle.std.specs.Prelude.{slice_get}
 use Rattle.std.proofs.lemmas.List.{drop-drop, get_or-drop}
 use Rattle.std.proofs.lemmas.Option.{slice_get_read}
-use Rattle.std.proofs.KnownBytes.{Appends-nil, Appends-trans}
+use Rattle.heap_text.specs.Streams.{Output}
+use Rattle.heap_text.proofs.Streams.{Appends-nil, Appends-trans}
 use Rattle.model.specs.declared.kind.Kind.{Kind}
 use Rattle.model.specs.Config.{Config}
 use Rattle.model.specs.Store.{Store}
@@ -69,7 +70,7 @@ slice_get_at xs ys i x begins =
     let at : get_or xs (i + 0) x ≡ x = sym (get_or-drop i xs 0 x) ∙ ap (λ zs. get_or zs 0 x) begins in
     slice_get_read xs (length xs) i x refl (omega arith) (sym (rw none at at))
 
-pub CarriesOut-none : (config : Config) (number : ℕ) (store : Store) (text : List ℕ) (held : Option (List ℕ)) → CarriesOut config number store text number store text held held
+pub CarriesOut-none : (config : Config) (number : ℕ) (store : Store) (text : List ℕ) (held : Output) → CarriesOut config number store text number store text held held
 CarriesOut-none config number store text held = record {
   out = [];
   lines = 0;
@@ -78,8 +79,8 @@ CarriesOut-none config number store text held = record {
   carried = Carried-none config number store text;
 }
 
-module _ (config : Config) (number : ℕ) (store : Store) (text : List ℕ) (number' : ℕ) (store' : Store) (rest : List ℕ) (old now : Option (List ℕ)) (so_far : CarriesOut config number store text number' store' rest old now) (line next : List ℕ) (is : rest ≡ line ++ 10 ∷ next) (free : HasNoFeed line) where
-  pub CarriesOut-line : (stands : Config → Store → Type 0) (new : Option (List ℕ)) → StepsTo stands config (line_step config store' line) now new → CarriesOutTo stands config number store text (number' + 1) next old new
+module _ (config : Config) (number : ℕ) (store : Store) (text : List ℕ) (number' : ℕ) (store' : Store) (rest : List ℕ) (old now : Output) (so_far : CarriesOut config number store text number' store' rest old now) (line next : List ℕ) (is : rest ≡ line ++ 10 ∷ next) (free : HasNoFeed line) where
+  pub CarriesOut-line : (stands : Config → Store → Type 0) (new : Output) → StepsTo stands config (line_step config store' line) now new → CarriesOutTo stands config number store text (number' + 1) next old new
   CarriesOut-line stands new done =
       let first : Carried config number store text so_far.out so_far.lines store' ((line ++ 10 ∷ next) ++ []) = rw (append-nil (line ++ 10 ∷ next), ← is) so_far.carried in
       let second : Carried config (number + so_far.lines) store' (line ++ 10 ∷ next) done.out 1 done.next next = Carried-line config (number + so_far.lines) store' line next done.next done.out free done.steps in
@@ -109,7 +110,7 @@ module _ (config : Config) (number : ℕ) (store : Store) (text : List ℕ) (num
         Carried-whole _ _ _ _ _ _ _ _ so_far.carried more ∙ ap (λ o. after so_far.out o) stop ∙ ap (λ xs. record { store = store'; output = xs; fault = Some (at, kind) }) (append-nil so_far.out);
   }
 
-  pub leaves_before : (P : Store → List ℕ → List ℕ → Type 0) (at : Option ℕ) → at ≡ Some number' → (new : Option (List ℕ)) → Writes (P store' line) now new → LeavesBefore P config number store text at old new
+  pub leaves_before : (P : Store → List ℕ → List ℕ → Type 0) (at : Option ℕ) → at ≡ Some number' → (new : Output) → Writes (P store' line) now new → LeavesBefore P config number store text at old new
   leaves_before P at here new own = record {
     out = so_far.out;
     lines = so_far.lines;
@@ -124,18 +125,18 @@ module _ (config : Config) (number : ℕ) (store : Store) (text : List ℕ) (num
   }
 
 -- at each store for which a session stands
-module _ (stands stands' : Config → Store → Type 0) (number : ℕ) (text : List ℕ) (number' : ℕ) (rest : List ℕ) (old now : Option (List ℕ)) (so_far : AtEach stands (λ config store. CarriesOutTo stands' config number store text number' rest old now)) (line next : List ℕ) (is : rest ≡ line ++ 10 ∷ next) (free : HasNoFeed line) where
-  pub line_joins : (stands'' : Config → Store → Type 0) (new : Option (List ℕ)) → AtEach stands' (λ config store. StepsTo stands'' config (line_step config store line) now new) → AtEach stands (λ config store. CarriesOutTo stands'' config number store text (number' + 1) next old new)
+module _ (stands stands' : Config → Store → Type 0) (number : ℕ) (text : List ℕ) (number' : ℕ) (rest : List ℕ) (old now : Output) (so_far : AtEach stands (λ config store. CarriesOutTo stands' config number store text number' rest old now)) (line next : List ℕ) (is : rest ≡ line ++ 10 ∷ next) (free : HasNoFeed line) where
+  pub line_joins : (stands'' : Config → Store → Type 0) (new : Output) → AtEach stands' (λ config store. StepsTo stands'' config (line_step config store line) now new) → AtEach stands (λ config store. CarriesOutTo stands'' config number store text (number' + 1) next old new)
   line_joins stands'' new steps = λ config store at.
       let here = so_far config store at in
       CarriesOut-line config number store text number' here.next rest old now here.carries line next is free stands'' new (steps config here.next here.stands')
 
-  pub leaves : (P : Config → Store → List ℕ → List ℕ → Type 0) (at : Option ℕ) → at ≡ Some number' → (new : Option (List ℕ)) → AtEach stands' (λ config store. Writes (P config store line) now new) → AtEach stands (λ config store. LeavesBefore (P config) config number store text at old new)
+  pub leaves : (P : Config → Store → List ℕ → List ℕ → Type 0) (at : Option ℕ) → at ≡ Some number' → (new : Output) → AtEach stands' (λ config store. Writes (P config store line) now new) → AtEach stands (λ config store. LeavesBefore (P config) config number store text at old new)
   leaves P at here new own = λ config store there.
       let before = so_far config store there in
       leaves_before config number store text number' before.next rest old now before.carries line next is free (P config) at here new (own config before.next before.stands')
 
-  pub fault_of_line : (wants : Config → Store → List ℕ → Type 0) {T : Type 0} (contents : T → Option (List ℕ)) (before new : T) (failed : Type 0) (e : Fault) → contents before ≡ now
+  pub fault_of_line : (wants : Config → Store → List ℕ → Type 0) {T : Type 0} (contents : T → Output) (before new : T) (failed : Type 0) (e : Fault) → contents before ≡ now
       → MatchFault e
       (λ at kind. (at ≡ number') × AtEach stands' (λ config store. (line_step config store line ≡ Err kind) × (new ≡ before)))
       (λ at. (at ≡ Some number') × AtEach stands' (λ config store. wants config store line × (new ≡ before)))

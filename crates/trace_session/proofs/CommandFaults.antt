@@ -1,7 +1,8 @@
 -- A command that writes nothing, or that wants no blocks, as one of all commands.
-use Rattle.std.proofs.Common.{◌≡◌, ℕ, List, [], Option, Some, Result, Ok, Err}
+use Rattle.std.proofs.Common.{◌≡◌, ℕ, [], Option, Some, Result, Ok, Err}
 use Rattle.std.specs.Prelude.{OnOk, IfErr, IsOk}
-use Rattle.std.proofs.KnownBytes.{Appends-nil}
+use Rattle.heap_text.specs.Streams.{Output}
+use Rattle.heap_text.proofs.Streams.{Appends-nil}
 use Rattle.model.specs.declared.kind.Kind.{Kind}
 use Rattle.model.specs.Config.{Config}
 use Rattle.model.specs.Store.{Store}
@@ -12,7 +13,7 @@ use Rattle.trace_session.specs.Faults.{MatchFault}
 use Rattle.trace_session.specs.Stepped.{AtEach, StepsTo, StepsQuietly}
 
 -- what was written stays as it is
-pub quiet_steps : {X E : Type 0} (r : Result X E) (stands stands' : Config → Store → Type 0) (step : Config → Store → Stepped) (held : Option (List ℕ)) → OnOk r (AtEach stands (λ config store. StepsQuietly stands' config (step config store))) → OnOk r (AtEach stands (λ config store. StepsTo stands' config (step config store) held held))
+pub quiet_steps : {X E : Type 0} (r : Result X E) (stands stands' : Config → Store → Type 0) (step : Config → Store → Stepped) (held : Output) → OnOk r (AtEach stands (λ config store. StepsQuietly stands' config (step config store))) → OnOk r (AtEach stands (λ config store. StepsTo stands' config (step config store) held held))
 quiet_steps (Ok x) stands stands' step held steps = λ config store at.
     let quiet = steps config store at in
     record { next = quiet.next; out = []; steps = quiet.steps; stands' = quiet.stands'; held = Appends-nil held }

@@ -1,7 +1,8 @@
 -- A line that is a command does what the command does.
 use Rattle.std.proofs.Common.{◌≡◌, ℕ, List, [], Option, Some, Result, Ok, Err, refl, sym, subst, ap, ◌∙◌}
 use Rattle.std.specs.Prelude.{IfOk, IfErr, is_ok}
-use Rattle.std.proofs.KnownBytes.{Appends-nil}
+use Rattle.heap_text.specs.Streams.{Output}
+use Rattle.heap_text.proofs.Streams.{Appends-nil}
 use Rattle.model.specs.declared.kind.Kind.{Kind}
 use Rattle.model.specs.Config.{Config}
 use Rattle.model.specs.Store.{Store}
@@ -46,7 +47,7 @@ makes_none config store Census none = λ first. first
 makes_none config store Heap none = λ first. first
 
 -- a line that is a new object
-pub new_line : (stands stands' : Config → Store → Type 0) (line : List ℕ) (command : Command) → entry_of line ≡ Ok (Some command) → (held : Option (List ℕ)) (r : Result Attempt Fault)
+pub new_line : (stands stands' : Config → Store → Type 0) (line : List ℕ) (command : Command) → entry_of line ≡ Ok (Some command) → (held : Output) (r : Result Attempt Fault)
     → IfOk r (λ a. AtEach stands (λ config store. MatchAttempt a (StepsQuietly stands' config (command_step config store command) × ¬ CollectsFirst config store command) (IsSoundCommand config store command × CollectsFirst config store command)))
     → IfOk r (λ a. AtEach stands (λ config store. MatchAttempt a (StepsTo stands' config (line_step config store line) held held × ¬ LineCollectsFirst config store line) (IsSoundTraceLine config store line × LineCollectsFirst config store line)))
 new_line stands stands' line command says held (Ok Done) steps = λ config store there.

@@ -1,11 +1,11 @@
 -- What the text of the heap is where a session stands for a store.
-use Rattle.std.proofs.Common.{◌≡◌, ℕ, true, List, map, Option, IsTrue, refl, sym, ap, subst, ◌∙◌}
+use Rattle.std.proofs.Common.{◌≡◌, ℕ, true, List, map, IsTrue, refl, sym, ap, subst, ◌∙◌}
 use Rattle.std.specs.Prelude.{is_some}
 use Rattle.std.specs.Ordering.{nat_cmp}
 use Rattle.std.specs.Cmp.Lexicographic.{slice_cmp}
 use Rattle.std.specs.List.{list_all}
 use Rattle.std.specs.FinMap.{is_sorted}
-use Rattle.std.specs.Io.KnownBytes.{Appends}
+use Rattle.heap_text.specs.Streams.{Output, Appends}
 use Rattle.std.proofs.lemmas.List.Folds.{list_all-map}
 use Rattle.model.specs.Graph.{root_at}
 use Rattle.model.specs.Config.{Config}
@@ -29,7 +29,7 @@ module _ (heap : HeapValue) (names : List (List ℕ × ℕ)) (config : Config) (
       ∙ ap (list_all (λ (e : List ℕ × ℕ). is_some (root_at heap.graph e.1))) is
       ∙ each_named (λ root. is_some (root_at heap.graph root)) names (sorted_of names rise) (λ text root found. ap is_some (stands.names_are.leads text root found).root_is)
 
-  pub steps_heap : (old new : Option (List ℕ)) → Appends old new (heap_lines heap.graph names) → StepsTo (StandsFor heap names) config (command_step config store Heap) old new
+  pub steps_heap : (old new : Output) → Appends old new (heap_lines heap.graph names) → StepsTo (StandsFor heap names) config (command_step config store Heap) old new
   steps_heap old new held =
       let same : heap_lines heap.graph names ≡ heap_text store = same_text store stands.place heap.graph names stands.placed stands.names_are (sorted_of names rise) in
       record {

@@ -10,8 +10,7 @@ pub mod NamesOrder
 pub mod PieceLemmas
 pub mod CarriedLemmas
 pub mod TextLemmas
-pub mod ReadLemmas
-pub mod FaultLemmas
+pub mod LineLemmas
 pub mod CommandFaults
 pub mod SecondAttempt
 -- A store and the heap that stands for it, after each change of both.

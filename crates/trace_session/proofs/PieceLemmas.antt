@@ -1,10 +1,10 @@
 -- The pieces of a text that begins with a line.
 use Rattle.std.proofs.lemmas.List.Prefix.{end_rest}
-use Rattle.std.proofs.Common.{◌≡◌, ℕ, ◌-◌, length, take, drop, take-append-drop, append_assoc, Bool, cond, true, false, List, [], ◌∷◌, ◌++◌, refl, sym, ap, ◌∙◌}
-use Rattle.std.specs.Prelude.{◌==◌}
+use Rattle.std.proofs.Common.{◌≡◌, ℕ, ◌-◌, ◌<◌, arith, rules, length, length-append, take, drop, take-append-drop, append_assoc, Bool, cond, true, false, List, [], ◌∷◌, ◌++◌, refl, sym, ap, ◌∙◌, suc}
+use Rattle.std.specs.Prelude.{◌==◌, nat_lt}
 use Rattle.std.specs.List.{slice_split, onto_first, AllByRecursion}
 use Rattle.std.proofs.lemmas.List.Splits.{slice_split_none, slice_split_at}
-use Rattle.trace_session.specs.Pieces.{HasNoFeed, finished, last_piece, pieces_of, pieces}
+use Rattle.trace_session.specs.Pieces.{HasNoFeed, Piece, finished, unfinished, last_piece, pieces_of, pieces}
 
 -- a part that is not the last is a finished line
 not_last : (line : List ℕ) (ends : Bool) (b : ℕ) (parts : List (List ℕ)) → pieces_of (line ∷ cond ends ([] ∷ parts) (onto_first b parts)) ≡ finished line ∷ pieces_of (cond ends ([] ∷ parts) (onto_first b parts))
@@ -53,3 +53,27 @@ begins_with [] text free = begins_with_nothing text
 begins_with (b ∷ bs) text free =
     let rest = begins_with bs text free.1 in
     record { more = rest.more; others = rest.others; parts = rw (free.0, rest.parts) refl }
+
+-- the first piece has more bytes than a line may have
+pub data StartsLong (text : List ℕ) : Type 0 where
+  long_finished : (front : List ℕ) (rest : List Piece) → pieces text ≡ finished front ∷ rest → 4096 < length front → StartsLong text
+  long_unfinished : (front : List ℕ) → pieces text ≡ unfinished front ∷ [] → 4096 < length front → StartsLong text
+
+long_of_parts : (text front more : List ℕ) (others : List (List ℕ)) → slice_split (λ byte. byte == 10) text ≡ (front ++ more) ∷ others → 4096 < length front → StartsLong text
+unfolding pieces
+long_of_parts text front more (next ∷ others) parts long = long_finished (front ++ more) (pieces_of (next ∷ others)) (ap pieces_of parts) (omega (arith, long, length-append front more))
+long_of_parts text [] more [] parts long = absurd (omega (arith, long))
+long_of_parts text (b ∷ bs) more [] parts long = long_unfinished (b ∷ bs ++ more) (ap pieces_of parts) (omega (arith, long, length-append (b ∷ bs) more))
+
+each_of : (text : List ℕ) → HasNoFeed text → AllByRecursion (λ byte. (byte == 10) ≡ false) text
+each_of [] free = tt
+each_of (b ∷ bs) free = (free 0 0 (omega arith), each_of bs (λ k d low. free (suc k) d (omega (arith, low))))
+
+-- so many bytes without a line feed, whatever follows them
+pub starts_long : (front more : List ℕ) → HasNoFeed front → 4096 < length front → StartsLong (front ++ more)
+starts_long front more free long =
+    let begun = begins_with front more (each_of front free) in
+    long_of_parts (front ++ more) front begun.more begun.others begun.parts long
+
+pub long_line : (text : List ℕ) → 4096 < length text → nat_lt 4096 (length text) ≡ true
+long_line text long = search rules

@@ -1,7 +1,7 @@
 -- What a census and a collection do to a session that stands for a store.
-use Rattle.std.proofs.Common.{◌≡◌, ℕ, ◌<◌, ◌≤◌, true, false, Err, arith, List, Option, refl, ap, subst, ◌∙◌, codes}
+use Rattle.std.proofs.Common.{◌≡◌, ℕ, ◌<◌, ◌≤◌, true, false, Err, arith, List, refl, ap, subst, ◌∙◌, codes}
 use Rattle.std.specs.Prelude.{nat_lt}
-use Rattle.std.specs.Io.KnownBytes.{Appends}
+use Rattle.heap_text.specs.Streams.{Output, Appends}
 use Rattle.std.proofs.lemmas.Bool.{lt-ltb}
 use Rattle.std.proofs.lemmas.Bool.Decides.{nat_tests}
 use Rattle.model.specs.Config.{Config}
@@ -25,7 +25,7 @@ use Rattle.trace_session.proofs.CountsSame.{same_census}
 use Rattle.trace_session.proofs.StandsCollected.{stands_collected, kept_same, freed_same}
 
 module _ (heap : HeapValue) (names : List (List ℕ × ℕ)) (config : Config) (store : Store) (stands : StandsFor heap names config store) where
-  pub steps_census : (old new : Option (List ℕ)) → Appends old new (census_text (heap_census heap)) → StepsTo (StandsFor heap names) config (command_step config store Census) old new
+  pub steps_census : (old new : Output) → Appends old new (census_text (heap_census heap)) → StepsTo (StandsFor heap names) config (command_step config store Census) old new
   steps_census old new held =
       let same : heap_census heap ≡ store_census config store = ap (λ c. heap_census (record heap { config = c })) stands.config_is ∙ same_census store stands.place heap.graph stands.placed config _ stands.names_are.count in
       record {
@@ -36,7 +36,7 @@ module _ (heap : HeapValue) (names : List (List ℕ × ℕ)) (config : Config) (
         held = subst (λ c. Appends old new (census_text c)) same held;
       }
 
-  pub steps_collect : (g kept freed : ℕ) (workers : List WorkerLists) (heap' : HeapValue) (old new : Option (List ℕ)) → Collects heap g kept freed workers heap' → MadeByCalls heap' → g < heap.config.shape.generations → Appends old new (collection_line (codes "collected") g kept freed) → StepsTo (StandsFor heap' names) config (command_step config store (Collect g)) old new
+  pub steps_collect : (g kept freed : ℕ) (workers : List WorkerLists) (heap' : HeapValue) (old new : Output) → Collects heap g kept freed workers heap' → MadeByCalls heap' → g < heap.config.shape.generations → Appends old new (collection_line (codes "collected") g kept freed) → StepsTo (StandsFor heap' names) config (command_step config store (Collect g)) old new
   steps_collect g kept freed workers heap' old new collects by_calls in_range held =
       let known : nat_lt g config.shape.generations ≡ true = lt-ltb g config.shape.generations (rw (← stands.config_is) in_range) in
       record {
@@ -70,7 +70,7 @@ module _ (heap : HeapValue) (names : List (List ℕ × ℕ)) (config : Config) (
       }
 
   -- generation 0 is collected for a new object
-  pub room_made : (kept freed : ℕ) (workers : List WorkerLists) (heap' : HeapValue) (old new : Option (List ℕ)) → Collects heap 0 kept freed workers heap' → MadeByCalls heap' → Appends old new (collection_line (codes "auto") 0 kept freed) → StandsFor heap' names config (collected config 0 store) × Appends old new (auto_line store)
+  pub room_made : (kept freed : ℕ) (workers : List WorkerLists) (heap' : HeapValue) (old new : Output) → Collects heap 0 kept freed workers heap' → MadeByCalls heap' → Appends old new (collection_line (codes "auto") 0 kept freed) → StandsFor heap' names config (collected config 0 store) × Appends old new (auto_line store)
   room_made kept freed workers heap' old new collects by_calls held = (
     stands_collected heap names config store stands 0 kept freed workers heap' collects by_calls,
     subst (λ k. Appends old new (collection_line (codes "auto") 0 k (freed_count store 0))) (kept_same heap names config store stands 0 kept freed workers heap' collects)

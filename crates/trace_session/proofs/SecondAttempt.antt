@@ -1,7 +1,7 @@
 -- A line that collects first is carried out after that collection.
-use Rattle.std.proofs.Common.{◌≡◌, ℕ, ◌+◌, ◌<◌, ◌≤◌, Bool, true, false, List, [], ◌++◌, length, Option, Some, None, Result, Ok, Err, refl, sym, ap, ◌∙◌, subst, arith, append-nil}
-use Rattle.std.specs.Prelude.{◌/◌, not, nat_lt, nat_le, is_some, is_ok, IsOk, IsTrue, slice_get, get_or, option_and_then, replicate}
-use Rattle.std.proofs.lemmas.Bool.{true≢false, cases_Bool, ltb-true, le-leb, ltb-false, and_parts}
+use Rattle.std.proofs.Common.{◌≡◌, ℕ, ◌+◌, ◌<◌, Bool, true, false, List, [], Option, Some, None, Result, Ok, Err, refl, sym, ap, ◌∙◌, arith}
+use Rattle.std.specs.Prelude.{◌/◌, not, nat_lt, nat_le, is_some, is_ok, IsTrue, slice_get, option_and_then, replicate}
+use Rattle.std.proofs.lemmas.Bool.{true≢false, ltb-true, le-leb, ltb-false, and_parts}
 use Rattle.std.proofs.lemmas.List.{get_or-replicate, length-replicate}
 use Rattle.std.proofs.lemmas.Option.{slice_get_read}
 use Rattle.model.specs.declared.kind.Kind.{Kind}

@@ -1,7 +1,7 @@
 -- A line that is carried out once generation 0 was collected for it.
 use Rattle.std.proofs.Common.{◌≡◌, ℕ, ◌+◌, true, List, [], ◌++◌, Option, None, Some, Result, Ok, Err, refl, sym, ap, subst, ◌∙◌, ◌⊎◌, inl, inr, append-nil}
-use Rattle.std.specs.Io.KnownBytes.{Appends}
-use Rattle.std.proofs.KnownBytes.{Appends-nil, Appends-trans}
+use Rattle.heap_text.specs.Streams.{Output, Appends}
+use Rattle.heap_text.proofs.Streams.{Appends-nil, Appends-trans}
 use Rattle.model.specs.declared.kind.Kind.{Kind}
 use Rattle.model.specs.Config.{Config}
 use Rattle.model.specs.Store.{Store, collected}
@@ -63,7 +63,7 @@ wants_blocks n config store (Ok (Some Census)) first short = absurd first
 wants_blocks n config store (Ok (Some Heap)) first short = absurd first
 
 -- of a line: what its attempts tell, where Full says when blocks may be wanting, and Made what is written where room is made
-module _ (stands : Config → Store → Type 0) (number : ℕ) (line : List ℕ) (Full : Config → Store → Type 0) (Made : Config → Store → List ℕ → Type 0) {W : Type 0} (contents : W → Option (List ℕ)) (old : W) where
+module _ (stands : Config → Store → Type 0) (number : ℕ) (line : List ℕ) (Full : Config → Store → Type 0) (Made : Config → Store → List ℕ → Type 0) {W : Type 0} (contents : W → Output) (old : W) where
   abbrev SoFar : Config → Store → List ℕ → Type 0
   SoFar config store written = IsSoundTraceLine config store line × ((written ≡ []) ⊎ (LineCollectsFirst config store line × Made config store written))
 
@@ -127,9 +127,9 @@ module _ (stands : Config → Store → Type 0) (number : ℕ) (line : List ℕ)
     room_fault before same Short full session session' new failed failed' told WriteFailed f = told f
 
     -- where room was made, in a session that stands for what the collection leaves
-    module _ (mid : Config → Store → Type 0) (between : Option (List ℕ)) (room : AtEach stands (λ config store. mid config (collected config 0 store) × Writes (Made config store) (contents old) between)) where
+    module _ (mid : Config → Store → Type 0) (between : Output) (room : AtEach stands (λ config store. mid config (collected config 0 store) × Writes (Made config store) (contents old) between)) where
       -- what the second attempt does, and that it writes nothing
-      pub done_twice : (last : Config → Store → Type 0) (new : Option (List ℕ)) → AtEach mid (λ config store. StepsTo last config (line_step config store line) between new)
+      pub done_twice : (last : Config → Store → Type 0) (new : Output) → AtEach mid (λ config store. StepsTo last config (line_step config store line) between new)
           → AtEach stands (λ config store. (next : Store) × ((line_step config store line ≡ Ok (next, auto_line store)) × last config next × Writes (Made config store) (contents old) new))
       done_twice last new steps = λ config store there.
           let w = wants config store there in

@@ -1,11 +1,11 @@
 -- What carrying out the first lines of a text does, whatever follows the text.
 use Rattle.std.specs.Prelude.{◌≡◌, ℕ, ◌+◌, ◌-◌, ◌≤◌, List, [], ◌++◌, take, drop, Option, Some, None, slice_get}
-use Rattle.std.specs.Io.KnownBytes.{Appends}
+use Rattle.heap_text.specs.Streams.{Output, Appends}
 use Rattle.model.specs.declared.kind.Kind.{Kind}
 use Rattle.model.specs.Config.{Config}
-use Rattle.model.specs.Store.{Store}
+use Rattle.model.specs.Store.{Store, empty_store}
 use Rattle.model.specs.Commands.{Run}
-use Rattle.trace_session.specs.Pieces.{finished, pieces}
+use Rattle.trace_session.specs.Pieces.{finished, pieces, whole_lines}
 use Rattle.trace_session.specs.Outcome.{after, outcome_from, outcome_before}
 
 -- from line `number` on at a store, so many lines of the text print out and leave another store and the rest
@@ -13,7 +13,7 @@ pub record Carried (config : Config) (number : ℕ) (store : Store) (text out : 
   pub each : (k : ℕ) (more : List ℕ) → outcome_from config number store (take (lines + k) (pieces (text ++ more))) ≡ after out (outcome_from config (number + lines) store' (take k (pieces (rest ++ more))))
   pub left : (more : List ℕ) → drop lines (pieces (text ++ more)) ≡ pieces (rest ++ more)
 
-pub record CarriesOut (config : Config) (number : ℕ) (store : Store) (text : List ℕ) (number' : ℕ) (store' : Store) (rest : List ℕ) (old new : Option (List ℕ)) : Type 0 where
+pub record CarriesOut (config : Config) (number : ℕ) (store : Store) (text : List ℕ) (number' : ℕ) (store' : Store) (rest : List ℕ) (old new : Output) : Type 0 where
   pub out : List ℕ
   pub lines : ℕ
   pub number_is : number' ≡ number + lines
@@ -21,7 +21,7 @@ pub record CarriesOut (config : Config) (number : ℕ) (store : Store) (text : L
   pub carried : Carried config number store text out lines store' rest
 
 -- the fault is in a line of the text, and the lines before are printed
-pub record StopsAt (config : Config) (number : ℕ) (store : Store) (text : List ℕ) (line : ℕ) (kind : Kind) (old new : Option (List ℕ)) : Type 0 where
+pub record StopsAt (config : Config) (number : ℕ) (store : Store) (text : List ℕ) (line : ℕ) (kind : Kind) (old new : Output) : Type 0 where
   pub out : List ℕ
   pub store' : Store
   pub held : Appends old new out
@@ -33,7 +33,7 @@ Silently P store line written = P store line × (written ≡ [])
 
 -- the lines before a line of the text are printed and have no fault, and then what that line has written; P holds of the store before
 -- the line, of the line and of what it has written
-pub record LeavesBefore (P : Store → List ℕ → List ℕ → Type 0) (config : Config) (number : ℕ) (store : Store) (text : List ℕ) (line : Option ℕ) (old new : Option (List ℕ)) : Type 0 where
+pub record LeavesBefore (P : Store → List ℕ → List ℕ → Type 0) (config : Config) (number : ℕ) (store : Store) (text : List ℕ) (line : Option ℕ) (old new : Output) : Type 0 where
   pub out : List ℕ
   pub lines : ℕ
   pub store' : Store
@@ -45,14 +45,9 @@ pub record LeavesBefore (P : Store → List ℕ → List ℕ → Type 0) (config
   pub there : (more : List ℕ) → slice_get (pieces (text ++ more)) lines ≡ Some (finished refused)
   pub holds : P store' refused written
 
--- what is printed is the output of the lines before some line
-pub record PrintsFront (config : Config) (old new : Option (List ℕ)) (input : List ℕ) : Type 0 where
-  pub line : ℕ
-  pub held : Appends old new (outcome_before config line input).output
-
 -- what is printed is the output of the lines before this line, which have no fault, and what it has written; P holds of the store
 -- before it, of its text and of what it has written
-pub record LeavesOutput (P : Store → List ℕ → List ℕ → Type 0) (config : Config) (line : ℕ) (old new : Option (List ℕ)) (input : List ℕ) : Type 0 where
+pub record LeavesOutput (P : Store → List ℕ → List ℕ → Type 0) (config : Config) (line : ℕ) (old new : Output) (input : List ℕ) : Type 0 where
   pub refused : List ℕ
   pub written : List ℕ
   pub counted : 1 ≤ line
@@ -62,6 +57,10 @@ pub record LeavesOutput (P : Store → List ℕ → List ℕ → Type 0) (config
   pub holds : P (outcome_before config line input).store refused written
 
 -- what is printed is the run's output, and its fault is this one
-pub record Prints (run : Run) (fault : Option (ℕ × Kind)) (old new : Option (List ℕ)) : Type 0 where
+pub record Prints (run : Run) (fault : Option (ℕ × Kind)) (old new : Output) : Type 0 where
   pub fault_is : run.fault ≡ fault
   pub held : Appends old new run.output
+
+-- what is printed is the output of the lines that are whole, which have no fault
+abbrev pub PrintsWholeLines : Config → (old new : Output) → List ℕ → Type 0
+PrintsWholeLines config old new text = Prints (outcome_from config 1 (empty_store config) (whole_lines (pieces text))) None old new

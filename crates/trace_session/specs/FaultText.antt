@@ -56,3 +56,13 @@ place_text (Some line) = codes "line " ++ decimal line ++ codes ": "
 -- the line that tells of a fault
 abbrev pub fault_line : Fault → List ℕ
 fault_line fault = codes "gctrace: " ++ place_text (line_of fault) ++ plain_text fault ++ codes "\n"
+
+-- the status of a program that stops so: 1 where blocks or memory are wanting or cells are unsettled, 2 for a faulty line, 4 for a failed read or write
+abbrev pub status_of : Fault → ℕ
+status_of (faults.BadTrace line kind) = 2
+status_of (faults.BadSchedule line kind) = 2
+status_of (faults.HeapFull line) = 1
+status_of (faults.NoMemory line) = 1
+status_of (faults.Unsettled line) = 1
+status_of faults.ReadFailed = 4
+status_of faults.WriteFailed = 4

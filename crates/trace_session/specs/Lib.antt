@@ -12,7 +12,7 @@ pub mod Stepped
 pub mod Faults
 pub mod Attempts
 pub mod FaultText
-pub mod Reading
+pub mod Lines
 -- What it means that a heap and its named roots stand for a store.
 pub mod Made
 pub mod Stands

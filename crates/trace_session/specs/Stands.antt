@@ -1,5 +1,5 @@
 -- A heap that calls made, with its named roots, stands for a store: the same objects at places of the heap's own.
-use Rattle.std.specs.Prelude.{◌≡◌, ℕ, List, map, length, true, Option, Some, None, IsTrue}
+use Rattle.std.specs.Prelude.{◌≡◌, ℕ, List, map, length, true, Some, None, IsTrue}
 use Rattle.std.specs.Option.{option_map}
 use Rattle.std.specs.Ordering.{nat_cmp}
 use Rattle.std.specs.Cmp.Lexicographic.{slice_cmp}

@@ -1,6 +1,6 @@
 -- What code that holds a state does, at each store for which that state stands.
-use Rattle.std.specs.Prelude.{◌≡◌, ℕ, List, [], Option, Ok}
-use Rattle.std.specs.Io.KnownBytes.{Appends}
+use Rattle.std.specs.Prelude.{◌≡◌, ℕ, List, [], Ok}
+use Rattle.heap_text.specs.Streams.{Output, Appends}
 use Rattle.model.specs.Config.{Config}
 use Rattle.model.specs.Store.{Store}
 use Rattle.model.specs.Commands.{Outcome as Stepped}
@@ -11,7 +11,7 @@ abbrev pub AtEach : (Config → Store → Type 0) → (Config → Store → Type
 AtEach stands holds = (config : Config) (store : Store) → stands config store → holds config store
 
 -- the step was carried out and printed, and the next store passes the test
-pub record StepsTo (stands : Config → Store → Type 0) (config : Config) (step : Stepped) (old new : Option (List ℕ)) : Type 0 where
+pub record StepsTo (stands : Config → Store → Type 0) (config : Config) (step : Stepped) (old new : Output) : Type 0 where
   pub next : Store
   pub out : List ℕ
   pub steps : step ≡ Ok (next, out)
@@ -25,13 +25,13 @@ pub record StepsQuietly (stands : Config → Store → Type 0) (config : Config)
   pub stands' : stands config next
 
 -- something was written, and P holds of it
-pub record Writes (P : List ℕ → Type 0) (old new : Option (List ℕ)) : Type 0 where
+pub record Writes (P : List ℕ → Type 0) (old new : Output) : Type 0 where
   pub written : List ℕ
   pub held : Appends old new written
   pub holds : P written
 
 -- the lines before the rest were carried out and printed, and the store then passes the test
-pub record CarriesOutTo (stands : Config → Store → Type 0) (config : Config) (number : ℕ) (store : Store) (text : List ℕ) (number' : ℕ) (rest : List ℕ) (old new : Option (List ℕ)) : Type 0 where
+pub record CarriesOutTo (stands : Config → Store → Type 0) (config : Config) (number : ℕ) (store : Store) (text : List ℕ) (number' : ℕ) (rest : List ℕ) (old new : Output) : Type 0 where
   pub next : Store
   pub stands' : stands config next
   pub carries : CarriesOut config number store text number' next rest old new

@@ -9,5 +9,5 @@ mod trace_prints;
 mod trace_step;
 
 pub use session::Session;
-pub use trace_lines::{Attempt, Fault, read_all, split_line, write_fault};
+pub use trace_lines::{Attempt, Fault, Lines, MOST_PIECE, Next, write_fault};
 pub use trace_step::{attempt_line, carry_out, carry_out_apart, collected};

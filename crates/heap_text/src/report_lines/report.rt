@@ -1,7 +1,7 @@
 //! A report as text.
 ghost use Rattle.std.specs.Prelude.{◌≡◌, ◌+◌, ◌-◌, ◌^◌, ◌<◌, ◌++◌, OnOk, OnErr, IfOk, string_bytes};
 ghost use Rattle.std.specs.List.{flat_map, enumerate_from};
-ghost use Rattle.std.specs.Io.KnownBytes.{Appends};
+ghost use Rattle.heap_text.specs.Streams.{Appends};
 ghost use Rattle.heap_text.specs.ReportText.{worker_line, delivery_line, workers_text};
 ghost use Rattle.heap_text.specs.CollectionLine.{cause_word};
 ghost use Rattle.model.specs.Text.{collection_line};
@@ -87,7 +87,7 @@ pub fn write_report<W: Sink>(
     writer: &mut W,
 ) -> Result<(), WriteFailed>
     requires { W.failed_writes writer.old < 2 ^ 64 - 1 }
-    ensures bytes { OnOk result (Appends (W.contents writer.old) (W.contents writer.new) (collection_line (cause_word cause) generation kept freed ++ workers.now)) }
+    ensures bytes { OnOk result (Appends (W.output writer.old) (W.output writer.new) (collection_line (cause_word cause) generation kept freed ++ workers.now)) }
     ensures ok { OnOk result (W.failed_writes writer.new ≡ W.failed_writes writer.old) }
     ensures failed { OnErr result (W.failed_writes writer.new ≡ W.failed_writes writer.old + 1) }
 {

@@ -1,8 +1,10 @@
 //! The words of a command line.
 ghost use Rattle.std.specs.Prelude.{◌≡◌, ◌↔◌, IfSome, Some, codes};
+ghost use Rattle.clap.specs.Matches.{found_of, first_value};
 ghost use Rattle.clap.specs.Values.{kind_of};
 ghost use Rattle.collector.specs.declared.apart.CellKind.TheVariants.{Box, Word};
 ghost use Rattle.trace_driver.specs.Refusals.{IsToldOf};
+ghost use Rattle.trace_driver.specs.Words.{AreCellsOf, HasNumber, HasSizes};
 ghost use Rattle.trace_driver.specs.declared.command_line.words.Task.TheVariants.{Run, Replay};
 
 use clap::error::ErrorKind;
@@ -188,7 +190,9 @@ fn cells_of(name: &str) -> Option<CellKind>
 }
 
 /// The sizes of the heap, in no particular range.
-fn sizes_of(matches: &ArgMatches<'_>) -> Option<Sizes> {
+fn sizes_of(matches: &ArgMatches<'_>) -> Option<Sizes>
+    ensures { IfSome result (HasSizes (found_of matches.now)) }
+{
     Some(Sizes {
         block_words: matches.get_one::<u64>("block-words")?,
         blocks: matches.get_one::<u64>("blocks")?,
@@ -199,9 +203,13 @@ fn sizes_of(matches: &ArgMatches<'_>) -> Option<Sizes> {
     })
 }
 
+/// The options of the subcommand of this name.
 fn options_of(name: &str, matches: &ArgMatches<'_>) -> Option<Options>
     ensures run { IfSome result (λ options. (options.task ≡ Run) ↔ (name.now ≡ codes "run")) }
     ensures replay { IfSome result (λ options. (options.task ≡ Replay) ↔ (name.now ≡ codes "replay")) }
+    ensures cells { IfSome result (λ options. AreCellsOf (first_value (found_of matches.now) (codes "cells")) options.cells) }
+    ensures threads { IfSome result (λ options. HasNumber (found_of matches.now) (codes "threads") options.threads) }
+    ensures sizes { IfSome result (λ options. HasSizes (found_of matches.now) options.sizes) }
 {
     Some(Options {
         task: task_of(name)?,

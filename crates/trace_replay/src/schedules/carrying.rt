@@ -1,53 +1,72 @@
 //! The lines of a schedule, one after another.
-ghost use Rattle.std.specs.Prelude.{◌≡◌, ◌+◌, ◌^◌, ◌<◌, ◌≤◌, length, MatchOption, IfOk, OnOk, IfErr};
+ghost use Rattle.std.specs.Prelude.{◌≡◌, ◌+◌, ◌-◌, ◌^◌, ◌<◌, ◌≤◌, ◌⊎◌, MatchOption, IfOk, OnOk, IfErr};
+ghost use Rattle.heap_text.specs.Streams.{OfGiven, OfInput};
 ghost use Rattle.trace_session.specs.Faults.{MatchEachFault};
+ghost use Rattle.trace_session.specs.Lines.{IsOutOfReads, Moves, most_left};
 ghost use Rattle.machine.specs.MachineValue.{setting_in};
 ghost use Rattle.machine.specs.Events.{IsSameCollection, IsShortOfBlocks};
 ghost use Rattle.trace_replay.specs.Runs.{IsSchedule};
-ghost use Rattle.trace_replay.specs.Stops.{IsRefusedBlocks, IsSoundLine, IsUnreadable, OfLine, StopsAt, StopsWith};
+ghost use Rattle.trace_replay.specs.Stops.{IsRefusedBlocks, IsSoundLine, IsUnreadable, IsUsedUp, OfLine, StopsAt, StopsWith};
 
 use crate::schedules::lines::{Progress, carry_out_line};
+use heap_text::{ReadFailed, Source};
 use machine::Machine;
 use model::Kind;
 use std::alloc::Allocator;
-use trace_session::{Fault, split_line};
-use trace_text::{MAX_LINE_LEN, ScheduleKind};
+use trace_session::{Fault, Lines, Next};
+use trace_text::ScheduleKind;
 
-/// Carries out the schedule that follows the `collect` of line `start`, and gives the number of its last line, which is
-/// `commit`, and what comes after that.
-pub fn carry_out_schedule<'t, A: Allocator + Clone>(
+/// Reads and carries out the schedule that follows the `collect` of line `start`, and gives the number of its last
+/// line, which is `commit`. What comes after that is left to `lines` and `reader`.
+pub fn carry_out_schedule<A: Allocator + Clone, S: Source>(
     machine: &mut Machine<'_, A>,
     start: u128,
-    text: &'t [u8],
-) -> Result<(u128, &'t [u8]), Fault>
-    requires room { start + 1 + length text.now < 2 ^ 127 }
-    ensures ok { IfOk result (λ found. IsSchedule (setting_in machine.old) machine.old.system (start + 1) text.now found.0 found.1.now machine.new.system) }
-    ensures left { IfOk result (λ found. found.0 + length found.1.now ≤ start + length text.now) }
+    lines: &mut Lines<A>,
+    reader: &mut S,
+) -> Result<u128, Fault>
+    requires room { start + 1 + most_left lines.old < 2 ^ 127 }
+    requires readable { S.failed_reads reader.old < 2 ^ 64 - 1 }
+    ensures ok { IfOk result (λ commit.
+        Moves lines.old lines.new (S.input reader.old) (S.input reader.new) (λ text rest.
+        IsSchedule (setting_in machine.old) machine.old.system (start + 1) text commit rest machine.new.system)) }
+    ensures left { IfOk result (λ commit. commit + most_left lines.new ≤ start + most_left lines.old) }
     ensures same { OnOk result (IsSameCollection machine.old machine.new) }
+    ensures reads { OnOk result (S.failed_reads reader.new ≡ S.failed_reads reader.old) }
+    ensures read_rises { S.failed_reads reader.new ≤ S.failed_reads reader.old + 1 }
     ensures err { IfErr result (λ e. MatchEachFault e
-        (λ at kind. StopsAt (IsUnreadable kind) (setting_in machine.old) machine.old.system (start + 1) text.now at)
-        (λ at kind. StopsWith (setting_in machine.old) machine.old.system start text.now at kind)
-        (λ at. MatchOption at ⊥ (λ line. StopsAt (OfLine (IsRefusedBlocks (setting_in machine.old))) (setting_in machine.old) machine.old.system (start + 1) text.now line
+        (λ at kind. OfInput lines.old.pending (S.input reader.old) (S.input reader.new) (λ text.
+        StopsAt (IsUnreadable kind) (setting_in machine.old) machine.old.system (start + 1) text at))
+        (λ at kind. OfInput lines.old.pending (S.input reader.old) (S.input reader.new) (λ text.
+        StopsWith (setting_in machine.old) machine.old.system start text at kind))
+        (λ at. MatchOption at ⊥ (λ line. OfInput lines.old.pending (S.input reader.old) (S.input reader.new) (λ text.
+        StopsAt (OfLine (IsRefusedBlocks (setting_in machine.old)))
+        (setting_in machine.old) machine.old.system (start + 1) text line)
         × IsShortOfBlocks machine.old.heap machine.old.collection.generation machine.old.workers))
-        (λ at. MatchOption at ⊥ (λ line. StopsAt (OfLine (IsSoundLine (setting_in machine.old))) (setting_in machine.old) machine.old.system (start + 1) text.now line))
-        ⊥ ⊥) }
+        (λ at. MatchOption at ⊥ (λ line. OfInput lines.old.pending (S.input reader.old) (S.input reader.new) (λ text.
+        StopsAt (OfLine (IsSoundLine (setting_in machine.old)))
+        (setting_in machine.old) machine.old.system (start + 1) text line)))
+        (OfGiven lines.old.pending (S.input reader.old) (S.input reader.new)
+        (IsUsedUp (setting_in machine.old) machine.old.system)
+        × ((S.failed_reads reader.new ≡ S.failed_reads reader.old + 1)
+        ⊎ IsOutOfReads lines.old.reads (S.input reader.old) (S.input reader.new)))
+        ⊥) }
 {
     let mut next = start + 1;
-    let mut rest = text;
-    while let Some((line, after)) = split_line(rest) {
-        match carry_out_line(machine, next, line) {
+    loop {
+        match lines.advance(reader) {
+            Ok(Next::Line) => {}
+            Ok(Next::TooLong) => return Err(Fault::BadTrace(next, Kind::LineTooLong)),
+            Ok(Next::Unfinished) => return Err(Fault::BadTrace(next, Kind::UnfinishedLine)),
+            Ok(Next::End) => {
+                return Err(Fault::BadSchedule(start, ScheduleKind::UnfinishedSchedule));
+            }
+            Err(ReadFailed) => return Err(Fault::ReadFailed),
+        }
+        match carry_out_line(machine, next, lines.line()) {
             Ok(Progress::GoesOn) => {}
-            Ok(Progress::Ends) => return Ok((next, after)),
+            Ok(Progress::Ends) => return Ok(next),
             Err(fault) => return Err(fault),
         }
         next += 1;
-        rest = after;
-    }
-    if rest.is_empty() {
-        Err(Fault::BadSchedule(start, ScheduleKind::UnfinishedSchedule))
-    } else if rest.len() > MAX_LINE_LEN {
-        Err(Fault::BadTrace(next, Kind::LineTooLong))
-    } else {
-        Err(Fault::BadTrace(next, Kind::UnfinishedLine))
     }
 }

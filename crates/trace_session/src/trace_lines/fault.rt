@@ -1,8 +1,7 @@
 //! Why a run stopped.
 ghost use Rattle.std.specs.Prelude.{◌≡◌, ◌+◌, ◌-◌, ◌^◌, ◌<◌, OnOk, OnErr};
-ghost use Rattle.std.specs.Io.KnownBytes.{Appends};
-ghost use Rattle.trace_session.specs.FaultText.{kind_text, schedule_kind_text, line_of, plain_text, place_text, fault_line};
-ghost use Rattle.trace_session.specs.Faults.{MatchAnyFault};
+ghost use Rattle.heap_text.specs.Streams.{Appends, AppendsFront};
+ghost use Rattle.trace_session.specs.FaultText.{kind_text, schedule_kind_text, line_of, plain_text, place_text, fault_line, status_of};
 
 use heap_text::{Sink, WriteFailed, write_all};
 use itoa::Buffer;
@@ -85,7 +84,7 @@ impl Fault {
     /// The exit status of a program that stopped so: 1 for want of blocks or memory or for unsettled cells, 2 for a faulty
     /// trace or schedule, 4 for a failed read or write.
     pub fn status(&self) -> u8
-        ensures { MatchAnyFault self.now (λ _ _. result ≡ 2) (λ _ _. result ≡ 2) (λ _. result ≡ 1) (λ _. result ≡ 1) (λ _. result ≡ 1) (result ≡ 4) (result ≡ 4) }
+        ensures { result ≡ status_of self.now }
     {
         match self {
             Fault::BadTrace(_, _) | Fault::BadSchedule(_, _) => 2,
@@ -124,7 +123,8 @@ impl Fault {
 /// Writes `line L: `, or nothing.
 fn write_place<E: Sink>(line: Option<u128>, errors: &mut E) -> Result<(), WriteFailed>
     requires { E.failed_writes errors.old < 2 ^ 64 - 1 }
-    ensures bytes { OnOk result (Appends (E.contents errors.old) (E.contents errors.new) (place_text line)) }
+    ensures bytes { OnOk result (Appends (E.output errors.old) (E.output errors.new) (place_text line)) }
+    ensures front { OnErr result (AppendsFront (E.output errors.old) (E.output errors.new) (place_text line)) }
     ensures ok { OnOk result (E.failed_writes errors.new ≡ E.failed_writes errors.old) }
     ensures err { OnErr result (E.failed_writes errors.new ≡ E.failed_writes errors.old + 1) }
 {
@@ -137,10 +137,12 @@ fn write_place<E: Sink>(line: Option<u128>, errors: &mut E) -> Result<(), WriteF
     write_all(errors, b": ")
 }
 
-/// Writes the line that tells of a fault. It allocates nothing, so that it can tell of want of memory.
+/// Writes the line that tells of a fault, or where a write fails a front of it. It allocates nothing, so that it can tell of
+/// want of memory.
 pub fn write_fault<E: Sink>(fault: &Fault, errors: &mut E) -> Result<(), WriteFailed>
     requires { E.failed_writes errors.old < 2 ^ 64 - 1 }
-    ensures bytes { OnOk result (Appends (E.contents errors.old) (E.contents errors.new) (fault_line fault.now)) }
+    ensures bytes { OnOk result (Appends (E.output errors.old) (E.output errors.new) (fault_line fault.now)) }
+    ensures front { OnErr result (AppendsFront (E.output errors.old) (E.output errors.new) (fault_line fault.now)) }
     ensures ok { OnOk result (E.failed_writes errors.new ≡ E.failed_writes errors.old) }
     ensures err { OnErr result (E.failed_writes errors.new ≡ E.failed_writes errors.old + 1) }
 {

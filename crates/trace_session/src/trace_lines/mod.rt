@@ -2,9 +2,7 @@
 mod attempt;
 mod fault;
 mod lines;
-mod reading;
 
 pub use attempt::Attempt;
 pub use fault::{Fault, write_fault};
-pub use lines::split_line;
-pub use reading::read_all;
+pub use lines::{Lines, MOST_PIECE, Next};

@@ -1,6 +1,6 @@
 //! Collections by workers on threads of their own, and what they print.
 ghost use Rattle.std.specs.Prelude.{◌≡◌, ◌+◌, ◌-◌, ◌^◌, ◌<◌, ◌≤◌, Some, Err, OnOk, IfErr};
-ghost use Rattle.std.specs.Io.KnownBytes.{Appends};
+ghost use Rattle.heap_text.specs.Streams.{Appends};
 ghost use Rattle.model.specs.Store.{collected};
 ghost use Rattle.model.specs.Commands.{Collect};
 ghost use Rattle.collector.specs.declared.apart.CellKind.TheVariants.{Box};
@@ -39,7 +39,7 @@ pub fn collect_apart<
 ) -> Result<(), Fault>
     requires { W.failed_writes writer.old < 2 ^ 64 - 1 }
     ensures ok { OnOk result (AtEach (Stands session.old)
-        (λ config store. StepsTo (Stands session.new) config (command_step config store (Collect generation)) (W.contents writer.old) (W.contents writer.new))) }
+        (λ config store. StepsTo (Stands session.new) config (command_step config store (Collect generation)) (W.output writer.old) (W.output writer.new))) }
     ensures counts { OnOk result (W.failed_writes writer.new ≡ W.failed_writes writer.old) }
     ensures rises { W.failed_writes writer.new ≤ W.failed_writes writer.old + 1 }
     ensures err { IfErr result (λ e. MatchFaultApart e
@@ -86,7 +86,7 @@ pub fn make_room_apart<
 ) -> Result<(), Fault>
     requires { W.failed_writes writer.old < 2 ^ 64 - 1 }
     ensures ok { OnOk result (AtEach (Stands session.old)
-        (λ config store. Stands session.new config (collected config 0 store) × Appends (W.contents writer.old) (W.contents writer.new) (auto_line store))) }
+        (λ config store. Stands session.new config (collected config 0 store) × Appends (W.output writer.old) (W.output writer.new) (auto_line store))) }
     ensures counts { OnOk result (W.failed_writes writer.new ≡ W.failed_writes writer.old) }
     ensures rises { W.failed_writes writer.new ≤ W.failed_writes writer.old + 1 }
     ensures err { IfErr result (λ e. MatchFaultApart e (λ _ _. ⊥)

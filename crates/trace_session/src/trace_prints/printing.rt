@@ -1,6 +1,6 @@
 //! The commands that print.
 ghost use Rattle.std.specs.Prelude.{◌≡◌, ◌+◌, ◌-◌, ◌^◌, ◌<◌, ◌≤◌, Some, Err, OnOk, IfErr, is_some};
-ghost use Rattle.std.specs.Io.KnownBytes.{Appends};
+ghost use Rattle.heap_text.specs.Streams.{Appends};
 ghost use Rattle.std.specs.List.{list_all};
 ghost use Rattle.settling.specs.Collects.{IsShortOfBlocks};
 ghost use Rattle.model.specs.Graph.{root_at};
@@ -43,7 +43,7 @@ pub fn census<A: Allocator + Clone, W: Sink>(
 ) -> Result<(), Fault>
     requires { W.failed_writes writer.old < 2 ^ 64 - 1 }
     ensures ok { OnOk result (AtEach (Stands session.old)
-        (λ config store. StepsTo (Stands session.new) config (command_step config store Census) (W.contents writer.old) (W.contents writer.new))) }
+        (λ config store. StepsTo (Stands session.new) config (command_step config store Census) (W.output writer.old) (W.output writer.new))) }
     ensures counts { OnOk result (W.failed_writes writer.new ≡ W.failed_writes writer.old) }
     ensures rises { W.failed_writes writer.new ≤ W.failed_writes writer.old + 1 }
     ensures err { IfErr result (λ e. MatchFault e (λ _ _. ⊥) (λ _. ⊥)
@@ -71,7 +71,7 @@ pub fn collect<A: Allocator + Clone, W: Sink>(
 ) -> Result<(), Fault>
     requires { W.failed_writes writer.old < 2 ^ 64 - 1 }
     ensures ok { OnOk result (AtEach (Stands session.old)
-        (λ config store. StepsTo (Stands session.new) config (command_step config store (Collect generation)) (W.contents writer.old) (W.contents writer.new))) }
+        (λ config store. StepsTo (Stands session.new) config (command_step config store (Collect generation)) (W.output writer.old) (W.output writer.new))) }
     ensures counts { OnOk result (W.failed_writes writer.new ≡ W.failed_writes writer.old) }
     ensures rises { W.failed_writes writer.new ≤ W.failed_writes writer.old + 1 }
     ensures err { IfErr result (λ e. MatchFault e
@@ -109,7 +109,7 @@ pub fn make_room<A: Allocator + Clone, W: Sink>(
 ) -> Result<(), Fault>
     requires { W.failed_writes writer.old < 2 ^ 64 - 1 }
     ensures ok { OnOk result (AtEach (Stands session.old)
-        (λ config store. Stands session.new config (collected config 0 store) × Appends (W.contents writer.old) (W.contents writer.new) (auto_line store))) }
+        (λ config store. Stands session.new config (collected config 0 store) × Appends (W.output writer.old) (W.output writer.new) (auto_line store))) }
     ensures counts { OnOk result (W.failed_writes writer.new ≡ W.failed_writes writer.old) }
     ensures rises { W.failed_writes writer.new ≤ W.failed_writes writer.old + 1 }
     ensures err { IfErr result (λ e. MatchFault e (λ _ _. ⊥)
@@ -149,7 +149,7 @@ pub fn show_heap<A: Allocator + Clone, W: Sink>(
 ) -> Result<(), Fault>
     requires { W.failed_writes writer.old < 2 ^ 64 - 1 }
     ensures ok { OnOk result (AtEach (Stands session.old)
-        (λ config store. StepsTo (Stands session.new) config (command_step config store meant.Heap) (W.contents writer.old) (W.contents writer.new))) }
+        (λ config store. StepsTo (Stands session.new) config (command_step config store meant.Heap) (W.output writer.old) (W.output writer.new))) }
     ensures counts { OnOk result (W.failed_writes writer.new ≡ W.failed_writes writer.old) }
     ensures rises { W.failed_writes writer.new ≤ W.failed_writes writer.old + 1 }
     ensures err { IfErr result (λ e. MatchFault e

@@ -29,7 +29,7 @@ fn carry_out_command<A: Allocator + Clone, W: Sink>(
     requires old { MakesNone (command_of command) }
     requires countable { W.failed_writes writer.old < 2 ^ 64 - 1 }
     ensures ok { OnOk result (AtEach (Stands session.old)
-        (λ config store. StepsTo (Stands session.new) config (command_step config store (command_of command.entry)) (W.contents writer.old) (W.contents writer.new))) }
+        (λ config store. StepsTo (Stands session.new) config (command_step config store (command_of command.entry)) (W.output writer.old) (W.output writer.new))) }
     ensures counts { OnOk result (W.failed_writes writer.new ≡ W.failed_writes writer.old) }
     ensures rises { W.failed_writes writer.new ≤ W.failed_writes writer.old + 1 }
     ensures err { IfErr result (λ e. MatchFault e
@@ -69,7 +69,7 @@ pub fn attempt_line<A: Allocator + Clone, W: Sink>(
 ) -> Result<Attempt, Fault>
     requires { W.failed_writes writer.old < 2 ^ 64 - 1 }
     ensures ok { IfOk result (λ attempt. AtEach (Stands session.old) (λ config store. MatchAttempt attempt
-        (StepsTo (Stands session.new) config (line_step config store line.now) (W.contents writer.old) (W.contents writer.new) × ¬ LineCollectsFirst config store line.now)
+        (StepsTo (Stands session.new) config (line_step config store line.now) (W.output writer.old) (W.output writer.new) × ¬ LineCollectsFirst config store line.now)
         (IsSoundTraceLine config store line.now × LineCollectsFirst config store line.now))) }
     ensures full { result ≡ Ok Attempt.NurseryFull → (session.new ≡ session.old) × (writer.new ≡ writer.old) }
     ensures counts { OnOk result (W.failed_writes writer.new ≡ W.failed_writes writer.old) }

@@ -1,25 +1,48 @@
-use Rattle.std.proofs.Common.{refl, arith, length, length-append, ap, ◌∙◌}
-use Rattle.trace_session.proofs.CarriedLemmas.{CarriesOut-none, line_joins, fault_of_line}
-use Rattle.trace_replay.specs.Refusals.{MayBeFull}
+use Rattle.std.proofs.Common.{refl, arith, ap, ◌+◌, ◌∙◌}
+use Rattle.trace_session.specs.declared.trace_lines.lines.Next.TheVariants.{Line, TooLong, Unfinished, End}
+use Rattle.trace_session.proofs.LineLemmas.{Moves-nil, Moves-map}
+use Rattle.trace_driver.proofs.LineByLine.{carried_none, found_is, goes_on, is_done, is_unfinished, is_too_long, is_cut_off, line_stops, not_unsettled}
 use Rattle.trace_driver.proofs.running.carry_out_lines.Goals as goal
 
-pub loop-line-init : goal.loop-line-init
-loop-line-init g c = record {
-  carries = λ config store stands. record { next = store; stands' = stands; carries = CarriesOut-none config _ store _ _ };
+pub loop-session-init : goal.loop-session-init
+loop-session-init g c = record {
+  moves = Moves-map _ _ _ _ (λ text rest same. carried_none _ _ text rest same) (Moves-nil _ _);
   room = omega arith;
+  reads = refl;
   writes = refl;
 }
 
+pub returns-in-Ok-TooLong-clause-err : goal.returns-in-Ok-TooLong-clause-err
+returns-in-Ok-TooLong-clause-err g c =
+    let found = found_is _ TooLong c.loop-session.lines c.advance.new.self _ _ c.in-Ok-TooLong.field-0-is c.in-Ok-TooLong.ensures.ok in
+    is_too_long _ _ _ _ _ _ _ _ _ _ _ c.loop-session.invariant.moves found.0 found.1
+
+pub returns-in-Ok-Unfinished-clause-err : goal.returns-in-Ok-Unfinished-clause-err
+returns-in-Ok-Unfinished-clause-err g c =
+    let found = found_is _ Unfinished c.loop-session.lines c.advance.new.self _ _ c.in-Ok-Unfinished.field-0-is c.in-Ok-Unfinished.ensures.ok in
+    is_unfinished _ _ _ _ _ _ _ _ _ _ _ c.loop-session.invariant.moves found.0 found.1.0 found.1.1 found.2
+
+pub returns-in-Ok-End-clause-ok : goal.returns-in-Ok-End-clause-ok
+returns-in-Ok-End-clause-ok g c =
+    let found = found_is _ End c.loop-session.lines c.advance.new.self _ _ c.in-Ok-End.field-0-is c.in-Ok-End.ensures.ok in
+    is_done _ _ _ _ _ _ _ _ _ _ _ c.loop-session.invariant.moves found.0 found.1 found.2
+
 pub returns-in-Err-clause-err : goal.returns-in-Err-clause-err
 returns-in-Err-clause-err g c =
-    fault_of_line _ _ _ _ _ _ _ _ c.loop-line.invariant.carries _ _ c.in-Some.ensures.some c.in-Some.ensures.first (MayBeFull 1) g.W.Sink.contents _ _ _ c.in-Err.fault refl
-    (rw (← c.loop-line.invariant.writes) c.in-Err.ensures.err)
+    is_cut_off _ _ _ _ _ _ _ _ _ _ _ c.loop-session.invariant.moves _ _ _ (λ is. is ∙ ap (λ n. n + 1) c.loop-session.invariant.reads) c.in-Err.ensures.waits c.in-Err.ensures.err
 
-pub loop-line-preserved : goal.loop-line-preserved
-loop-line-preserved g c =
-    let is = c.in-Some.ensures.some in
+pub returns-in-Err-carry_out-clause-err : goal.returns-in-Err-carry_out-clause-err
+returns-in-Err-carry_out-clause-err g c =
+    let found = found_is _ Line c.loop-session.lines c.advance.new.self _ _ c.in-Ok-Line.field-0-is c.in-Ok-Line.ensures.ok in
+    line_stops _ _ _ _ _ _ _ _ _ _ _ c.loop-session.invariant.moves _ c.line.ensures 1 ⊥ g.W.Sink.output c.loop-session.writer c.carry_out.new.writer _ _ _ refl
+    (λ is. is ∙ ap (λ n. n + 1) c.loop-session.invariant.writes) found c.in-Err-carry_out.fault (not_unsettled _ _ _ _ _ _ c.in-Err-carry_out.fault c.in-Err-carry_out.ensures.err)
+
+pub loop-session-preserved : goal.loop-session-preserved
+loop-session-preserved g c =
+    let found = found_is _ Line c.loop-session.lines c.advance.new.self _ _ c.in-Ok-Line.field-0-is c.in-Ok-Line.ensures.ok in
     record {
-      carries = line_joins _ _ _ _ _ _ _ _ c.loop-line.invariant.carries _ _ is c.in-Some.ensures.first _ _ c.in-Ok.ensures.ok;
-      room = omega (arith, c.loop-line.invariant.room, ap length is, length-append c.in-Some.line.now);
-      writes = c.in-Ok.ensures.counts ∙ c.loop-line.invariant.writes;
+      moves = goes_on _ _ _ _ _ _ _ _ _ _ _ c.loop-session.invariant.moves _ c.line.ensures _ _ found c.in-Ok.ensures.ok;
+      room = omega (arith, c.loop-session.invariant.room, found.less);
+      reads = c.in-Ok-Line.ensures.counts ∙ c.loop-session.invariant.reads;
+      writes = c.in-Ok.ensures.counts ∙ c.loop-session.invariant.writes;
     }

@@ -1,24 +1,13 @@
-use Rattle.std.proofs.Common.{◌≡◌, subst, sym}
-use Rattle.std.specs.Prelude.{IfSome}
+use Rattle.std.proofs.Common.{subst}
 use Rattle.model.specs.Store.{empty_store}
-use Rattle.trace_replay.specs.Refusals.{MayBeFull}
 use Rattle.trace_replay.specs.Session.{Stands}
-use Rattle.trace_session.proofs.FaultLemmas.{run_faults}
-use Rattle.trace_driver.proofs.Done.{run_done}
+use Rattle.trace_driver.proofs.WholeRun.{run_done, run_stopped}
 use Rattle.trace_driver.proofs.running.run_one.Goals as goal
-
-pub returns-clause-err : goal.returns-clause-err
-returns-clause-err g c =
-    run_faults (MayBeFull 1) (Stands c.in-Ok-new.session) c.args.config.config
-    (subst (λ k. Stands c.in-Ok-new.session k (empty_store k)) c.config.ensures c.in-Ok-new.ensures.ok)
-    (g.S.Source.remaining c.args.reader.now) c.as_slice.result.now
-    (subst (λ xs. IfSome (g.S.Source.remaining c.args.reader.now) (λ input. xs ≡ input)) (sym c.as_slice.ensures.value) c.in-Ok-read_all.ensures.whole)
-    _ _ _ _ _ _ c.carry_out_text.result c.carry_out_text.ensures.err
 
 pub returns-clause-ok : goal.returns-clause-ok
 returns-clause-ok g c =
-    run_done (Stands c.in-Ok-new.session) c.args.config.config
-    (subst (λ k. Stands c.in-Ok-new.session k (empty_store k)) c.config.ensures c.in-Ok-new.ensures.ok)
-    (g.S.Source.remaining c.args.reader.now) c.as_slice.result.now
-    (subst (λ xs. IfSome (g.S.Source.remaining c.args.reader.now) (λ input. xs ≡ input)) (sym c.as_slice.ensures.value) c.in-Ok-read_all.ensures.whole)
-    _ _ c.carry_out_text.result c.carry_out_text.ensures.ok
+    run_done (Stands c.in-Ok-new.session) c.args.config.config (subst (λ k. Stands c.in-Ok-new.session k (empty_store k)) c.config.ensures c.in-Ok-new.ensures.ok) _ _ _ _ _ _ c.in-Ok-new-2.ensures c.carry_out_lines.result c.carry_out_lines.ensures.ok
+
+pub returns-clause-err : goal.returns-clause-err
+returns-clause-err g c =
+    run_stopped (Stands c.in-Ok-new.session) c.args.config.config (subst (λ k. Stands c.in-Ok-new.session k (empty_store k)) c.config.ensures c.in-Ok-new.ensures.ok) _ _ _ _ _ _ c.in-Ok-new-2.ensures _ _ _ _ _ c.carry_out_lines.result c.carry_out_lines.ensures.err

@@ -1,5 +1,5 @@
 use Rattle.std.proofs.Common.{◌++◌, ap, subst, ◌∙◌, arith}
-use Rattle.std.specs.Io.KnownBytes.{Appends}
+use Rattle.heap_text.specs.Streams.{Appends}
 use Rattle.model.specs.Text.{collection_line}
 use Rattle.heap_text.specs.ReportText.{workers_text}
 use Rattle.heap_text.specs.CollectionLine.{cause_word}
@@ -15,4 +15,4 @@ returns-in-Ok-write_report-clause-ok g c = λ config store stands.
     let report = c.in-Ok-commit.report in
     room_made _ _ _ _ _ _ _ c.in-Ok-settled_by_itself.ensures.ok report.kept report.freed c.commit.new.self c.in-Ok-commit.ensures.ok c.in-Ok-commit.ensures.kept c.in-Ok-commit.ensures.won c.in-Ok-commit.ensures.freed
     _ config store stands _ _
-    (subst (λ lines. Appends (g.W.Sink.contents c.args.writer.now) (g.W.Sink.contents c.write_report.new.writer) (collection_line (cause_word FullNursery) 0 report.kept report.freed ++ lines)) (c.as_str.ensures.value ∙ c.in-Ok-workers_text.ensures ∙ ap (λ ws. workers_text ws c.as_slice-taken.result.now) c.as_slice-won.ensures.value ∙ ap (λ ds. workers_text c.in-Ok-settled_by_itself.settled.workers.items ds) c.as_slice-taken.ensures.value) c.in-Ok-write_report.ensures.bytes)
+    (subst (λ lines. Appends (g.W.Sink.output c.args.writer.now) (g.W.Sink.output c.write_report.new.writer) (collection_line (cause_word FullNursery) 0 report.kept report.freed ++ lines)) (c.as_str.ensures.value ∙ c.in-Ok-workers_text.ensures ∙ ap (λ ws. workers_text ws c.as_slice-taken.result.now) c.as_slice-won.ensures.value ∙ ap (λ ds. workers_text c.in-Ok-settled_by_itself.settled.workers.items ds) c.as_slice-taken.ensures.value) c.in-Ok-write_report.ensures.bytes)

@@ -15,13 +15,13 @@ returns-in-Ok-Done-clause-ok g c = λ config store stands.
 
 pub returns-in-Err-clause-err : goal.returns-in-Err-clause-err
 returns-in-Err-clause-err g c =
-    first_fault (Stands c.args.session.now) c.args.number c.args.line.now (λ config store. WantsRoom config c.args.workers (state_of c.args.session.now store) c.args.line.now) (λ config store. HasMadeRoom c.args.workers (state_of c.args.session.now store)) g.W.Sink.contents c.args.writer.now
+    first_fault (Stands c.args.session.now) c.args.number c.args.line.now (λ config store. WantsRoom config c.args.workers (state_of c.args.session.now store) c.args.line.now) (λ config store. HasMadeRoom c.args.workers (state_of c.args.session.now store)) g.W.Sink.output c.args.writer.now
     (λ config store may not lacks. for_large may.sound c.requires.plain lacks) c.attempt_line.new.writer _ c.in-Err.fault c.in-Err.ensures.err
 
 pub returns-in-Err-make_room-clause-err : goal.returns-in-Err-make_room-clause-err
 returns-in-Err-make_room-clause-err g c =
     let same = c.in-Ok-NurseryFull.ensures.full (ap (λ a. Ok a) c.in-Ok-NurseryFull.field-0-is) in
-    room_fault (Stands c.args.session.now) c.args.number c.args.line.now (λ config store. WantsRoom config c.args.workers (state_of c.args.session.now store) c.args.line.now) (λ config store. HasMadeRoom c.args.workers (state_of c.args.session.now store)) g.W.Sink.contents c.args.writer.now
+    room_fault (Stands c.args.session.now) c.args.number c.args.line.now (λ config store. WantsRoom config c.args.workers (state_of c.args.session.now store) c.args.line.now) (λ config store. HasMadeRoom c.args.workers (state_of c.args.session.now store)) g.W.Sink.output c.args.writer.now
     (λ config store there. told _ _ c.in-Ok-NurseryFull.field-0 NurseryFull c.in-Ok-NurseryFull.field-0-is (c.in-Ok-NurseryFull.ensures.ok config store there)) c.attempt_line.new.writer same.1
     (IsShortOfBlocks c.attempt_line.new.session.heap 0 c.args.workers) (λ config store there sound first blocks. for_collection sound first (subst (λ s. IsShortOfBlocks s.heap 0 c.args.workers) same.0 blocks))
     c.attempt_line.new.session c.make_room.new.session c.make_room.new.writer _ _ (λ is. is ∙ ap (λ w. g.W.Sink.failed_writes w + 1) same.1) c.in-Err-make_room.fault c.in-Err-make_room.ensures.err
@@ -31,18 +31,18 @@ returns-in-Ok-Done-attempt_line-clause-ok g c = λ config store stands.
     let same = c.in-Ok-NurseryFull.ensures.full (ap (λ a. Ok a) c.in-Ok-NurseryFull.field-0-is) in
     let first = (told _ _ c.in-Ok-NurseryFull.field-0 NurseryFull c.in-Ok-NurseryFull.field-0-is (c.in-Ok-NurseryFull.ensures.ok config store stands)).1 in
     with_room_steps c.args.session.now c.attempt_line-2.new.session config c.args.workers store c.args.line.now _ _ first
-    (done_twice (Stands c.args.session.now) c.args.number c.args.line.now (λ config store. WantsRoom config c.args.workers (state_of c.args.session.now store) c.args.line.now) (λ config store. HasMadeRoom c.args.workers (state_of c.args.session.now store)) g.W.Sink.contents c.args.writer.now
-    (λ config store there. told _ _ c.in-Ok-NurseryFull.field-0 NurseryFull c.in-Ok-NurseryFull.field-0-is (c.in-Ok-NurseryFull.ensures.ok config store there)) (Stands c.make_room.new.session) (g.W.Sink.contents c.make_room.new.writer)
-    (made_at_first c.args.workers c.args.session.now c.attempt_line.new.session c.make_room.new.session same.0 g.W.Sink.contents c.args.writer.now c.attempt_line.new.writer c.make_room.new.writer same.1 c.in-Ok.ensures.ok)
-    (Stands c.attempt_line-2.new.session) (g.W.Sink.contents c.attempt_line-2.new.writer) (λ config store there. (told _ _ c.in-Ok-Done-attempt_line.field-0 Done c.in-Ok-Done-attempt_line.field-0-is (c.in-Ok-Done-attempt_line.ensures.ok config store there)).0) config store stands)
+    (done_twice (Stands c.args.session.now) c.args.number c.args.line.now (λ config store. WantsRoom config c.args.workers (state_of c.args.session.now store) c.args.line.now) (λ config store. HasMadeRoom c.args.workers (state_of c.args.session.now store)) g.W.Sink.output c.args.writer.now
+    (λ config store there. told _ _ c.in-Ok-NurseryFull.field-0 NurseryFull c.in-Ok-NurseryFull.field-0-is (c.in-Ok-NurseryFull.ensures.ok config store there)) (Stands c.make_room.new.session) (g.W.Sink.output c.make_room.new.writer)
+    (made_at_first c.args.workers c.args.session.now c.attempt_line.new.session c.make_room.new.session same.0 g.W.Sink.output c.args.writer.now c.attempt_line.new.writer c.make_room.new.writer same.1 c.in-Ok.ensures.ok)
+    (Stands c.attempt_line-2.new.session) (g.W.Sink.output c.attempt_line-2.new.writer) (λ config store there. (told _ _ c.in-Ok-Done-attempt_line.field-0 Done c.in-Ok-Done-attempt_line.field-0-is (c.in-Ok-Done-attempt_line.ensures.ok config store there)).0) config store stands)
 
 pub returns-in-Ok-NurseryFull-attempt_line-clause-err : goal.returns-in-Ok-NurseryFull-attempt_line-clause-err
 returns-in-Ok-NurseryFull-attempt_line-clause-err g c =
     let same = c.in-Ok-NurseryFull.ensures.full (ap (λ a. Ok a) c.in-Ok-NurseryFull.field-0-is) in (
       refl,
-      no_full_twice (Stands c.args.session.now) c.args.number c.args.line.now (λ config store. WantsRoom config c.args.workers (state_of c.args.session.now store) c.args.line.now) (λ config store. HasMadeRoom c.args.workers (state_of c.args.session.now store)) g.W.Sink.contents c.args.writer.now
-          (λ config store there. told _ _ c.in-Ok-NurseryFull.field-0 NurseryFull c.in-Ok-NurseryFull.field-0-is (c.in-Ok-NurseryFull.ensures.ok config store there)) (Stands c.make_room.new.session) (g.W.Sink.contents c.make_room.new.writer)
-          (made_at_first c.args.workers c.args.session.now c.attempt_line.new.session c.make_room.new.session same.0 g.W.Sink.contents c.args.writer.now c.attempt_line.new.writer c.make_room.new.writer same.1 c.in-Ok.ensures.ok)
+      no_full_twice (Stands c.args.session.now) c.args.number c.args.line.now (λ config store. WantsRoom config c.args.workers (state_of c.args.session.now store) c.args.line.now) (λ config store. HasMadeRoom c.args.workers (state_of c.args.session.now store)) g.W.Sink.output c.args.writer.now
+          (λ config store there. told _ _ c.in-Ok-NurseryFull.field-0 NurseryFull c.in-Ok-NurseryFull.field-0-is (c.in-Ok-NurseryFull.ensures.ok config store there)) (Stands c.make_room.new.session) (g.W.Sink.output c.make_room.new.writer)
+          (made_at_first c.args.workers c.args.session.now c.attempt_line.new.session c.make_room.new.session same.0 g.W.Sink.output c.args.writer.now c.attempt_line.new.writer c.make_room.new.writer same.1 c.in-Ok.ensures.ok)
           (λ config store there. told _ _ c.in-Ok-NurseryFull-attempt_line.field-0 NurseryFull c.in-Ok-NurseryFull-attempt_line.field-0-is (c.in-Ok-NurseryFull-attempt_line.ensures.ok config store there))
           (λ config store. WantsRoom config c.args.workers (state_of c.args.session.now store) c.args.line.now × (c.attempt_line-2.new.writer ≡ c.args.writer.now)),
     )
@@ -50,7 +50,7 @@ returns-in-Ok-NurseryFull-attempt_line-clause-err g c =
 pub returns-in-Err-attempt_line-clause-err : goal.returns-in-Err-attempt_line-clause-err
 returns-in-Err-attempt_line-clause-err g c =
     let same = c.in-Ok-NurseryFull.ensures.full (ap (λ a. Ok a) c.in-Ok-NurseryFull.field-0-is) in
-    second_fault (Stands c.args.session.now) c.args.number c.args.line.now (λ config store. WantsRoom config c.args.workers (state_of c.args.session.now store) c.args.line.now) (λ config store. HasMadeRoom c.args.workers (state_of c.args.session.now store)) g.W.Sink.contents c.args.writer.now
-    (λ config store there. told _ _ c.in-Ok-NurseryFull.field-0 NurseryFull c.in-Ok-NurseryFull.field-0-is (c.in-Ok-NurseryFull.ensures.ok config store there)) (Stands c.make_room.new.session) (g.W.Sink.contents c.make_room.new.writer)
-    (made_at_first c.args.workers c.args.session.now c.attempt_line.new.session c.make_room.new.session same.0 g.W.Sink.contents c.args.writer.now c.attempt_line.new.writer c.make_room.new.writer same.1 c.in-Ok.ensures.ok)
+    second_fault (Stands c.args.session.now) c.args.number c.args.line.now (λ config store. WantsRoom config c.args.workers (state_of c.args.session.now store) c.args.line.now) (λ config store. HasMadeRoom c.args.workers (state_of c.args.session.now store)) g.W.Sink.output c.args.writer.now
+    (λ config store there. told _ _ c.in-Ok-NurseryFull.field-0 NurseryFull c.in-Ok-NurseryFull.field-0-is (c.in-Ok-NurseryFull.ensures.ok config store there)) (Stands c.make_room.new.session) (g.W.Sink.output c.make_room.new.writer)
+    (made_at_first c.args.workers c.args.session.now c.attempt_line.new.session c.make_room.new.session same.0 g.W.Sink.output c.args.writer.now c.attempt_line.new.writer c.make_room.new.writer same.1 c.in-Ok.ensures.ok)
     _ c.make_room.new.writer c.attempt_line-2.new.writer _ _ refl (λ is. is ∙ ap (λ n. n + 1) (c.in-Ok.ensures.counts ∙ ap (λ w. g.W.Sink.failed_writes w) same.1)) c.in-Err-attempt_line.fault c.in-Err-attempt_line.ensures.err

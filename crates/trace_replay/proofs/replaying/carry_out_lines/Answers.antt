@@ -1,24 +1,58 @@
-use Rattle.std.proofs.Common.{refl, arith, length, length-append, ap, ◌∙◌}
-use Rattle.trace_replay.proofs.LineByLine.{starts, goes_on, fault_of_next}
+use Rattle.std.proofs.Common.{refl, subst, ◌∙◌, arith}
+use Rattle.trace_session.specs.Lines.{Found}
+use Rattle.trace_replay.proofs.LinesRead.{at_line, reads_fail, reads_failed}
+use Rattle.trace_replay.proofs.ReplaysRead.{starts, goes_on, fault_of_next, ends_long, ends_unfinished, ends_whole, uses_up}
 use Rattle.trace_replay.proofs.replaying.carry_out_lines.Goals as goal
 
-pub loop-line-init : goal.loop-line-init
-loop-line-init g c = record {
-  so_far = λ config store stands. starts config c.args.workers _ store 1 _ _ stands;
-  room = omega arith;
-  counts = refl;
-}
+pub loop-session-init : goal.loop-session-init
+loop-session-init g c = record { so_far = starts c.args.workers c.args.session.now c.args.lines.now _ _; room = omega arith; reads = refl; counts = refl }
 
-pub loop-line-preserved : goal.loop-line-preserved
-loop-line-preserved g c =
-    let is = c.in-Some.ensures.some in
+pub carry_out_first-requires-clause-room : goal.carry_out_first-requires-clause-room
+carry_out_first-requires-clause-room g c =
+    let cut = subst (λ n. Found n c.loop-session.lines c.advance.new.self (g.S.Source.input c.loop-session.reader) (g.S.Source.input c.advance.new.reader)) c.in-Ok-Line.field-0-is c.in-Ok-Line.ensures.ok in
+    omega (arith, c.requires.room, c.loop-session.invariant.room, cut.less)
+
+pub loop-session-preserved : goal.loop-session-preserved
+loop-session-preserved g c =
+    let cut = subst (λ n. Found n c.loop-session.lines c.advance.new.self (g.S.Source.input c.loop-session.reader) (g.S.Source.input c.advance.new.reader)) c.in-Ok-Line.field-0-is c.in-Ok-Line.ensures.ok in
     record {
-      so_far = goes_on c.args.session.now c.loop-line.session _ _ _ _ _ g.W.Sink.contents _ _ c.loop-line.invariant.so_far _ _ is c.in-Some.ensures.first c.carry_out_first.new.session _ _ _ c.in-Ok.ensures.ok;
-      room = omega (arith, c.loop-line.invariant.room, c.in-Ok.ensures.left, ap length is, length-append c.in-Some.line.now);
-      counts = c.in-Ok.ensures.counts ∙ c.loop-line.invariant.counts;
+      so_far = goes_on c.args.session.now c.loop-session.session c.args.workers _ g.W.Sink.output _ c.loop-session.writer _ _ _ _ _ _ c.loop-session.invariant.so_far cut
+          c.carry_out_first.new.session c.carry_out_first.new.lines _ _ _ c.in-Ok.ensures.ok;
+      room = omega (arith, c.loop-session.invariant.room, c.in-Ok.ensures.left, cut.less);
+      reads = c.in-Ok.ensures.reads ∙ c.in-Ok-Line.ensures.counts ∙ c.loop-session.invariant.reads;
+      counts = c.in-Ok.ensures.counts ∙ c.loop-session.invariant.counts;
     }
 
+pub loop-session-smaller : goal.loop-session-smaller
+loop-session-smaller g c =
+    let cut = subst (λ n. Found n c.loop-session.lines c.advance.new.self (g.S.Source.input c.loop-session.reader) (g.S.Source.input c.advance.new.reader)) c.in-Ok-Line.field-0-is c.in-Ok-Line.ensures.ok in
+    omega (arith, c.in-Ok.ensures.left, c.in-Ok.ensures.later, cut.less)
+
+pub returns-in-Err-carry_out_first-clause-err : goal.returns-in-Err-carry_out_first-clause-err
+returns-in-Err-carry_out_first-clause-err g c =
+    let cut = subst (λ n. Found n c.loop-session.lines c.advance.new.self (g.S.Source.input c.loop-session.reader) (g.S.Source.input c.advance.new.reader)) c.in-Ok-Line.field-0-is c.in-Ok-Line.ensures.ok in
+    fault_of_next c.args.session.now c.loop-session.session c.args.workers _ g.W.Sink.output _ c.loop-session.writer _ _ _ _ _ _ c.loop-session.invariant.so_far cut
+    (g.S.Source.input c.carry_out_first.new.reader) _ _ _ _ _
+    (λ failed. reads_failed _ _ _ _ (g.S.Source.input c.carry_out_first.new.reader) (at_line _ _ _ _ _ _ c.loop-session.invariant.so_far cut) _ _ _ (c.in-Ok-Line.ensures.counts ∙ c.loop-session.invariant.reads) failed)
+    (λ is. omega (arith, is, c.loop-session.invariant.counts)) c.in-Err-carry_out_first.fault c.in-Err-carry_out_first.ensures.err
+
+pub returns-in-Ok-TooLong-clause-err : goal.returns-in-Ok-TooLong-clause-err
+returns-in-Ok-TooLong-clause-err g c =
+    let found = subst (λ n. Found n c.loop-session.lines c.advance.new.self (g.S.Source.input c.loop-session.reader) (g.S.Source.input c.advance.new.reader)) c.in-Ok-TooLong.field-0-is c.in-Ok-TooLong.ensures.ok in
+    ends_long c.args.session.now c.loop-session.session c.args.workers _ g.W.Sink.output _ c.loop-session.writer _ _ _ _ _ _ c.loop-session.invariant.so_far found.0 found.1
+
+pub returns-in-Ok-Unfinished-clause-err : goal.returns-in-Ok-Unfinished-clause-err
+returns-in-Ok-Unfinished-clause-err g c =
+    let found = subst (λ n. Found n c.loop-session.lines c.advance.new.self (g.S.Source.input c.loop-session.reader) (g.S.Source.input c.advance.new.reader)) c.in-Ok-Unfinished.field-0-is c.in-Ok-Unfinished.ensures.ok in
+    ends_unfinished c.args.session.now c.loop-session.session c.args.workers _ g.W.Sink.output _ c.loop-session.writer _ _ _ _ _ _ c.loop-session.invariant.so_far found.0 found.2 found.1.0 found.1.1
+
+pub returns-in-Ok-End-clause-ok : goal.returns-in-Ok-End-clause-ok
+returns-in-Ok-End-clause-ok g c =
+    let found = subst (λ n. Found n c.loop-session.lines c.advance.new.self (g.S.Source.input c.loop-session.reader) (g.S.Source.input c.advance.new.reader)) c.in-Ok-End.field-0-is c.in-Ok-End.ensures.ok in
+    (found.2, ends_whole c.args.session.now c.loop-session.session c.args.workers _ g.W.Sink.output _ c.loop-session.writer _ _ _ _ _ _ c.loop-session.invariant.so_far found.0 found.1)
+
 pub returns-in-Err-clause-err : goal.returns-in-Err-clause-err
-returns-in-Err-clause-err g c =
-    fault_of_next c.args.session.now c.loop-line.session _ _ _ _ _ g.W.Sink.contents _ _ c.loop-line.invariant.so_far _ _ c.in-Some.ensures.some c.in-Some.ensures.first _ _ _
-    (λ is. omega (arith, is, c.loop-line.invariant.counts)) c.in-Err.fault c.in-Err.ensures.err
+returns-in-Err-clause-err g c = (
+  uses_up c.args.session.now c.loop-session.session c.args.workers _ g.W.Sink.output _ c.loop-session.writer _ _ _ _ _ _ c.loop-session.invariant.so_far c.in-Err.ensures.waits,
+  reads_fail _ _ _ _ (g.S.Source.input c.advance.new.reader) c.loop-session.invariant.so_far _ _ _ c.loop-session.invariant.reads c.in-Err.ensures.err,
+)

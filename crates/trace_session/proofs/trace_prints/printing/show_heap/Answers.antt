@@ -1,5 +1,5 @@
 use Rattle.std.proofs.Common.{map, refl, sym, ap, subst, ◌∙◌}
-use Rattle.std.specs.Io.KnownBytes.{Appends}
+use Rattle.heap_text.specs.Streams.{Appends}
 use Rattle.std.proofs.lemmas.Bool.{true≢false}
 use Rattle.heap_text.specs.HeapLines.{name_value, heap_lines}
 use Rattle.trace_session.proofs.HeapSteps.{all_rooted, steps_heap}
@@ -17,5 +17,5 @@ returns-then-not-are_rooted-clause-err g c = (
 pub returns-in-Ok-write_heap-clause-ok : goal.returns-in-Ok-write_heap-clause-ok
 returns-in-Ok-write_heap-clause-ok g c = λ config store stands.
     steps_heap _ _ config store stands c.in-Ok-list.ensures.sorted _ _
-    (subst (λ names. Appends (g.W.Sink.contents c.args.writer.now) (g.W.Sink.contents c.write_heap.new.writer) (heap_lines c.args.session.now.heap.graph names))
+    (subst (λ names. Appends (g.W.Sink.output c.args.writer.now) (g.W.Sink.output c.write_heap.new.writer) (heap_lines c.args.session.now.heap.graph names))
     (ap (map name_value) c.deref-2.ensures.value ∙ c.in-Ok-list.ensures.names) c.in-Ok-write_heap.ensures.bytes)

@@ -1,5 +1,5 @@
 use Rattle.std.proofs.Common.{◌≡◌, ◌+◌, Ok, inl, inr, refl, sym, ap, subst, ◌∙◌}
-use Rattle.std.specs.Io.KnownBytes.{Appends}
+use Rattle.heap_text.specs.Streams.{Appends}
 use Rattle.trace_text.specs.Grammar.{entry_of}
 use Rattle.trace_session.specs.declared.trace_lines.attempt.Attempt.TheVariants.{Done, NurseryFull}
 use Rattle.trace_session.specs.declared.trace_lines.fault.Fault.TheVariants.{HeapFull}
@@ -18,11 +18,11 @@ returns-in-Some-clause-ok g c = collects_line c.args.line.now c.in-Some.generati
 
 pub returns-in-Some-clause-err : goal.returns-in-Some-clause-err
 returns-in-Some-clause-err g c =
-    faults_of_collect c.args.line.now c.in-Some.generation c.in-Some.ensures.some (Stands c.args.session.now) c.args.crew.now.workers c.args.number c.args.session.now.heap _ g.W.Sink.contents c.args.writer.now _ _ c.collect_apart.result c.collect_apart.ensures.err
+    faults_of_collect c.args.line.now c.in-Some.generation c.in-Some.ensures.some (Stands c.args.session.now) c.args.crew.now.workers c.args.number c.args.session.now.heap _ g.W.Sink.output c.args.writer.now _ _ c.collect_apart.result c.collect_apart.ensures.err
 
 pub returns-in-Some-clause-full : goal.returns-in-Some-clause-full
 returns-in-Some-clause-full g c = λ at is.
-    with_full c.args.line.now c.in-Some.generation c.in-Some.ensures.some (Stands c.args.session.now) c.args.crew.now.workers c.args.number c.args.session.now.heap _ g.W.Sink.contents c.args.writer.now _ _ c.collect_apart.result at is c.collect_apart.ensures.err
+    with_full c.args.line.now c.in-Some.generation c.in-Some.ensures.some (Stands c.args.session.now) c.args.crew.now.workers c.args.number c.args.session.now.heap _ g.W.Sink.output c.args.writer.now _ _ c.collect_apart.result at is c.collect_apart.ensures.err
 
 pub returns-in-Ok-Done-clause-ok : goal.returns-in-Ok-Done-clause-ok
 returns-in-Ok-Done-clause-ok g c = λ config store stands. (told _ _ c.in-Ok-Done.field-0 Done c.in-Ok-Done.field-0-is (c.in-Ok-Done.ensures.ok config store stands)).0
@@ -30,7 +30,7 @@ returns-in-Ok-Done-clause-ok g c = λ config store stands. (told _ _ c.in-Ok-Don
 pub returns-in-Err-clause-err : goal.returns-in-Err-clause-err
 returns-in-Err-clause-err g c =
     never_unsettled _ _ _ _ _ _ c.in-Err.fault
-    (first_fault (Stands c.args.session.now) c.args.number c.args.line.now (λ config store. MayBeFull c.args.crew.now.workers config store c.args.line.now) (λ config store written. written ≡ auto_line store) g.W.Sink.contents c.args.writer.now
+    (first_fault (Stands c.args.session.now) c.args.number c.args.line.now (λ config store. MayBeFull c.args.crew.now.workers config store c.args.line.now) (λ config store written. written ≡ auto_line store) g.W.Sink.output c.args.writer.now
     (λ config store may not lacks. may_by_any c.args.crew.now.workers config store c.args.line.now c.in_default.ensures.none not may) c.attempt_line.new.writer _ c.in-Err.fault c.in-Err.ensures.err)
 
 pub returns-in-Err-make_room_apart-clause-err : goal.returns-in-Err-make_room_apart-clause-err
@@ -39,7 +39,7 @@ returns-in-Err-make_room_apart-clause-err g c =
     let same = c.in-Ok-NurseryFull.ensures.full (ap (λ a. Ok a) c.in-Ok-NurseryFull.field-0-is) in
     let wants : AtEach (Stands c.args.session.now) (λ config store. IsSoundTraceLine config store line × LineCollectsFirst config store line) = λ config store there. told _ _ c.in-Ok-NurseryFull.field-0 NurseryFull c.in-Ok-NurseryFull.field-0-is (c.in-Ok-NurseryFull.ensures.ok config store there) in
     tells_apart _ _ _ _ _ _ _ _ _ _ _ _ c.in-Err-make_room_apart.fault
-    (room_fault (Stands c.args.session.now) c.args.number line (λ config store. MayBeFull c.args.crew.now.workers config store line) (λ config store written. written ≡ auto_line store) g.W.Sink.contents c.args.writer.now wants c.attempt_line.new.writer same.1
+    (room_fault (Stands c.args.session.now) c.args.number line (λ config store. MayBeFull c.args.crew.now.workers config store line) (λ config store written. written ≡ auto_line store) g.W.Sink.output c.args.writer.now wants c.attempt_line.new.writer same.1
     (IsShortOfBlocksFor c.attempt_line.new.session.heap 0 c.args.crew.now.workers)
     (λ config store there sound first short.
     record {
@@ -56,18 +56,18 @@ pub returns-in-Ok-Done-attempt_line-clause-ok : goal.returns-in-Ok-Done-attempt_
 returns-in-Ok-Done-attempt_line-clause-ok g c = λ config store stands.
     let line = c.args.line.now in
     let same = c.in-Ok-NurseryFull.ensures.full (ap (λ a. Ok a) c.in-Ok-NurseryFull.field-0-is) in
-    let done = done_twice (Stands c.args.session.now) c.args.number line (λ config store. MayBeFull c.args.crew.now.workers config store line) (λ config store written. written ≡ auto_line store) g.W.Sink.contents c.args.writer.now
-    (λ config store there. told _ _ c.in-Ok-NurseryFull.field-0 NurseryFull c.in-Ok-NurseryFull.field-0-is (c.in-Ok-NurseryFull.ensures.ok config store there)) (Stands c.make_room_apart.new.session) (g.W.Sink.contents c.make_room_apart.new.writer)
+    let done = done_twice (Stands c.args.session.now) c.args.number line (λ config store. MayBeFull c.args.crew.now.workers config store line) (λ config store written. written ≡ auto_line store) g.W.Sink.output c.args.writer.now
+    (λ config store there. told _ _ c.in-Ok-NurseryFull.field-0 NurseryFull c.in-Ok-NurseryFull.field-0-is (c.in-Ok-NurseryFull.ensures.ok config store there)) (Stands c.make_room_apart.new.session) (g.W.Sink.output c.make_room_apart.new.writer)
     (λ config store there.
     let made = c.in-Ok.ensures.ok config store (subst (λ s. Stands s config store) (sym same.0) there) in
-    (made.0, record { written = auto_line store; held = subst (λ w. Appends (g.W.Sink.contents w) (g.W.Sink.contents c.make_room_apart.new.writer) (auto_line store)) same.1 made.1; holds = refl }))
-    (Stands c.attempt_line-2.new.session) (g.W.Sink.contents c.attempt_line-2.new.writer) (λ config store there. (told _ _ c.in-Ok-Done-attempt_line.field-0 Done c.in-Ok-Done-attempt_line.field-0-is (c.in-Ok-Done-attempt_line.ensures.ok config store there)).0) config store stands in
+    (made.0, record { written = auto_line store; held = subst (λ w. Appends (g.W.Sink.output w) (g.W.Sink.output c.make_room_apart.new.writer) (auto_line store)) same.1 made.1; holds = refl }))
+    (Stands c.attempt_line-2.new.session) (g.W.Sink.output c.attempt_line-2.new.writer) (λ config store there. (told _ _ c.in-Ok-Done-attempt_line.field-0 Done c.in-Ok-Done-attempt_line.field-0-is (c.in-Ok-Done-attempt_line.ensures.ok config store there)).0) config store stands in
     record {
       next = done.0;
       out = auto_line store;
       steps = done.1.0;
       stands' = done.1.1;
-      held = subst (λ out. Appends (g.W.Sink.contents c.args.writer.now) (g.W.Sink.contents c.attempt_line-2.new.writer) out) done.1.2.holds done.1.2.held;
+      held = subst (λ out. Appends (g.W.Sink.output c.args.writer.now) (g.W.Sink.output c.attempt_line-2.new.writer) out) done.1.2.holds done.1.2.held;
     }
 
 pub returns-in-Ok-NurseryFull-attempt_line-clause-err : goal.returns-in-Ok-NurseryFull-attempt_line-clause-err
@@ -75,11 +75,11 @@ returns-in-Ok-NurseryFull-attempt_line-clause-err g c =
     let line = c.args.line.now in
     let same = c.in-Ok-NurseryFull.ensures.full (ap (λ a. Ok a) c.in-Ok-NurseryFull.field-0-is) in (
       refl,
-      no_full_twice (Stands c.args.session.now) c.args.number line (λ config store. MayBeFull c.args.crew.now.workers config store line) (λ config store written. written ≡ auto_line store) g.W.Sink.contents c.args.writer.now
-          (λ config store there. told _ _ c.in-Ok-NurseryFull.field-0 NurseryFull c.in-Ok-NurseryFull.field-0-is (c.in-Ok-NurseryFull.ensures.ok config store there)) (Stands c.make_room_apart.new.session) (g.W.Sink.contents c.make_room_apart.new.writer)
+      no_full_twice (Stands c.args.session.now) c.args.number line (λ config store. MayBeFull c.args.crew.now.workers config store line) (λ config store written. written ≡ auto_line store) g.W.Sink.output c.args.writer.now
+          (λ config store there. told _ _ c.in-Ok-NurseryFull.field-0 NurseryFull c.in-Ok-NurseryFull.field-0-is (c.in-Ok-NurseryFull.ensures.ok config store there)) (Stands c.make_room_apart.new.session) (g.W.Sink.output c.make_room_apart.new.writer)
           (λ config store there.
           let made = c.in-Ok.ensures.ok config store (subst (λ s. Stands s config store) (sym same.0) there) in
-          (made.0, record { written = auto_line store; held = subst (λ w. Appends (g.W.Sink.contents w) (g.W.Sink.contents c.make_room_apart.new.writer) (auto_line store)) same.1 made.1; holds = refl }))
+          (made.0, record { written = auto_line store; held = subst (λ w. Appends (g.W.Sink.output w) (g.W.Sink.output c.make_room_apart.new.writer) (auto_line store)) same.1 made.1; holds = refl }))
           (λ config store there. told _ _ c.in-Ok-NurseryFull-attempt_line.field-0 NurseryFull c.in-Ok-NurseryFull-attempt_line.field-0-is (c.in-Ok-NurseryFull-attempt_line.ensures.ok config store there)) (λ config store. MayBeFull c.args.crew.now.workers config store line × (c.attempt_line-2.new.writer ≡ c.args.writer.now)),
     )
 
@@ -88,19 +88,19 @@ returns-in-Err-attempt_line-clause-err g c =
     let line = c.args.line.now in
     let same = c.in-Ok-NurseryFull.ensures.full (ap (λ a. Ok a) c.in-Ok-NurseryFull.field-0-is) in
     never_unsettled _ _ _ _ _ _ c.in-Err-attempt_line.fault
-    (second_fault (Stands c.args.session.now) c.args.number line (λ config store. MayBeFull c.args.crew.now.workers config store line) (λ config store written. written ≡ auto_line store) g.W.Sink.contents c.args.writer.now
-    (λ config store there. told _ _ c.in-Ok-NurseryFull.field-0 NurseryFull c.in-Ok-NurseryFull.field-0-is (c.in-Ok-NurseryFull.ensures.ok config store there)) (Stands c.make_room_apart.new.session) (g.W.Sink.contents c.make_room_apart.new.writer)
+    (second_fault (Stands c.args.session.now) c.args.number line (λ config store. MayBeFull c.args.crew.now.workers config store line) (λ config store written. written ≡ auto_line store) g.W.Sink.output c.args.writer.now
+    (λ config store there. told _ _ c.in-Ok-NurseryFull.field-0 NurseryFull c.in-Ok-NurseryFull.field-0-is (c.in-Ok-NurseryFull.ensures.ok config store there)) (Stands c.make_room_apart.new.session) (g.W.Sink.output c.make_room_apart.new.writer)
     (λ config store there.
     let made = c.in-Ok.ensures.ok config store (subst (λ s. Stands s config store) (sym same.0) there) in
-    (made.0, record { written = auto_line store; held = subst (λ w. Appends (g.W.Sink.contents w) (g.W.Sink.contents c.make_room_apart.new.writer) (auto_line store)) same.1 made.1; holds = refl }))
+    (made.0, record { written = auto_line store; held = subst (λ w. Appends (g.W.Sink.output w) (g.W.Sink.output c.make_room_apart.new.writer) (auto_line store)) same.1 made.1; holds = refl }))
     _ c.make_room_apart.new.writer c.attempt_line-2.new.writer _ _ refl (λ is. is ∙ ap (λ n. n + 1) (c.in-Ok.ensures.counts ∙ ap (λ w. g.W.Sink.failed_writes w) same.1)) c.in-Err-attempt_line.fault c.in-Err-attempt_line.ensures.err)
 
 pub returns-in-Err-clause-full : goal.returns-in-Err-clause-full
 returns-in-Err-clause-full g c = λ at is.
     let line = c.args.line.now in
     let full : c.in-Err.fault ≡ HeapFull at = cc in
-    tells_full (Stands c.args.session.now) c.args.number line (λ config store. IsFullForLine c.args.crew.now.workers c.args.session.now.heap config store line) (λ config store written. written ≡ auto_line store) g.W.Sink.contents c.args.writer.now c.attempt_line.new.writer _ c.in-Err.fault at full
-    (first_fault (Stands c.args.session.now) c.args.number line (λ config store. IsFullForLine c.args.crew.now.workers c.args.session.now.heap config store line) (λ config store written. written ≡ auto_line store) g.W.Sink.contents c.args.writer.now
+    tells_full (Stands c.args.session.now) c.args.number line (λ config store. IsFullForLine c.args.crew.now.workers c.args.session.now.heap config store line) (λ config store written. written ≡ auto_line store) g.W.Sink.output c.args.writer.now c.attempt_line.new.writer _ c.in-Err.fault at full
+    (first_fault (Stands c.args.session.now) c.args.number line (λ config store. IsFullForLine c.args.crew.now.workers c.args.session.now.heap config store line) (λ config store written. written ≡ auto_line store) g.W.Sink.output c.args.writer.now
     (λ config store may not lacks. inl (full_by_any c.args.crew.now.workers c.args.session.now.heap (entry_of line) c.in_default.ensures.none lacks)) c.attempt_line.new.writer _ c.in-Err.fault c.in-Err.ensures.err)
 
 pub returns-in-Err-make_room_apart-clause-full : goal.returns-in-Err-make_room_apart-clause-full
@@ -114,11 +114,11 @@ pub returns-in-Ok-NurseryFull-attempt_line-clause-full : goal.returns-in-Ok-Nurs
 returns-in-Ok-NurseryFull-attempt_line-clause-full g c = λ at is.
     let line = c.args.line.now in
     let same = c.in-Ok-NurseryFull.ensures.full (ap (λ a. Ok a) c.in-Ok-NurseryFull.field-0-is) in
-    no_full_twice (Stands c.args.session.now) c.args.number line (λ config store. IsFullForLine c.args.crew.now.workers c.args.session.now.heap config store line) (λ config store written. written ≡ auto_line store) g.W.Sink.contents c.args.writer.now
-    (λ config store there. told _ _ c.in-Ok-NurseryFull.field-0 NurseryFull c.in-Ok-NurseryFull.field-0-is (c.in-Ok-NurseryFull.ensures.ok config store there)) (Stands c.make_room_apart.new.session) (g.W.Sink.contents c.make_room_apart.new.writer)
+    no_full_twice (Stands c.args.session.now) c.args.number line (λ config store. IsFullForLine c.args.crew.now.workers c.args.session.now.heap config store line) (λ config store written. written ≡ auto_line store) g.W.Sink.output c.args.writer.now
+    (λ config store there. told _ _ c.in-Ok-NurseryFull.field-0 NurseryFull c.in-Ok-NurseryFull.field-0-is (c.in-Ok-NurseryFull.ensures.ok config store there)) (Stands c.make_room_apart.new.session) (g.W.Sink.output c.make_room_apart.new.writer)
     (λ config store there.
     let made = c.in-Ok.ensures.ok config store (subst (λ s. Stands s config store) (sym same.0) there) in
-    (made.0, record { written = auto_line store; held = subst (λ w. Appends (g.W.Sink.contents w) (g.W.Sink.contents c.make_room_apart.new.writer) (auto_line store)) same.1 made.1; holds = refl }))
+    (made.0, record { written = auto_line store; held = subst (λ w. Appends (g.W.Sink.output w) (g.W.Sink.output c.make_room_apart.new.writer) (auto_line store)) same.1 made.1; holds = refl }))
     (λ config store there. told _ _ c.in-Ok-NurseryFull-attempt_line.field-0 NurseryFull c.in-Ok-NurseryFull-attempt_line.field-0-is (c.in-Ok-NurseryFull-attempt_line.ensures.ok config store there)) (λ config store. IsFullForLine c.args.crew.now.workers c.args.session.now.heap config store line)
 
 pub returns-in-Err-attempt_line-clause-full : goal.returns-in-Err-attempt_line-clause-full
@@ -126,10 +126,10 @@ returns-in-Err-attempt_line-clause-full g c = λ at is.
     let line = c.args.line.now in
     let same = c.in-Ok-NurseryFull.ensures.full (ap (λ a. Ok a) c.in-Ok-NurseryFull.field-0-is) in
     let full : c.in-Err-attempt_line.fault ≡ HeapFull at = cc in
-    tells_full (Stands c.args.session.now) c.args.number line (λ config store. IsFullForLine c.args.crew.now.workers c.args.session.now.heap config store line) (λ config store written. written ≡ auto_line store) g.W.Sink.contents c.args.writer.now c.attempt_line-2.new.writer _ c.in-Err-attempt_line.fault at full
-    (second_fault (Stands c.args.session.now) c.args.number line (λ config store. IsFullForLine c.args.crew.now.workers c.args.session.now.heap config store line) (λ config store written. written ≡ auto_line store) g.W.Sink.contents c.args.writer.now
-    (λ config store there. told _ _ c.in-Ok-NurseryFull.field-0 NurseryFull c.in-Ok-NurseryFull.field-0-is (c.in-Ok-NurseryFull.ensures.ok config store there)) (Stands c.make_room_apart.new.session) (g.W.Sink.contents c.make_room_apart.new.writer)
+    tells_full (Stands c.args.session.now) c.args.number line (λ config store. IsFullForLine c.args.crew.now.workers c.args.session.now.heap config store line) (λ config store written. written ≡ auto_line store) g.W.Sink.output c.args.writer.now c.attempt_line-2.new.writer _ c.in-Err-attempt_line.fault at full
+    (second_fault (Stands c.args.session.now) c.args.number line (λ config store. IsFullForLine c.args.crew.now.workers c.args.session.now.heap config store line) (λ config store written. written ≡ auto_line store) g.W.Sink.output c.args.writer.now
+    (λ config store there. told _ _ c.in-Ok-NurseryFull.field-0 NurseryFull c.in-Ok-NurseryFull.field-0-is (c.in-Ok-NurseryFull.ensures.ok config store there)) (Stands c.make_room_apart.new.session) (g.W.Sink.output c.make_room_apart.new.writer)
     (λ config store there.
     let made = c.in-Ok.ensures.ok config store (subst (λ s. Stands s config store) (sym same.0) there) in
-    (made.0, record { written = auto_line store; held = subst (λ w. Appends (g.W.Sink.contents w) (g.W.Sink.contents c.make_room_apart.new.writer) (auto_line store)) same.1 made.1; holds = refl }))
+    (made.0, record { written = auto_line store; held = subst (λ w. Appends (g.W.Sink.output w) (g.W.Sink.output c.make_room_apart.new.writer) (auto_line store)) same.1 made.1; holds = refl }))
     _ c.make_room_apart.new.writer c.attempt_line-2.new.writer _ _ refl (λ failed. failed) c.in-Err-attempt_line.fault c.in-Err-attempt_line.ensures.err)

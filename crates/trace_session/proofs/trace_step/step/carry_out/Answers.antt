@@ -1,5 +1,5 @@
 use Rattle.std.proofs.Common.{◌≡◌, ◌+◌, Ok, inl, inr, refl, sym, ap, subst, ◌∙◌}
-use Rattle.std.specs.Io.KnownBytes.{Appends}
+use Rattle.heap_text.specs.Streams.{Appends}
 use Rattle.trace_text.specs.Grammar.{entry_of}
 use Rattle.trace_session.specs.declared.trace_lines.attempt.Attempt.TheVariants.{Done, NurseryFull}
 use Rattle.trace_session.specs.declared.trace_lines.fault.Fault.TheVariants.{HeapFull}
@@ -15,14 +15,14 @@ returns-in-Ok-Done-clause-ok g c = λ config store stands. (told _ _ c.in-Ok-Don
 
 pub returns-in-Err-clause-err : goal.returns-in-Err-clause-err
 returns-in-Err-clause-err g c =
-    first_fault (Stands c.args.session.now) c.args.number c.args.line.now (λ config store. MayBeFull 1 config store c.args.line.now) (λ config store written. written ≡ auto_line store) g.W.Sink.contents c.args.writer.now
+    first_fault (Stands c.args.session.now) c.args.number c.args.line.now (λ config store. MayBeFull 1 config store c.args.line.now) (λ config store written. written ≡ auto_line store) g.W.Sink.output c.args.writer.now
     (λ config store may not lacks. may) c.attempt_line.new.writer _ c.in-Err.fault c.in-Err.ensures.err
 
 pub returns-in-Err-make_room-clause-err : goal.returns-in-Err-make_room-clause-err
 returns-in-Err-make_room-clause-err g c =
     let line = c.args.line.now in
     let same = c.in-Ok-NurseryFull.ensures.full (ap (λ a. Ok a) c.in-Ok-NurseryFull.field-0-is) in
-    room_fault (Stands c.args.session.now) c.args.number line (λ config store. MayBeFull 1 config store line) (λ config store written. written ≡ auto_line store) g.W.Sink.contents c.args.writer.now
+    room_fault (Stands c.args.session.now) c.args.number line (λ config store. MayBeFull 1 config store line) (λ config store written. written ≡ auto_line store) g.W.Sink.output c.args.writer.now
     (λ config store there. told _ _ c.in-Ok-NurseryFull.field-0 NurseryFull c.in-Ok-NurseryFull.field-0-is (c.in-Ok-NurseryFull.ensures.ok config store there)) c.attempt_line.new.writer same.1
     (IsShortOfBlocks c.attempt_line.new.session.heap 0)
     (λ config store there sound first short.
@@ -38,18 +38,18 @@ pub returns-in-Ok-Done-attempt_line-clause-ok : goal.returns-in-Ok-Done-attempt_
 returns-in-Ok-Done-attempt_line-clause-ok g c = λ config store stands.
     let line = c.args.line.now in
     let same = c.in-Ok-NurseryFull.ensures.full (ap (λ a. Ok a) c.in-Ok-NurseryFull.field-0-is) in
-    let done = done_twice (Stands c.args.session.now) c.args.number line (λ config store. MayBeFull 1 config store line) (λ config store written. written ≡ auto_line store) g.W.Sink.contents c.args.writer.now
-    (λ config store there. told _ _ c.in-Ok-NurseryFull.field-0 NurseryFull c.in-Ok-NurseryFull.field-0-is (c.in-Ok-NurseryFull.ensures.ok config store there)) (Stands c.make_room.new.session) (g.W.Sink.contents c.make_room.new.writer)
+    let done = done_twice (Stands c.args.session.now) c.args.number line (λ config store. MayBeFull 1 config store line) (λ config store written. written ≡ auto_line store) g.W.Sink.output c.args.writer.now
+    (λ config store there. told _ _ c.in-Ok-NurseryFull.field-0 NurseryFull c.in-Ok-NurseryFull.field-0-is (c.in-Ok-NurseryFull.ensures.ok config store there)) (Stands c.make_room.new.session) (g.W.Sink.output c.make_room.new.writer)
     (λ config store there.
     let made = c.in-Ok.ensures.ok config store (subst (λ s. Stands s config store) (sym same.0) there) in
-    (made.0, record { written = auto_line store; held = subst (λ w. Appends (g.W.Sink.contents w) (g.W.Sink.contents c.make_room.new.writer) (auto_line store)) same.1 made.1; holds = refl }))
-    (Stands c.attempt_line-2.new.session) (g.W.Sink.contents c.attempt_line-2.new.writer) (λ config store there. (told _ _ c.in-Ok-Done-attempt_line.field-0 Done c.in-Ok-Done-attempt_line.field-0-is (c.in-Ok-Done-attempt_line.ensures.ok config store there)).0) config store stands in
+    (made.0, record { written = auto_line store; held = subst (λ w. Appends (g.W.Sink.output w) (g.W.Sink.output c.make_room.new.writer) (auto_line store)) same.1 made.1; holds = refl }))
+    (Stands c.attempt_line-2.new.session) (g.W.Sink.output c.attempt_line-2.new.writer) (λ config store there. (told _ _ c.in-Ok-Done-attempt_line.field-0 Done c.in-Ok-Done-attempt_line.field-0-is (c.in-Ok-Done-attempt_line.ensures.ok config store there)).0) config store stands in
     record {
       next = done.0;
       out = auto_line store;
       steps = done.1.0;
       stands' = done.1.1;
-      held = subst (λ out. Appends (g.W.Sink.contents c.args.writer.now) (g.W.Sink.contents c.attempt_line-2.new.writer) out) done.1.2.holds done.1.2.held;
+      held = subst (λ out. Appends (g.W.Sink.output c.args.writer.now) (g.W.Sink.output c.attempt_line-2.new.writer) out) done.1.2.holds done.1.2.held;
     }
 
 pub returns-in-Ok-NurseryFull-attempt_line-clause-err : goal.returns-in-Ok-NurseryFull-attempt_line-clause-err
@@ -57,11 +57,11 @@ returns-in-Ok-NurseryFull-attempt_line-clause-err g c =
     let line = c.args.line.now in
     let same = c.in-Ok-NurseryFull.ensures.full (ap (λ a. Ok a) c.in-Ok-NurseryFull.field-0-is) in (
       refl,
-      no_full_twice (Stands c.args.session.now) c.args.number line (λ config store. MayBeFull 1 config store line) (λ config store written. written ≡ auto_line store) g.W.Sink.contents c.args.writer.now
-          (λ config store there. told _ _ c.in-Ok-NurseryFull.field-0 NurseryFull c.in-Ok-NurseryFull.field-0-is (c.in-Ok-NurseryFull.ensures.ok config store there)) (Stands c.make_room.new.session) (g.W.Sink.contents c.make_room.new.writer)
+      no_full_twice (Stands c.args.session.now) c.args.number line (λ config store. MayBeFull 1 config store line) (λ config store written. written ≡ auto_line store) g.W.Sink.output c.args.writer.now
+          (λ config store there. told _ _ c.in-Ok-NurseryFull.field-0 NurseryFull c.in-Ok-NurseryFull.field-0-is (c.in-Ok-NurseryFull.ensures.ok config store there)) (Stands c.make_room.new.session) (g.W.Sink.output c.make_room.new.writer)
           (λ config store there.
           let made = c.in-Ok.ensures.ok config store (subst (λ s. Stands s config store) (sym same.0) there) in
-          (made.0, record { written = auto_line store; held = subst (λ w. Appends (g.W.Sink.contents w) (g.W.Sink.contents c.make_room.new.writer) (auto_line store)) same.1 made.1; holds = refl }))
+          (made.0, record { written = auto_line store; held = subst (λ w. Appends (g.W.Sink.output w) (g.W.Sink.output c.make_room.new.writer) (auto_line store)) same.1 made.1; holds = refl }))
           (λ config store there. told _ _ c.in-Ok-NurseryFull-attempt_line.field-0 NurseryFull c.in-Ok-NurseryFull-attempt_line.field-0-is (c.in-Ok-NurseryFull-attempt_line.ensures.ok config store there)) (λ config store. MayBeFull 1 config store line × (c.attempt_line-2.new.writer ≡ c.args.writer.now)),
     )
 
@@ -69,19 +69,19 @@ pub returns-in-Err-attempt_line-clause-err : goal.returns-in-Err-attempt_line-cl
 returns-in-Err-attempt_line-clause-err g c =
     let line = c.args.line.now in
     let same = c.in-Ok-NurseryFull.ensures.full (ap (λ a. Ok a) c.in-Ok-NurseryFull.field-0-is) in
-    second_fault (Stands c.args.session.now) c.args.number line (λ config store. MayBeFull 1 config store line) (λ config store written. written ≡ auto_line store) g.W.Sink.contents c.args.writer.now
-    (λ config store there. told _ _ c.in-Ok-NurseryFull.field-0 NurseryFull c.in-Ok-NurseryFull.field-0-is (c.in-Ok-NurseryFull.ensures.ok config store there)) (Stands c.make_room.new.session) (g.W.Sink.contents c.make_room.new.writer)
+    second_fault (Stands c.args.session.now) c.args.number line (λ config store. MayBeFull 1 config store line) (λ config store written. written ≡ auto_line store) g.W.Sink.output c.args.writer.now
+    (λ config store there. told _ _ c.in-Ok-NurseryFull.field-0 NurseryFull c.in-Ok-NurseryFull.field-0-is (c.in-Ok-NurseryFull.ensures.ok config store there)) (Stands c.make_room.new.session) (g.W.Sink.output c.make_room.new.writer)
     (λ config store there.
     let made = c.in-Ok.ensures.ok config store (subst (λ s. Stands s config store) (sym same.0) there) in
-    (made.0, record { written = auto_line store; held = subst (λ w. Appends (g.W.Sink.contents w) (g.W.Sink.contents c.make_room.new.writer) (auto_line store)) same.1 made.1; holds = refl }))
+    (made.0, record { written = auto_line store; held = subst (λ w. Appends (g.W.Sink.output w) (g.W.Sink.output c.make_room.new.writer) (auto_line store)) same.1 made.1; holds = refl }))
     _ c.make_room.new.writer c.attempt_line-2.new.writer _ _ refl (λ is. is ∙ ap (λ n. n + 1) (c.in-Ok.ensures.counts ∙ ap (λ w. g.W.Sink.failed_writes w) same.1)) c.in-Err-attempt_line.fault c.in-Err-attempt_line.ensures.err
 
 pub returns-in-Err-clause-full : goal.returns-in-Err-clause-full
 returns-in-Err-clause-full g c = λ at is.
     let line = c.args.line.now in
     let full : c.in-Err.fault ≡ HeapFull at = cc in
-    tells_full (Stands c.args.session.now) c.args.number line (λ config store. IsFullForLine 1 c.args.session.now.heap config store line) (λ config store written. written ≡ auto_line store) g.W.Sink.contents c.args.writer.now c.attempt_line.new.writer _ c.in-Err.fault at full
-    (first_fault (Stands c.args.session.now) c.args.number line (λ config store. IsFullForLine 1 c.args.session.now.heap config store line) (λ config store written. written ≡ auto_line store) g.W.Sink.contents c.args.writer.now
+    tells_full (Stands c.args.session.now) c.args.number line (λ config store. IsFullForLine 1 c.args.session.now.heap config store line) (λ config store written. written ≡ auto_line store) g.W.Sink.output c.args.writer.now c.attempt_line.new.writer _ c.in-Err.fault at full
+    (first_fault (Stands c.args.session.now) c.args.number line (λ config store. IsFullForLine 1 c.args.session.now.heap config store line) (λ config store written. written ≡ auto_line store) g.W.Sink.output c.args.writer.now
     (λ config store may not lacks. inl lacks) c.attempt_line.new.writer _ c.in-Err.fault c.in-Err.ensures.err)
 
 pub returns-in-Err-make_room-clause-full : goal.returns-in-Err-make_room-clause-full
@@ -89,8 +89,8 @@ returns-in-Err-make_room-clause-full g c = λ at is.
     let line = c.args.line.now in
     let same = c.in-Ok-NurseryFull.ensures.full (ap (λ a. Ok a) c.in-Ok-NurseryFull.field-0-is) in
     let full : c.in-Err-make_room.fault ≡ HeapFull at = cc in
-    tells_full (Stands c.args.session.now) c.args.number line (λ config store. IsFullForLine 1 c.args.session.now.heap config store line) (λ config store written. written ≡ auto_line store) g.W.Sink.contents c.args.writer.now c.make_room.new.writer _ c.in-Err-make_room.fault at full
-    (room_fault (Stands c.args.session.now) c.args.number line (λ config store. IsFullForLine 1 c.args.session.now.heap config store line) (λ config store written. written ≡ auto_line store) g.W.Sink.contents c.args.writer.now
+    tells_full (Stands c.args.session.now) c.args.number line (λ config store. IsFullForLine 1 c.args.session.now.heap config store line) (λ config store written. written ≡ auto_line store) g.W.Sink.output c.args.writer.now c.make_room.new.writer _ c.in-Err-make_room.fault at full
+    (room_fault (Stands c.args.session.now) c.args.number line (λ config store. IsFullForLine 1 c.args.session.now.heap config store line) (λ config store written. written ≡ auto_line store) g.W.Sink.output c.args.writer.now
     (λ config store there. told _ _ c.in-Ok-NurseryFull.field-0 NurseryFull c.in-Ok-NurseryFull.field-0-is (c.in-Ok-NurseryFull.ensures.ok config store there)) c.attempt_line.new.writer same.1
     (IsShortOfBlocks c.attempt_line.new.session.heap 0)
     (λ config store there sound first short. inr (first, subst (λ s. IsShortOfBlocks s.heap 0) same.0 short))
@@ -100,11 +100,11 @@ pub returns-in-Ok-NurseryFull-attempt_line-clause-full : goal.returns-in-Ok-Nurs
 returns-in-Ok-NurseryFull-attempt_line-clause-full g c = λ at is.
     let line = c.args.line.now in
     let same = c.in-Ok-NurseryFull.ensures.full (ap (λ a. Ok a) c.in-Ok-NurseryFull.field-0-is) in
-    no_full_twice (Stands c.args.session.now) c.args.number line (λ config store. IsFullForLine 1 c.args.session.now.heap config store line) (λ config store written. written ≡ auto_line store) g.W.Sink.contents c.args.writer.now
-    (λ config store there. told _ _ c.in-Ok-NurseryFull.field-0 NurseryFull c.in-Ok-NurseryFull.field-0-is (c.in-Ok-NurseryFull.ensures.ok config store there)) (Stands c.make_room.new.session) (g.W.Sink.contents c.make_room.new.writer)
+    no_full_twice (Stands c.args.session.now) c.args.number line (λ config store. IsFullForLine 1 c.args.session.now.heap config store line) (λ config store written. written ≡ auto_line store) g.W.Sink.output c.args.writer.now
+    (λ config store there. told _ _ c.in-Ok-NurseryFull.field-0 NurseryFull c.in-Ok-NurseryFull.field-0-is (c.in-Ok-NurseryFull.ensures.ok config store there)) (Stands c.make_room.new.session) (g.W.Sink.output c.make_room.new.writer)
     (λ config store there.
     let made = c.in-Ok.ensures.ok config store (subst (λ s. Stands s config store) (sym same.0) there) in
-    (made.0, record { written = auto_line store; held = subst (λ w. Appends (g.W.Sink.contents w) (g.W.Sink.contents c.make_room.new.writer) (auto_line store)) same.1 made.1; holds = refl }))
+    (made.0, record { written = auto_line store; held = subst (λ w. Appends (g.W.Sink.output w) (g.W.Sink.output c.make_room.new.writer) (auto_line store)) same.1 made.1; holds = refl }))
     (λ config store there. told _ _ c.in-Ok-NurseryFull-attempt_line.field-0 NurseryFull c.in-Ok-NurseryFull-attempt_line.field-0-is (c.in-Ok-NurseryFull-attempt_line.ensures.ok config store there)) (λ config store. IsFullForLine 1 c.args.session.now.heap config store line)
 
 pub returns-in-Err-attempt_line-clause-full : goal.returns-in-Err-attempt_line-clause-full
@@ -112,10 +112,10 @@ returns-in-Err-attempt_line-clause-full g c = λ at is.
     let line = c.args.line.now in
     let same = c.in-Ok-NurseryFull.ensures.full (ap (λ a. Ok a) c.in-Ok-NurseryFull.field-0-is) in
     let full : c.in-Err-attempt_line.fault ≡ HeapFull at = cc in
-    tells_full (Stands c.args.session.now) c.args.number line (λ config store. IsFullForLine 1 c.args.session.now.heap config store line) (λ config store written. written ≡ auto_line store) g.W.Sink.contents c.args.writer.now c.attempt_line-2.new.writer _ c.in-Err-attempt_line.fault at full
-    (second_fault (Stands c.args.session.now) c.args.number line (λ config store. IsFullForLine 1 c.args.session.now.heap config store line) (λ config store written. written ≡ auto_line store) g.W.Sink.contents c.args.writer.now
-    (λ config store there. told _ _ c.in-Ok-NurseryFull.field-0 NurseryFull c.in-Ok-NurseryFull.field-0-is (c.in-Ok-NurseryFull.ensures.ok config store there)) (Stands c.make_room.new.session) (g.W.Sink.contents c.make_room.new.writer)
+    tells_full (Stands c.args.session.now) c.args.number line (λ config store. IsFullForLine 1 c.args.session.now.heap config store line) (λ config store written. written ≡ auto_line store) g.W.Sink.output c.args.writer.now c.attempt_line-2.new.writer _ c.in-Err-attempt_line.fault at full
+    (second_fault (Stands c.args.session.now) c.args.number line (λ config store. IsFullForLine 1 c.args.session.now.heap config store line) (λ config store written. written ≡ auto_line store) g.W.Sink.output c.args.writer.now
+    (λ config store there. told _ _ c.in-Ok-NurseryFull.field-0 NurseryFull c.in-Ok-NurseryFull.field-0-is (c.in-Ok-NurseryFull.ensures.ok config store there)) (Stands c.make_room.new.session) (g.W.Sink.output c.make_room.new.writer)
     (λ config store there.
     let made = c.in-Ok.ensures.ok config store (subst (λ s. Stands s config store) (sym same.0) there) in
-    (made.0, record { written = auto_line store; held = subst (λ w. Appends (g.W.Sink.contents w) (g.W.Sink.contents c.make_room.new.writer) (auto_line store)) same.1 made.1; holds = refl }))
+    (made.0, record { written = auto_line store; held = subst (λ w. Appends (g.W.Sink.output w) (g.W.Sink.output c.make_room.new.writer) (auto_line store)) same.1 made.1; holds = refl }))
     _ c.make_room.new.writer c.attempt_line-2.new.writer _ _ refl (λ failed. failed) c.in-Err-attempt_line.fault c.in-Err-attempt_line.ensures.err)
