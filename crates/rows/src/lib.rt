@@ -6,6 +6,8 @@ mod fronts;
 pub use fronts::is_front_in_lines;
 
 #[cfg(test)]
+mod answers;
+#[cfg(test)]
 mod at_size;
 #[cfg(test)]
 mod automatic;
