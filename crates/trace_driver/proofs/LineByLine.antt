@@ -14,15 +14,15 @@ use Rattle.trace_session.specs.CollectsFirst.{IsSoundSoFar}
 use Rattle.trace_session.specs.Faults.{MatchFault, MatchFaultApart}
 use Rattle.trace_session.specs.Lines.{LinesValue, Moves, Waits, Cuts, Found, IsOutOfReads}
 use Rattle.trace_session.specs.declared.trace_lines.lines.Next.{Next}
-use Rattle.trace_session.specs.Pieces.{HasNoFeed, finished, last_piece, pieces, whole_lines}
+use Rattle.trace_session.specs.Pieces.{HasNoFeed, finished, pieces, whole_lines}
 use Rattle.trace_session.specs.Outcome.{outcome_from, line_step}
 use Rattle.trace_session.specs.Sound.{IsSoundTraceLine}
 use Rattle.trace_session.specs.Carried.{Silently, Prints}
 use Rattle.trace_session.specs.Stepped.{AtEach, StepsTo, Writes, CarriesOutTo}
-use Rattle.trace_session.proofs.PieceLemmas.{pieces_line, pieces_last}
+use Rattle.trace_session.proofs.PieceLemmas.{pieces_line, whole_lines_are}
 use Rattle.trace_session.proofs.CarriedLemmas.{CarriesOut-none, Carried-before, line_joins, fault_of_line, leaves}
-use Rattle.trace_session.proofs.TextLemmas.{ends_done, ends_unfinished, ends_long_whatever, prints_stop}
-use Rattle.trace_session.proofs.LineLemmas.{Moves-map, Moves-trans, OfInput-moved, OfInput-ended, OfGiven-moved, out_after}
+use Rattle.trace_session.proofs.TextLemmas.{ends_done, ends_unfinished, ends_long, prints_stop}
+use Rattle.trace_session.proofs.LineLemmas.{Moves-trans, moves_as, stops_moved, stops_pending, stops_ended, given_moved, at_wait, out_after}
 use Rattle.trace_driver.specs.Running.{IsRunDoneAt, IsRunStoppedAt}
 use Rattle.trace_replay.specs.Refusals.{MayBeFull}
 
@@ -57,14 +57,6 @@ carried_on stands stands' stands'' number o o' o'' text rest line next so_far is
   };
 }
 
-whole_of_last : (rest : List ℕ) → whole_lines (last_piece rest) ≡ []
-whole_of_last [] = refl
-whole_of_last (b ∷ bs) = refl
-
-whole_of : (lines : List (List ℕ)) (rest : List ℕ) → whole_lines (map finished lines ++ last_piece rest) ≡ map finished lines
-whole_of [] rest = whole_of_last rest
-whole_of (line ∷ lines) rest = ap (λ ps. finished line ∷ ps) (whole_of lines rest)
-
 take_front : {X : Type 0} (xs ys : List X) (n : ℕ) → n ≡ length xs → take n (xs ++ ys) ≡ xs
 take_front [] ys n is = rw is refl
 take_front (x ∷ xs) ys n is = rw is (ap (λ zs. x ∷ zs) (take_front xs ys (length xs) refl))
@@ -75,10 +67,9 @@ pub carried_whole : (stands stands' : Config → Store → Type 0) (number : ℕ
 carried_whole stands stands' number o o' text rest free so_far = λ config store there.
     let at = so_far.carries config store there in
     let before = Carried-before config 1 store text at.carries.out at.carries.lines at.next rest at.carries.carried [] in
-    let text_is : pieces text ≡ map finished so_far.has.lines ++ last_piece rest = so_far.has.text_is ∙ ap (λ ps. map finished so_far.has.lines ++ ps) (pieces_last rest free) in
     let count : at.carries.lines ≡ length (map finished so_far.has.lines) = omega (arith, at.carries.number_is, so_far.has.number_is, length-map so_far.has.lines finished) in
-    let front : take at.carries.lines (pieces (text ++ [])) ≡ map finished so_far.has.lines = ap (λ xs. take at.carries.lines (pieces xs)) (append-nil text) ∙ ap (λ ps. take at.carries.lines ps) text_is ∙ take_front (map finished so_far.has.lines) (last_piece rest) at.carries.lines count in
-    let whole : whole_lines (pieces text) ≡ map finished so_far.has.lines = ap whole_lines text_is ∙ whole_of so_far.has.lines rest in
+    let front : take at.carries.lines (pieces (text ++ [])) ≡ map finished so_far.has.lines = ap (λ xs. take at.carries.lines (pieces xs)) (append-nil text) ∙ ap (λ ps. take at.carries.lines ps) so_far.has.text_is ∙ take_front (map finished so_far.has.lines) (pieces rest) at.carries.lines count in
+    let whole : whole_lines (pieces text) ≡ map finished so_far.has.lines = ap whole_lines so_far.has.text_is ∙ whole_lines_are so_far.has.lines rest free in
     let is : outcome_from config 1 store (whole_lines (pieces text)) ≡ record { store = at.next; output = at.carries.out; fault = None } = ap (λ ps. outcome_from config 1 store ps) (whole ∙ sym front) ∙ before in
     record { fault_is = ap (λ r. r.fault) is; held = rw (ap (λ r. r.output) is) at.carries.held }
 
@@ -96,32 +87,25 @@ module _ (stands stands' : Config → Store → Type 0) (number : ℕ) (o o' : O
   free_line line same cuts = subst HasNoFeed (sym same) cuts.free
 
   waiting : Waits b c j k → Moves a c i k (HasCarriedOut stands stands' number o o')
-  waiting waits = Moves-trans a b c i j k (λ text mid rest so_far is. subst (λ r. HasCarriedOut stands stands' number o o' text r) is so_far) moves waits.moves
+  waiting waits = at_wait a b c i j k moves waits
 
   pub is_done : Waits b c j k → length c.pending ≡ 0 → IsTrue k.ended → IsRunDoneAt stands a.pending i k o o'
   is_done waits none ended = record {
     ended = ended;
-    prints = OfGiven-moved a c i k (λ text so_far. λ config store there. let at = so_far.carries config store there in ends_done config 1 store text number at.next c.pending o o' at.carries none) (waiting waits);
+    prints = given_moved a c i k (waiting waits) (λ text so_far. λ config store there. let at = so_far.carries config store there in ends_done config 1 store text number at.next c.pending o o' at.carries none);
   }
 
   pub is_unfinished : Waits b c j k → 0 < length c.pending → length c.pending ≤ 4096 → IsTrue k.ended → OfInput a.pending i k (λ text. AtEach stands (λ config store. Prints (outcome_from config 1 store (pieces text)) (Some (number, UnfinishedLine)) o o'))
   is_unfinished waits some short ended =
-      OfInput-ended a c i k ended (λ text so_far. λ config store there. let at = so_far.carries config store there in ends_unfinished config 1 store text number at.next c.pending o o' at.carries waits.free some short) (waiting waits)
+      stops_ended a c i k (waiting waits) ended (λ text so_far. λ config store there. let at = so_far.carries config store there in ends_unfinished config 1 store text number at.next c.pending o o' at.carries waits.free some short)
 
   pub is_too_long : Waits b c j k → 4096 < length c.pending → OfInput a.pending i k (λ text. AtEach stands (λ config store. Prints (outcome_from config 1 store (pieces text)) (Some (number, LineTooLong)) o o'))
   is_too_long waits long =
-      let m = waiting waits in
-      record {
-        bytes = m.bytes;
-        gave = m.gave;
-        holds = λ more ends. λ config store there.
-            let at = (m.holds more).carries config store there in
-            ends_long_whatever config 1 store _ number at.next c.pending more o o' at.carries waits.free long;
-      }
+      stops_pending a c i k (waiting waits) (λ text more so_far. λ config store there. let at = so_far.carries config store there in ends_long config 1 store text number at.next c.pending more o o' at.carries waits.free long)
 
   pub is_cut_off : (failed same failed_read : Type 0) → (failed → failed_read) → Waits b c j k → failed ⊎ (same × IsOutOfReads b.reads j k)
       → OfGiven a.pending i k (λ text. AtEach stands (λ config store. Prints (outcome_from config 1 store (whole_lines (pieces text))) None o o')) × (failed_read ⊎ IsOutOfReads a.reads i k)
-  is_cut_off failed same failed_read told waits why = (OfGiven-moved a c i k (λ text so_far. carried_whole stands stands' number o o' text c.pending waits.free so_far) (waiting waits), out why)
+  is_cut_off failed same failed_read told waits why = (given_moved a c i k (waiting waits) (λ text so_far. carried_whole stands stands' number o o' text c.pending waits.free so_far), out why)
     where
       out : failed ⊎ (same × IsOutOfReads b.reads j k) → failed_read ⊎ IsOutOfReads a.reads i k
       out (inl failed) = inl (told failed)
@@ -130,7 +114,7 @@ module _ (stands stands' : Config → Store → Type 0) (number : ℕ) (o o' : O
   -- the line was carried out
   pub goes_on : (line : List ℕ) → line ≡ c.line → (stands'' : Config → Store → Type 0) (o'' : Output) → Cuts b c j k → AtEach stands' (λ config store. StepsTo stands'' config (line_step config store line) o' o'') → Moves a c i k (HasCarriedOut stands stands'' (number + 1) o o'')
   goes_on line same stands'' o'' cuts steps =
-      Moves-map a c i k (λ text rest at. carried_on stands stands' stands'' number o o' o'' text at.mid line rest at.so_far at.mid_is (free_line line same cuts) steps) (at_line line same cuts)
+      moves_as a c i k (at_line line same cuts) (λ text rest at. carried_on stands stands' stands'' number o o' o'' text at.mid line rest at.so_far at.mid_is (free_line line same cuts) steps)
 
   -- its fault is that of the run
   pub line_stops : (line : List ℕ) → line ≡ c.line → (n : ℕ) (boxed : Type 0) {T : Type 0} (output : T → Output) (before new : T) (failed failed_read failed_write : Type 0) → output before ≡ o' → (failed → failed_write) → Cuts b c j k → (e : Fault)
@@ -142,23 +126,21 @@ module _ (stands stands' : Config → Store → Type 0) (number : ℕ) (o o' : O
       ⊥ failed
       → IsRunStoppedAt stands n boxed a.pending a.reads i k o (output new) failed_read failed_write e
   line_stops line same_line n boxed output before new failed failed_read failed_write same told cuts (BadTrace at kind) f =
-      OfInput-moved a c i k
+      stops_moved a c i k (at_line line same_line cuts)
       (λ text rest l. λ config store there. prints_stop config 1 store text at kind o (output new)
       (fault_of_line stands stands' 1 text number l.mid o o' l.so_far.carries line rest l.mid_is (free_line line same_line cuts) (MayBeFull n) output before new failed (BadTrace at kind) same f config store there))
-      (at_line line same_line cuts)
   line_stops line same_line n boxed output before new failed failed_read failed_write same told cuts (BadSchedule at kind) f = absurd f
   line_stops line same_line n boxed output before new failed failed_read failed_write same told cuts (HeapFull at) f =
-      OfInput-moved a c i k (λ text rest l. fault_of_line stands stands' 1 text number l.mid o o' l.so_far.carries line rest l.mid_is (free_line line same_line cuts) (MayBeFull n) output before new failed (HeapFull at) same f) (at_line line same_line cuts)
+      stops_moved a c i k (at_line line same_line cuts) (λ text rest l. fault_of_line stands stands' 1 text number l.mid o o' l.so_far.carries line rest l.mid_is (free_line line same_line cuts) (MayBeFull n) output before new failed (HeapFull at) same f)
   line_stops line same_line n boxed output before new failed failed_read failed_write same told cuts (NoMemory at) f =
-      OfInput-moved a c i k (λ text rest l. fault_of_line stands stands' 1 text number l.mid o o' l.so_far.carries line rest l.mid_is (free_line line same_line cuts) (MayBeFull n) output before new failed (NoMemory at) same f) (at_line line same_line cuts)
+      stops_moved a c i k (at_line line same_line cuts) (λ text rest l. fault_of_line stands stands' 1 text number l.mid o o' l.so_far.carries line rest l.mid_is (free_line line same_line cuts) (MayBeFull n) output before new failed (NoMemory at) same f)
   line_stops line same_line n boxed output before new failed failed_read failed_write same told cuts (Unsettled at) f = (
     f.1,
-    OfInput-moved a c i k
+    stops_moved a c i k (at_line line same_line cuts)
         (λ text rest l. leaves stands stands' 1 text number l.mid o o' l.so_far.carries line rest l.mid_is (free_line line same_line cuts) (λ config. Silently (IsSoundTraceLine config)) (Some at) (ap (λ x. Some x) f.0) (output new)
         (λ config store there.
         let here = f.2 config store there in
-        rw (here.1, same) (record { written = []; held = Appends-nil o'; holds = (here.0, refl) })))
-        (at_line line same_line cuts),
+        rw (here.1, same) (record { written = []; held = Appends-nil o'; holds = (here.0, refl) }))),
   )
   line_stops line same_line n boxed output before new failed failed_read failed_write same told cuts ReadFailed f = absurd f
   line_stops line same_line n boxed output before new failed failed_read failed_write same told cuts WriteFailed f = told f

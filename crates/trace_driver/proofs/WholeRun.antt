@@ -11,18 +11,16 @@ use Rattle.trace_session.specs.Lines.{LinesValue}
 use Rattle.trace_session.specs.Sound.{IsSoundTraceLine}
 use Rattle.trace_session.specs.Carried.{Silently, LeavesBefore, LeavesOutput}
 use Rattle.trace_session.specs.Stepped.{AtEach}
+use Rattle.trace_session.proofs.LineLemmas.{OfInput-map, OfGiven-map}
 use Rattle.trace_session.proofs.TextLemmas.{leaves_output}
 use Rattle.trace_replay.specs.Refusals.{MayBeFull}
 use Rattle.trace_driver.specs.Running.{IsRunDone, IsRunDoneAt, IsRunStopped, IsRunStoppedAt}
-
-input_map : {P Q : List ℕ → Type 0} (i j : Input) → ((text : List ℕ) → P text → Q text) → OfInput [] i j P → OfInput [] i j Q
-input_map i j f of = record { bytes = of.bytes; gave = of.gave; holds = λ more ends. f _ (of.holds more ends) }
 
 module _ (stands : Config → Store → Type 0) (config : Config) (begins : stands config (empty_store config)) (i i' : Input) (o o' : Output) where
   done_whole : IsRunDoneAt stands [] i i' o o' → IsRunDone config i i' o o'
   done_whole done = record {
     ended = done.ended;
-    prints = record { bytes = done.prints.bytes; gave = done.prints.gave; holds = done.prints.holds config (empty_store config) begins };
+    prints = OfGiven-map [] i i' done.prints (λ text prints. prints config (empty_store config) begins);
   }
 
   leaves : (P : Config → Store → List ℕ → List ℕ → Type 0) (none : Type 0) (line : Option ℕ) → OfInput [] i i' (λ text. AtEach stands (λ c store. LeavesBefore (P c) c 1 store text line o o')) → MatchOption line none (λ at. OfInput [] i i' (LeavesOutput (P config) config at o o'))
@@ -30,18 +28,18 @@ module _ (stands : Config → Store → Type 0) (config : Config) (begins : stan
       let left = of.holds [] (λ _. refl) config (empty_store config) begins in
       let no : None ≡ Some (1 + left.lines) = left.line_is in
       absurd (cc)
-  leaves P none (Some at) of = input_map i i' (λ text before. leaves_output (P config) config text at o o' (before config (empty_store config) begins)) of
+  leaves P none (Some at) of = OfInput-map [] i i' of (λ text before. leaves_output (P config) config text at o o' (before config (empty_store config) begins))
 
   leaves_at : (P : Config → Store → List ℕ → List ℕ → Type 0) (at : ℕ) → OfInput [] i i' (λ text. AtEach stands (λ c store. LeavesBefore (P c) c 1 store text (Some at) o o')) → OfInput [] i i' (LeavesOutput (P config) config at o o')
-  leaves_at P at of = input_map i i' (λ text before. leaves_output (P config) config text at o o' (before config (empty_store config) begins)) of
+  leaves_at P at of = OfInput-map [] i i' of (λ text before. leaves_output (P config) config text at o o' (before config (empty_store config) begins))
 
   stopped_whole : (n : ℕ) (boxed untouched failed_read failed_write : Type 0) (e : Fault) → IsRunStoppedAt stands n boxed [] (2 ^ 64 - 1) i i' o o' failed_read failed_write e → IsRunStopped config n boxed untouched i i' o o' failed_read failed_write e
-  stopped_whole n boxed untouched failed_read failed_write (BadTrace line kind) f = input_map i i' (λ text prints. prints config (empty_store config) begins) f
+  stopped_whole n boxed untouched failed_read failed_write (BadTrace line kind) f = OfInput-map [] i i' f (λ text prints. prints config (empty_store config) begins)
   stopped_whole n boxed untouched failed_read failed_write (BadSchedule line kind) f = absurd f
   stopped_whole n boxed untouched failed_read failed_write (HeapFull line) f = leaves (λ c. Silently (MayBeFull n c)) _ line f
   stopped_whole n boxed untouched failed_read failed_write (NoMemory line) f = leaves IsSoundSoFar _ line f
   stopped_whole n boxed untouched failed_read failed_write (Unsettled at) f = (f.0, leaves_at (λ c. Silently (IsSoundTraceLine c)) at f.1)
-  stopped_whole n boxed untouched failed_read failed_write ReadFailed f = (record { bytes = f.0.bytes; gave = f.0.gave; holds = f.0.holds config (empty_store config) begins }, f.1)
+  stopped_whole n boxed untouched failed_read failed_write ReadFailed f = (OfGiven-map [] i i' f.0 (λ text prints. prints config (empty_store config) begins), f.1)
   stopped_whole n boxed untouched failed_read failed_write WriteFailed f = f
 
   -- of the lines of an input of which nothing was read yet

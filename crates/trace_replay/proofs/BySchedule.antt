@@ -49,7 +49,7 @@ use Rattle.trace_replay.specs.Brought.{IsBrought, BringsToCommit}
 use Rattle.trace_replay.specs.Replays.{State, HasCollected, CollectsTo, state_of}
 use Rattle.trace_replay.specs.ReplayStops.{OpensSchedule, AfterCollect, HasTraceFault, HasScheduleFault, WantsBlocks, IsSoundAt, LeavesNothingWhole, outside, inside}
 use Rattle.trace_replay.specs.ReplayStops as stops
-use Rattle.trace_replay.proofs.LinesRead.{OfInput-map, OfGiven-map, moves_as, stops_moved}
+use Rattle.trace_session.proofs.LineLemmas.{OfInput-map, OfGiven-map, moves_as, stops_moved}
 
 -- the lines of a schedule are events, one after another
 module _ (setting : Setting) where

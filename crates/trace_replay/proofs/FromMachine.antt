@@ -27,7 +27,7 @@ use Rattle.machine.specs.Events.{IsSameCollection, IsShortOfBlocks, Opens}
 use Rattle.machine.specs.Settles.{Settles}
 use Rattle.trace_replay.specs.Runs.{Finishes, IsSchedule}
 use Rattle.trace_replay.specs.Stops.{IsUnreadable, IsFaulty, IsRefusedBlocks, IsSoundLine, IsUsedUp, OfLine, StopsAt, StopsWith, IsStuckAfter, faulty, not_ended}
-use Rattle.trace_replay.proofs.LinesRead.{OfInput-map, moves_as, stops_moved}
+use Rattle.trace_session.proofs.LineLemmas.{OfInput-map, moves_as, stops_moved}
 use Rattle.trace_replay.specs.Brought.{IsBrought, BringsToCommit, ComesToCommit}
 
 -- what can't be refused holds

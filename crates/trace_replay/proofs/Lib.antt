@@ -1,7 +1,5 @@
 -- How a replay goes on, and where it stops.
 
--- How lines are read one after another.
-pub mod LinesRead
 -- How a schedule goes on, where it stops, and what it brings to a commit.
 pub mod SchedulesLineByLine
 pub mod SchedulesRead

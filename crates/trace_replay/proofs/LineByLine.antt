@@ -17,7 +17,7 @@ use Rattle.trace_session.specs.declared.session.Session.{Session}
 use Rattle.trace_session.specs.Session.{Stands}
 use Rattle.trace_replay.specs.Replays.{State, state_of, Steps, StepsWithRoom, Replays, stay, step, with_room, collection, CollectsTo, LineReplayed, ReplaysTo, ReplaysAll}
 use Rattle.trace_replay.specs.ReplayStops.{HasTraceFault, Quietly, StopsIn, LeavesNothingWhole, ReplaysWholeIn, outside}
-use Rattle.trace_replay.proofs.LinesRead.{BeginsLong, long_finished, long_unfinished}
+use Rattle.trace_session.proofs.PieceLemmas.{BeginsLong, long_finished, long_unfinished}
 
 -- what follows for each answer
 pub if_ok : {T E : Type 0} {P Q : T → Type 0} → ((x : T) → P x → Q x) → (r : Result T E) → IfOk r P → IfOk r Q

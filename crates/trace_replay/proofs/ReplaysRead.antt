@@ -19,7 +19,8 @@ use Rattle.trace_session.proofs.LineLemmas.{Moves-trans, OfInput-here}
 use Rattle.trace_replay.specs.Replays.{state_of, CollectsTo, LineReplayed, ReplaysTo, ReplaysAll}
 use Rattle.trace_replay.specs.ReplayStops.{AfterCollect, HasTraceFault, HasScheduleFault, WantsRoom, WantsBlocks, IsLineSoFar, IsSoundAt, Quietly, StopsIn, LeavesNothingWhole, ReplaysWholeIn, outside}
 use Rattle.trace_replay.specs.ReplayStops as stops
-use Rattle.trace_replay.proofs.LinesRead.{at_line, at_wait, OfInput-map, OfGiven-map, moves_as, stops_pending, stops_ended, given_moved, stops_after, given_after, begins_long, no_whole_lines}
+use Rattle.trace_session.proofs.LineLemmas.{at_line, at_wait, OfInput-map, OfGiven-map, moves_as, stops_pending, stops_ended, given_moved, stops_after, given_after}
+use Rattle.trace_session.proofs.PieceLemmas.{begins_long, no_whole_lines}
 use Rattle.trace_replay.proofs.LineByLine as by_text
 
 -- ---- the line that was cut off last

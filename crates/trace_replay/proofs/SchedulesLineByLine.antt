@@ -22,7 +22,7 @@ use Rattle.trace_session.specs.Faults.{MatchEachFault}
 use Rattle.trace_session.specs.Pieces.{HasNoFeed, Piece, finished, unfinished, pieces, whole_lines}
 use Rattle.trace_session.proofs.PieceLemmas.{pieces_line, pieces_last}
 use Rattle.trace_replay.specs.Naming.{HasFewWorkers, meant}
-use Rattle.trace_replay.proofs.LinesRead.{BeginsLong, long_finished, long_unfinished, whole_lines_are}
+use Rattle.trace_session.proofs.PieceLemmas.{BeginsLong, long_finished, long_unfinished, whole_lines_are}
 use Rattle.machine.specs.MachineValue.{MachineValue, setting_in}
 use Rattle.machine.specs.Events.{IsSameCollection, IsFullForEvent, IsShortOfBlocks}
 use Rattle.trace_replay.specs.Runs.{Brings, LinesRun, stay, go, BringsOn, HasCarried, IsSchedule}

@@ -17,7 +17,8 @@ use Rattle.machine.specs.MachineValue.{MachineValue, setting_in}
 use Rattle.machine.specs.Events.{IsSameCollection, IsShortOfBlocks}
 use Rattle.trace_replay.specs.Runs.{BringsOn, HasCarried, IsSchedule}
 use Rattle.trace_replay.specs.Stops.{IsUnreadable, IsFaulty, IsRefusedBlocks, IsShort, IsSoundLine, IsUsedUp, OfLine, StopsAt, StopsWith}
-use Rattle.trace_replay.proofs.LinesRead.{at_line, at_wait, moves_as, stops_moved, stops_pending, stops_ended, given_moved, begins_long}
+use Rattle.trace_session.proofs.LineLemmas.{at_line, at_wait, moves_as, stops_moved, stops_pending, stops_ended, given_moved}
+use Rattle.trace_session.proofs.PieceLemmas.{begins_long}
 use Rattle.trace_replay.proofs.SchedulesLineByLine as by_text
 use Rattle.trace_replay.proofs.SchedulesLineByLine.{carried_none}
 

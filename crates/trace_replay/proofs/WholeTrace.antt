@@ -14,7 +14,7 @@ use Rattle.trace_session.specs.declared.session.Session.{Session}
 use Rattle.trace_session.specs.Session.{Stands}
 use Rattle.trace_replay.specs.Replays.{State, state_of, ReplaysAll, IsReplayed}
 use Rattle.trace_replay.specs.ReplayStops.{HasTraceFault, HasScheduleFault, WantsBlocks, IsSoundAt, Quietly, StopsIn, Stops, ReplaysWholeIn, ReplaysWhole, IsReplayDone, IsReplayStopped}
-use Rattle.trace_replay.proofs.LinesRead.{OfInput-map, OfGiven-map}
+use Rattle.trace_session.proofs.LineLemmas.{OfInput-map, OfGiven-map}
 
 -- before the first read
 abbrev pub IsFresh : LinesValue → Type 0

@@ -1,10 +1,9 @@
 -- The pieces of a text that begins with a line.
-use Rattle.std.proofs.lemmas.List.Prefix.{end_rest}
-use Rattle.std.proofs.Common.{◌≡◌, ℕ, ◌-◌, ◌<◌, arith, rules, length, length-append, take, drop, take-append-drop, append_assoc, Bool, cond, true, false, List, [], ◌∷◌, ◌++◌, refl, sym, ap, ◌∙◌, suc}
+use Rattle.std.proofs.Common.{◌≡◌, ℕ, ◌<◌, arith, rules, length, length-append, map, Bool, cond, true, false, List, [], ◌∷◌, ◌++◌, refl, ap, ◌∙◌, suc}
 use Rattle.std.specs.Prelude.{◌==◌, nat_lt}
 use Rattle.std.specs.List.{slice_split, onto_first, AllByRecursion}
 use Rattle.std.proofs.lemmas.List.Splits.{slice_split_none, slice_split_at}
-use Rattle.trace_session.specs.Pieces.{HasNoFeed, Piece, finished, unfinished, last_piece, pieces_of, pieces}
+use Rattle.trace_session.specs.Pieces.{HasNoFeed, Piece, finished, unfinished, last_piece, pieces_of, pieces, whole_lines}
 
 -- a part that is not the last is a finished line
 not_last : (line : List ℕ) (ends : Bool) (b : ℕ) (parts : List (List ℕ)) → pieces_of (line ∷ cond ends ([] ∷ parts) (onto_first b parts)) ≡ finished line ∷ pieces_of (cond ends ([] ∷ parts) (onto_first b parts))
@@ -23,14 +22,6 @@ pieces_line line rest free = rw (slice_split_at (λ byte. byte == 10) line 10 re
 pub pieces_last : (text : List ℕ) → HasNoFeed text → pieces text ≡ last_piece text
 unfolding pieces
 pieces_last text free = rw (slice_split_none (λ byte. byte == 10) text free) refl
-
--- what follows the first line of an end of the text is an end of it too
-pub suffix_next : (text rest line next : List ℕ) → drop (length text - length rest) text ≡ rest → rest ≡ line ++ 10 ∷ next → drop (length text - length next) text ≡ next
-suffix_next text rest line next end is =
-    let k = length text - length rest in
-    let regrouped : line ++ 10 ∷ next ≡ (line ++ 10 ∷ []) ++ next = sym (append_assoc line (10 ∷ []) next) in
-    let split : text ≡ (take k text ++ (line ++ 10 ∷ [])) ++ next = sym (take-append-drop k text) ∙ ap (λ xs. take k text ++ xs) (end ∙ is ∙ regrouped) ∙ sym (append_assoc (take k text) (line ++ 10 ∷ []) next) in
-    end_rest text next (take k text ++ (line ++ 10 ∷ [])) split
 
 -- a line that has begun, and what follows it
 pub record BeginsWith (front : List ℕ) (text : List ℕ) : Type 0 where
@@ -54,26 +45,41 @@ begins_with (b ∷ bs) text free =
     let rest = begins_with bs text free.1 in
     record { more = rest.more; others = rest.others; parts = rw (free.0, rest.parts) refl }
 
--- the first piece has more bytes than a line may have
-pub data StartsLong (text : List ℕ) : Type 0 where
-  long_finished : (front : List ℕ) (rest : List Piece) → pieces text ≡ finished front ∷ rest → 4096 < length front → StartsLong text
-  long_unfinished : (front : List ℕ) → pieces text ≡ unfinished front ∷ [] → 4096 < length front → StartsLong text
+-- the first piece is longer than a line may be
+pub data BeginsLong (all : List Piece) : Type 0 where
+  long_finished : {line : List ℕ} {more : List Piece} → all ≡ finished line ∷ more → 4096 < length line → BeginsLong all
+  long_unfinished : {line : List ℕ} → all ≡ unfinished line ∷ [] → 4096 < length line → BeginsLong all
 
-long_of_parts : (text front more : List ℕ) (others : List (List ℕ)) → slice_split (λ byte. byte == 10) text ≡ (front ++ more) ∷ others → 4096 < length front → StartsLong text
-unfolding pieces
-long_of_parts text front more (next ∷ others) parts long = long_finished (front ++ more) (pieces_of (next ∷ others)) (ap pieces_of parts) (omega (arith, long, length-append front more))
-long_of_parts text [] more [] parts long = absurd (omega (arith, long))
-long_of_parts text (b ∷ bs) more [] parts long = long_unfinished (b ∷ bs ++ more) (ap pieces_of parts) (omega (arith, long, length-append (b ∷ bs) more))
+last_piece_long : (line : List ℕ) → 4096 < length line → last_piece line ≡ unfinished line ∷ []
+last_piece_long [] long = absurd (omega (arith, long))
+last_piece_long (b ∷ bs) long = refl
+
+long_by_parts : (parts : List (List ℕ)) (first : List ℕ) (others : List (List ℕ)) → 4096 < length first → parts ≡ first ∷ others → BeginsLong (pieces_of parts)
+long_by_parts parts first [] long is = long_unfinished {line = first} (ap pieces_of is ∙ last_piece_long first long) long
+long_by_parts parts first (next ∷ others) long is = long_finished {line = first} {more = pieces_of (next ∷ others)} (ap pieces_of is) long
 
 each_of : (text : List ℕ) → HasNoFeed text → AllByRecursion (λ byte. (byte == 10) ≡ false) text
 each_of [] free = tt
 each_of (b ∷ bs) free = (free 0 0 (omega arith), each_of bs (λ k d low. free (suc k) d (omega (arith, low))))
 
 -- so many bytes without a line feed, whatever follows them
-pub starts_long : (front more : List ℕ) → HasNoFeed front → 4096 < length front → StartsLong (front ++ more)
-starts_long front more free long =
-    let begun = begins_with front more (each_of front free) in
-    long_of_parts (front ++ more) front begun.more begun.others begun.parts long
+pub begins_long : (front more : List ℕ) → HasNoFeed front → 4096 < length front → BeginsLong (pieces (front ++ more))
+unfolding pieces
+begins_long front more free long =
+    let begins = begins_with front more (each_of front free) in
+    long_by_parts (slice_split (λ byte. byte == 10) (front ++ more)) (front ++ begins.more) begins.others (omega (arith, long, length-append front begins.more)) begins.parts
+
+none_whole : (text : List ℕ) → whole_lines (last_piece text) ≡ []
+none_whole [] = refl
+none_whole (b ∷ bs) = refl
+
+-- what has no line feed has no whole line
+pub no_whole_lines : (rest : List ℕ) → HasNoFeed rest → whole_lines (pieces rest) ≡ []
+no_whole_lines rest free = ap whole_lines (pieces_last rest free) ∙ none_whole rest
+
+pub whole_lines_are : (lines : List (List ℕ)) (rest : List ℕ) → HasNoFeed rest → whole_lines (map finished lines ++ pieces rest) ≡ map finished lines
+whole_lines_are [] rest free = no_whole_lines rest free
+whole_lines_are (line ∷ lines) rest free = ap (λ ps. finished line ∷ ps) (whole_lines_are lines rest free)
 
 pub long_line : (text : List ℕ) → 4096 < length text → nat_lt 4096 (length text) ≡ true
 long_line text long = search rules

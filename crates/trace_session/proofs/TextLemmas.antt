@@ -1,5 +1,5 @@
 -- A text carried out to its end.
-use Rattle.std.proofs.Common.{◌≡◌, ℕ, ◌+◌, ◌-◌, ◌<◌, ◌≤◌, true, false, List, [], ◌∷◌, ◌++◌, take, length, Option, Some, None, Err, refl, ap, ◌∙◌, append-nil, arith, rules}
+use Rattle.std.proofs.Common.{◌≡◌, ℕ, ◌+◌, ◌-◌, ◌<◌, ◌≤◌, false, List, [], ◌∷◌, ◌++◌, take, length, Option, Some, None, Err, refl, ap, ◌∙◌, append-nil, arith, rules}
 use Rattle.std.specs.Prelude.{nat_lt, slice_get}
 use Rattle.heap_text.specs.Streams.{Output}
 use Rattle.model.specs.declared.kind.Kind.{Kind}
@@ -10,7 +10,7 @@ use Rattle.trace_session.specs.Pieces.{HasNoFeed, finished, pieces}
 use Rattle.trace_text.specs.Grammar.{entry_of}
 use Rattle.trace_session.specs.Outcome.{after, outcome_from, outcome_before, line_step}
 use Rattle.trace_session.specs.Carried.{CarriesOut, StopsAt, LeavesBefore, LeavesOutput, Prints}
-use Rattle.trace_session.proofs.PieceLemmas.{pieces_last, StartsLong, long_finished, long_unfinished, starts_long, long_line}
+use Rattle.trace_session.proofs.PieceLemmas.{pieces_last, BeginsLong, long_finished, long_unfinished, begins_long, long_line}
 use Rattle.trace_session.proofs.CarriedLemmas.{Carried-whole}
 
 -- the rest after the lines that were carried out ends the run
@@ -31,20 +31,14 @@ unfinished_is config number store (b ∷ bs) free some short =
     let fits : nat_lt 4096 (length (b ∷ bs)) ≡ false = search rules in
     rw (pieces_last (b ∷ bs) free, fits) refl
 
-long_is : (config : Config) (number : ℕ) (store : Store) (rest : List ℕ) → HasNoFeed rest → 4096 < length rest → outcome_from config number store (pieces rest) ≡ record { store = store; output = []; fault = Some (number, LineTooLong) }
-long_is config number store [] free long = absurd (omega arith)
-long_is config number store (b ∷ bs) free long =
-    let too_long : nat_lt 4096 (length (b ∷ bs)) ≡ true = search rules in
-    rw (pieces_last (b ∷ bs) free, too_long) refl
-
 line_too_long : (config : Config) (store : Store) (text : List ℕ) → 4096 < length text → line_step config store text ≡ Err LineTooLong
 unfolding line_step entry_of
 line_too_long config store text long = rw (long_line text long) refl
 
 -- a text that begins with more bytes than a line may have
-long_starts : (config : Config) (number : ℕ) (store : Store) (text : List ℕ) → StartsLong text → outcome_from config number store (pieces text) ≡ record { store = store; output = []; fault = Some (number, LineTooLong) }
-long_starts config number store text (long_finished front rest is long) = rw (is, line_too_long config store front long) refl
-long_starts config number store text (long_unfinished front is long) = rw (is, long_line front long) refl
+long_starts : (config : Config) (number : ℕ) (store : Store) (text : List ℕ) → BeginsLong (pieces text) → outcome_from config number store (pieces text) ≡ record { store = store; output = []; fault = Some (number, LineTooLong) }
+long_starts config number store text (long_finished {line = front} is long) = rw (is, line_too_long config store front long) refl
+long_starts config number store text (long_unfinished {line = front} is long) = rw (is, long_line front long) refl
 
 done_is : (config : Config) (number : ℕ) (store : Store) (rest : List ℕ) → length rest ≡ 0 → outcome_from config number store (pieces rest) ≡ record { store = store; output = []; fault = None }
 unfolding pieces
@@ -58,14 +52,11 @@ module _ (config : Config) (number : ℕ) (store : Store) (text : List ℕ) (num
   pub ends_unfinished : HasNoFeed rest → 0 < length rest → length rest ≤ 4096 → Prints (outcome_from config number store (pieces text)) (Some (number', UnfinishedLine)) old new
   ends_unfinished free some short = ends_as config number store text number' store' rest old new _ carries (unfinished_is config number' store' rest free some short)
 
-  pub ends_long : HasNoFeed rest → 4096 < length rest → Prints (outcome_from config number store (pieces text)) (Some (number', LineTooLong)) old new
-  ends_long free long = ends_as config number store text number' store' rest old new _ carries (long_is config number' store' rest free long)
-
 -- so many bytes without a line feed, whatever follows them
-pub ends_long_whatever : (config : Config) (number : ℕ) (store : Store) (text : List ℕ) (number' : ℕ) (store' : Store) (rest more : List ℕ) (old new : Output) → CarriesOut config number store text number' store' (rest ++ more) old new → HasNoFeed rest → 4096 < length rest
+pub ends_long : (config : Config) (number : ℕ) (store : Store) (text : List ℕ) (number' : ℕ) (store' : Store) (rest more : List ℕ) (old new : Output) → CarriesOut config number store text number' store' (rest ++ more) old new → HasNoFeed rest → 4096 < length rest
     → Prints (outcome_from config number store (pieces text)) (Some (number', LineTooLong)) old new
-ends_long_whatever config number store text number' store' rest more old new carries free long =
-    ends_as config number store text number' store' (rest ++ more) old new _ carries (long_starts config number' store' (rest ++ more) (starts_long rest more free long))
+ends_long config number store text number' store' rest more old new carries free long =
+    ends_as config number store text number' store' (rest ++ more) old new _ carries (long_starts config number' store' (rest ++ more) (begins_long rest more free long))
 
 pub prints_stop : (config : Config) (number : ℕ) (store : Store) (text : List ℕ) (line : ℕ) (kind : Kind) (old new : Output) → StopsAt config number store text line kind old new → Prints (outcome_from config number store (pieces text)) (Some (line, kind)) old new
 prints_stop config number store text line kind old new at =

@@ -1,12 +1,12 @@
 use Rattle.std.proofs.Common.{refl, arith, ap, ◌+◌, ◌∙◌}
 use Rattle.trace_session.specs.declared.trace_lines.lines.Next.TheVariants.{Line, TooLong, Unfinished, End}
-use Rattle.trace_session.proofs.LineLemmas.{Moves-nil, Moves-map}
+use Rattle.trace_session.proofs.LineLemmas.{Moves-nil, moves_as}
 use Rattle.trace_driver.proofs.LineByLine.{carried_none, found_is, goes_on, is_done, is_unfinished, is_too_long, is_cut_off, line_stops, not_unsettled}
 use Rattle.trace_driver.proofs.running.carry_out_lines.Goals as goal
 
 pub loop-session-init : goal.loop-session-init
 loop-session-init g c = record {
-  moves = Moves-map _ _ _ _ (λ text rest same. carried_none _ _ text rest same) (Moves-nil _ _);
+  moves = moves_as _ _ _ _ (Moves-nil _ _) (λ text rest same. carried_none _ _ text rest same);
   room = omega arith;
   reads = refl;
   writes = refl;

@@ -1,6 +1,6 @@
 use Rattle.std.proofs.Common.{refl, subst, ◌∙◌, arith}
 use Rattle.trace_session.specs.Lines.{Found}
-use Rattle.trace_replay.proofs.LinesRead.{at_line, reads_fail, reads_failed}
+use Rattle.trace_session.proofs.LineLemmas.{at_line, reads_fail, reads_failed}
 use Rattle.trace_replay.proofs.ReplaysRead.{starts, goes_on, fault_of_next, ends_long, ends_unfinished, ends_whole, uses_up}
 use Rattle.trace_replay.proofs.replaying.carry_out_lines.Goals as goal
 

@@ -1,7 +1,7 @@
 use Rattle.std.proofs.Common.{refl, subst, ◌∙◌, arith}
 use Rattle.trace_session.specs.Lines.{Found}
 use Rattle.trace_replay.specs.Runs.{Answers}
-use Rattle.trace_replay.proofs.LinesRead.{reads_fail}
+use Rattle.trace_session.proofs.LineLemmas.{reads_fail}
 use Rattle.trace_replay.proofs.SchedulesRead.{nothing_carried, carried_on, ends_with, fault_of_line, ends_short, ends_long, ends_unfinished, used_up}
 use Rattle.trace_replay.proofs.schedules.carrying.carry_out_schedule.Goals as goal
 
