@@ -31,10 +31,10 @@ use Rattle.workers_in_threads.specs.Kits.{IsBroughtBack, thread_of}
 use Rattle.workers_in_threads.specs.Threads.{ThreadValue}
 use Rattle.workers_in_threads.specs.Refusing.{Refusing}
 use Rattle.workers_in_threads.specs.CameBack.{CameBack, WereSettled, ArePlaced}
-use Rattle.workers_in_threads.specs.Reports.{ReportsApart, CollectsApart, IsShortOfBlocksFor}
+use Rattle.workers_in_threads.specs.Reports.{ReportsApart, CollectsApart, IsShortOfBlocksFor, IsStuckApart}
 use Rattle.workers_in_threads.proofs.Back.{threads, are, count, passes_are, draws_are, workspaces_count, each_all, each_of}
 use Rattle.workers_in_threads.proofs.Lists.{all_each, each_get, get-map, length-map}
-use Rattle.workers_in_threads.proofs.Refused.{below_bound}
+use Rattle.workers_in_threads.proofs.Refused.{below_bound, stuck_apart}
 
 some_is : {X : Type 0} {x y : X} → Some x ≡ Some y → x ≡ y
 some_is e = cc
@@ -97,13 +97,13 @@ module _ {P A : Type 0} (is_pass : ℕ → P → Type 0) (known : P → ℕ → 
   pub each_pass : (F : P → Type 0) → ((i : ℕ) (p : P) → is_pass i p → F p) → All F passes
   each_pass F f = each_all F passes (each_of is_pass F f passes passes_at)
 
-  -- where one was refused a block, fewer were free than the space bound
-  pub short : ending ≡ Refused HeapFull → ((number : ℕ) → wins_of number (all_pairs won passes) ≤ 1) → (drawn : ℕ) → length (all_drawn draws) ≡ drawn → (any_out draws ≡ true → drawn ≡ length claims.source.free) → IsShortOfBlocksFor heap c.generation n
-  short full once drawn many used words live =
+  -- where one was refused a block, all that were free were drawn
+  abbrev refusing : ending ≡ Refused HeapFull → ((number : ℕ) → wins_of number (all_pairs won passes) ≤ 1) → (drawn : ℕ) → length (all_drawn draws) ≡ drawn → (any_out draws ≡ true → drawn ≡ length claims.source.free) → Refusing P A known won
+  refusing full once drawn many used =
       let one = k.lists.full full in
       let is = k.each one.place one.element one.there in
       let out : any_out draws ≡ true = subst (λ ds. any_out ds ≡ true) (sym k.lists.draws_are) (out_there (map (λ (r : Brought P A). r.draws) k.brought) one.place one.element.draws (get-map (λ (r : Brought P A). r.draws) k.brought one.place one.element one.there) (is.out one.is)) in
-      let all : Refusing P A known won = record {
+      record {
         heap = heap;
         collection = c;
         workers = n;
@@ -116,9 +116,16 @@ module _ {P A : Type 0} (is_pass : ℕ → P → Type 0) (known : P → ℕ → 
         t = one.place;
         thread = thread_of one.element;
         there = get-map thread_of k.brought one.place one.element one.there;
+        can = is.can one.is;
         wanted = is.wanted one.is;
-      } in
-      below_bound all words live
+      }
+
+  -- so one is stuck, and fewer were free than the space bound
+  pub stuck : ending ≡ Refused HeapFull → ((number : ℕ) → wins_of number (all_pairs won passes) ≤ 1) → (drawn : ℕ) → length (all_drawn draws) ≡ drawn → (any_out draws ≡ true → drawn ≡ length claims.source.free) → IsStuckApart heap c.generation n
+  stuck full once drawn many used = stuck_apart (refusing full once drawn many used)
+
+  pub short : ending ≡ Refused HeapFull → ((number : ℕ) → wins_of number (all_pairs won passes) ≤ 1) → (drawn : ℕ) → length (all_drawn draws) ≡ drawn → (any_out draws ≡ true → drawn ≡ length claims.source.free) → IsShortOfBlocksFor heap c.generation n
+  short full once drawn many used words live = below_bound (refusing full once drawn many used) words live
 
 -- where all ended and the cells were settled, each name has its place
 pub placed : {P A C : Type 0} (is_pass : C → ℕ → P → Type 0) (known : P → ℕ → Option Place) (won : P → List (ℕ × Place)) (heap : HeapValue) (c : CollectionValue) (n : ℕ) (claims : ClaimsValue) (queues : Source A CopiesKeyValue)

@@ -29,7 +29,7 @@ use Rattle.workers.proofs.OneMore.{stepped_more, reached_more}
 use Rattle.workers.proofs.AloneSteps.{ended_in_order}
 use Rattle.workers.proofs.RunBrings.{refused_below}
 use Rattle.scavenge.specs.Named.{named}
-use Rattle.one_worker.specs.SerialValue.{SerialValue, WantsDraw, system_of, setting_in, targets_in, destinations_in, lane_of}
+use Rattle.one_worker.specs.SerialValue.{SerialValue, system_of, setting_in, targets_in, destinations_in, lane_of}
 use Rattle.scavenge.specs.Waiting.{waiting_in}
 use Rattle.scavenge.specs.ReadyToCollect.{IsReadyToCollect}
 use Rattle.collector.specs.Settling.{IsReportOf, ScansWhatItWon, exports_of}
@@ -37,7 +37,7 @@ use Rattle.settling.specs.OwnDeliveries.{own_deliveries}
 use Rattle.scavenge.proofs.OpenBlocks.{none_open}
 use Rattle.scavenge.proofs.Starts.{targets_live}
 use Rattle.one_worker.specs.Stepping.{IsOf, IsDone, IsFullForLook, HasStepped}
-use Rattle.settling.specs.Collects.{is_small_word, won_places, ScansInOrder, RunsAlone, ScansAlone, ScansOnce, CollectsAlone, IsShortOfBlocks}
+use Rattle.settling.specs.Collects.{is_small_word, won_places, ScansInOrder, RunsAlone, ScansAlone, ScansOnce, CollectsAlone, IsShortOfBlocks, IsStuckAlone}
 use Rattle.one_worker.proofs.Going.{reached_of}
 
 pub begins : (v : SerialValue) → system_of v ≡ opening (destinations_in v) 1 (targets_in v) v.heap.free → HasStepped v
@@ -48,11 +48,26 @@ pub ready_in : (heap : HeapValue) (c : CollectionValue) (v : SerialValue) → Is
 ready_in heap c v r o = subst (λ h. IsReadyToCollect h v.collection) o.heap_is (subst (IsReadyToCollect heap) o.collection_is r)
 
 -- a refused draw
-pub short_of : (heap : HeapValue) (c : CollectionValue) (v : SerialValue) → IsReadyToCollect heap c → IsOf heap c v → HasStepped v → WantsDraw v → (system_of v).free ≡ [] → IsShortOfBlocks heap c.generation
-short_of heap c v r o h wants none =
+refused_here : (v : SerialValue) → IsFullForLook v v → (system_of v).free ≡ [] → IsRefused (setting_in v) (system_of v) (Look 0)
+refused_here v full none = record { t = 0; worker = v.workspace.worker; look = refl; at = record { is = refl; awake = refl }; can = full.can; wanted = full.wants; none_free = none }
+
+-- so few were free
+pub short_of : (heap : HeapValue) (c : CollectionValue) (v : SerialValue) → IsReadyToCollect heap c → IsOf heap c v → HasStepped v → IsFullForLook v v → (system_of v).free ≡ [] → IsShortOfBlocks heap c.generation
+short_of heap c v r o h full none =
     subst (λ (d : CollectionValue). IsShortOfBlocks heap d.generation) (sym o.collection_is) (subst (λ x. IsShortOfBlocks x v.collection.generation) (sym o.heap_is)
     (λ words live. refused_below v.heap.graph v.collection.generation v.heap.config.shape v.heap.config.block_words (destinations_in v) 1 (targets_in v) v.heap.free (system_of v) (reached_of v (ready_in heap c v r o) h)
-    (targets_live v.heap v.collection (ready_in heap c v r o)) (Look 0) (record { t = 0; worker = v.workspace.worker; look = refl; at = record { is = refl; awake = refl }; wanted = wants; none_free = none }) words live))
+    (targets_live v.heap v.collection (ready_in heap c v r o)) (Look 0) (refused_here v full none) words live))
+
+-- the same worker is stuck
+pub stuck_of : (heap : HeapValue) (c : CollectionValue) (v : SerialValue) → IsReadyToCollect heap c → IsOf heap c v → HasStepped v → IsFullForLook v v → (system_of v).free ≡ [] → IsStuckAlone heap c.generation
+stuck_of heap c v r o h full none =
+    subst (λ (d : CollectionValue). IsStuckAlone heap d.generation) (sym o.collection_is) (subst (λ x. IsStuckAlone x v.collection.generation) (sym o.heap_is)
+    (record {
+      count = h.count;
+      last = system_of v;
+      run = subst (λ slots. Stepped (setting_in v) (next_alone (setting_in v)) (opening (destinations_in v) 1 (map target_of_slot slots) v.heap.free) h.count (system_of v)) (ready_in heap c v r o).opened.slots h.run;
+      stuck = record { event = Look 0; is_next = full.is_next; refused = refused_here v full none };
+    }))
 
 -- what comes next where nothing is left
 module _ (setting : Setting) (w : Worker) (queue : List Block) (out : IsOutOfWork w) (none : queue ≡ []) where

@@ -7,7 +7,7 @@ ghost use Rattle.scavenge.specs.ReadyToCollect.{IsReadyToCollect};
 ghost use Rattle.settling.specs.Collects.{ScansOnce};
 ghost use Rattle.workers_in_threads.specs.declared.sharing_worker.resting.Outcome.TheVariants as Outcome;
 ghost use Rattle.workers_in_threads.specs.CameBack.{WereSettled};
-ghost use Rattle.workers_in_threads.specs.Reports.{CollectsApart, ReportsApart, IsShortOfBlocksFor};
+ghost use Rattle.workers_in_threads.specs.Reports.{CollectsApart, ReportsApart, IsShortOfBlocksFor, IsStuckApart, IsStuckFor};
 
 use crate::{CollectError, collect_one};
 use forwarding::{BoxCells, Forwards, Gate, SettleError, SharedCells, WordCells};
@@ -122,6 +122,7 @@ fn refusal<S: SharedCells, A: Allocator>(
 ) -> ThreadsError
     requires settled { WereSettled S.is_pass S.known S.won heap.now collection.now (length seats.workspaces.items) (Outcome.Refused error) seats.claims seats.queues seats.draws.items seats.seats.items seats.workspaces.items settled }
     ensures full { result ≡ ThreadsError.HeapFull → IsShortOfBlocksFor heap.now collection.now.generation (length seats.workspaces.items) }
+    ensures stuck { result ≡ ThreadsError.HeapFull → IsStuckApart heap.now collection.now.generation (length seats.workspaces.items) }
     ensures others { (result ≢ ThreadsError.NoGeneration) × (result ≢ ThreadsError.BadConfig) × (result ≢ ThreadsError.Unsettled) }
 {
     if !is_counted(&settled) {
@@ -154,6 +155,7 @@ fn concluded<R: Wait, S: SharedCells, A: Allocator + Clone>(
     ensures once { IfOk result (λ o. IfSome o (λ s. ScansOnce heap.now collection.generation s.workers.items)) }
     ensures apart { IfOk result (λ o. IfSome o (λ s. ReportsApart heap.now collection.generation (length seats.workspaces.items) s.workers.items s.deliveries.items)) }
     ensures full { result ≡ Err ThreadsError.HeapFull → IsShortOfBlocksFor heap.now collection.generation (length seats.workspaces.items) }
+    ensures stuck { result ≡ Err ThreadsError.HeapFull → IsStuckApart heap.now collection.generation (length seats.workspaces.items) }
     ensures unsettled { result ≡ Err ThreadsError.Unsettled → settled ≡ Err settle_error.Unsettled }
     ensures others { (result ≢ Err ThreadsError.NoGeneration) × (result ≢ Err ThreadsError.BadConfig) }
 {
@@ -192,6 +194,7 @@ fn with_words<
     ensures once { IfOk result (λ o. IfSome o (λ s. ScansOnce heap.now collection.generation s.workers.items)) }
     ensures apart { IfOk result (λ o. IfSome o (λ s. ReportsApart heap.now collection.generation n s.workers.items s.deliveries.items)) }
     ensures full { result ≡ Err ThreadsError.HeapFull → IsShortOfBlocksFor heap.now collection.generation n }
+    ensures stuck { result ≡ Err ThreadsError.HeapFull → IsStuckApart heap.now collection.generation n }
     ensures never_unsettled { result ≢ Err ThreadsError.Unsettled }
     ensures others { (result ≢ Err ThreadsError.NoGeneration) × (result ≢ Err ThreadsError.BadConfig) }
 {
@@ -237,6 +240,7 @@ fn with_boxes<
     ensures once { IfOk result (λ o. IfSome o (λ s. ScansOnce heap.now collection.generation s.workers.items)) }
     ensures apart { IfOk result (λ o. IfSome o (λ s. ReportsApart heap.now collection.generation n s.workers.items s.deliveries.items)) }
     ensures full { result ≡ Err ThreadsError.HeapFull → IsShortOfBlocksFor heap.now collection.generation n }
+    ensures stuck { result ≡ Err ThreadsError.HeapFull → IsStuckApart heap.now collection.generation n }
     ensures others { (result ≢ Err ThreadsError.NoGeneration) × (result ≢ Err ThreadsError.BadConfig) }
 {
     let count = collection.cells();
@@ -282,6 +286,7 @@ fn scavenged_by<
     ensures once { IfOk result (λ o. IfSome o (λ s. ScansOnce heap.now collection.generation s.workers.items)) }
     ensures apart { IfOk result (λ o. IfSome o (λ s. ReportsApart heap.now collection.generation n s.workers.items s.deliveries.items)) }
     ensures full { result ≡ Err ThreadsError.HeapFull → IsShortOfBlocksFor heap.now collection.generation n }
+    ensures stuck { result ≡ Err ThreadsError.HeapFull → IsStuckApart heap.now collection.generation n }
     ensures words { kind ≡ CellKind.Word → result ≢ Err ThreadsError.Unsettled }
     ensures others { (result ≢ Err ThreadsError.NoGeneration) × (result ≢ Err ThreadsError.BadConfig) }
 {
@@ -311,6 +316,7 @@ pub fn collect<
     ensures config { (result ≡ Err ThreadsError.BadConfig) ↔ ((n ≡ 0) ⊎ (16 < n)) }
     ensures generation { (result ≡ Err ThreadsError.NoGeneration) ↔ ((0 < n) × (n ≤ 16) × (heap.old.config.shape.generations ≤ generation)) }
     ensures full { result ≡ Err ThreadsError.HeapFull → IsShortOfBlocksFor heap.old generation n }
+    ensures stuck { result ≡ Err ThreadsError.HeapFull → IsStuckFor heap.old generation n }
     ensures words { kind ≡ CellKind.Word → result ≢ Err ThreadsError.Unsettled }
     ensures err { OnErr result (heap.new ≡ heap.old) }
 {

@@ -1,6 +1,6 @@
 //! How a caller of many collections has them carried out.
 ghost use Rattle.std.specs.Prelude.{◌≡◌, ◌≢◌, ◌↔◌, ◌<◌, ◌≤◌, IfOk, OnErr, Err};
-ghost use Rattle.workers_in_threads.specs.Reports.{CollectsApart, IsShortOfBlocksFor};
+ghost use Rattle.workers_in_threads.specs.Reports.{CollectsApart, IsShortOfBlocksFor, IsStuckFor};
 
 use crate::apart::{CellKind, ThreadsError, collect};
 use forwarding::Gate;
@@ -57,6 +57,7 @@ impl<'a, R: Threads + Wait + Sync + AllocGlobal, G: Gate + Sync> Crew<'a, R, G> 
         ensures config { result ≢ Err ThreadsError.BadConfig }
         ensures generation { (result ≡ Err ThreadsError.NoGeneration) ↔ (heap.old.config.shape.generations ≤ generation) }
         ensures full { result ≡ Err ThreadsError.HeapFull → IsShortOfBlocksFor heap.old generation self.now.workers }
+        ensures stuck { result ≡ Err ThreadsError.HeapFull → IsStuckFor heap.old generation self.now.workers }
         ensures words { self.now.kind ≡ CellKind.Word → result ≢ Err ThreadsError.Unsettled }
         ensures err { OnErr result (heap.new ≡ heap.old) }
     {

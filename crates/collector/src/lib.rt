@@ -5,7 +5,7 @@ ghost use Rattle.std.specs.Prelude.{◌≡◌, ◌≢◌, ◌↔◌, ◌≤◌, 
 ghost use Rattle.steps.specs.ReportValue.{all_won};
 ghost use Rattle.steps.specs.SettledValue.{IsSettled};
 ghost use Rattle.scavenge.specs.ReadyToCollect.{IsReadyToCollect};
-ghost use Rattle.settling.specs.Collects.{CollectsAlone, ScansAlone, ScansOnce, IsShortOfBlocks};
+ghost use Rattle.settling.specs.Collects.{CollectsAlone, ScansAlone, ScansOnce, IsShortOfBlocks, IsStuckAlone};
 
 mod apart;
 mod crew;
@@ -70,6 +70,7 @@ fn scavenged<A: Allocator + Clone>(
     ensures scanned { IfOk result (λ s. ScansAlone heap.now collection.generation s.workers.items s.deliveries.items) }
     ensures once { IfOk result (λ s. ScansOnce heap.now collection.generation s.workers.items) }
     ensures full { result ≡ Err CollectError.HeapFull → IsShortOfBlocks heap.now collection.generation }
+    ensures stuck { result ≡ Err CollectError.HeapFull → IsStuckAlone heap.now collection.generation }
     ensures opened { result ≢ Err CollectError.NoGeneration }
 {
     let serial = SerialCollection::new(alloc.clone()?, heap, &collection, spare)?;
@@ -93,6 +94,7 @@ pub fn collect_one<A: Allocator + Clone>(
     ensures ok { IfOk result (λ report. CollectsAlone heap.old generation report.kept report.freed report.workers.items report.deliveries.items heap.new) }
     ensures no_generation { (result ≡ Err CollectError.NoGeneration) ↔ (heap.old.config.shape.generations ≤ generation) }
     ensures full { result ≡ Err CollectError.HeapFull → IsShortOfBlocks heap.old generation }
+    ensures stuck { result ≡ Err CollectError.HeapFull → IsStuckAlone heap.old generation }
     ensures err { OnErr result (heap.new ≡ heap.old) }
 {
     if generation >= heap.config().generations() as u64 {

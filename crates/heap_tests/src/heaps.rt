@@ -1,6 +1,6 @@
 //! Heaps of any size, what is seen of them, and collections of them.
 use collector::{CollectError, collect_one};
-use heap::{AllocateError, Config, Heap, OpenError, RootId, Sizes};
+use heap::{AllocateError, Config, Heap, NoRoot, OpenError, RootId, Sizes};
 use heap_text::{Counted, write_census};
 use std::alloc::{Allocator, Global};
 use std::process::Abort;
@@ -103,4 +103,63 @@ pub(crate) fn census_of<A: Allocator + Clone>(
 pub(crate) fn free_count(alloc: Global, heap: &Heap<Global>) -> Result<usize, OpenError> {
     let collection = heap.open_collection(alloc, 0)?;
     Ok(collection.free().len())
+}
+
+/// A new object, with a collection of the young before it where the nursery is full.
+pub(crate) fn allocated<A: Allocator + Clone>(
+    alloc: A,
+    heap: &mut Heap<A>,
+    pointers: u64,
+    plain: u64,
+) -> Result<RootId, Fail> {
+    match heap.allocate(0, pointers, plain) {
+        Ok(root) => Ok(root),
+        Err(AllocateError::NurseryFull) => {
+            let _counts = collected(alloc, heap)?;
+            Ok(heap.allocate(0, pointers, plain)?)
+        }
+        Err(error) => Err(Fail::from(error)),
+    }
+}
+
+/// Makes so many objects with so many plain words, of which the first tells how many were made before.
+pub(crate) fn marked_roots(
+    alloc: Global,
+    heap: &mut Heap<Global>,
+    count: u64,
+    plain: u64,
+) -> Result<Vec<RootId>, Fail> {
+    let mut roots = Vec::new(alloc);
+    for mark in 0..count {
+        let root = allocated(alloc, heap, 0, plain)?;
+        heap.put(root, 0, mark)?;
+        roots.push(root)?;
+    }
+    Ok(roots)
+}
+
+/// Gives up the roots, but for the first one and each that stands a multiple of `apart` behind it.
+pub(crate) fn release_others(
+    heap: &mut Heap<Global>,
+    roots: &[RootId],
+    apart: usize,
+) -> Result<(), NoRoot> {
+    for at in 0..roots.len() {
+        if at % apart != 0 {
+            heap.release(roots[at])?;
+        }
+    }
+    Ok(())
+}
+
+/// Asserts that each root that was not given up so leads to the object of its mark, and that the others are no roots.
+pub(crate) fn assert_marks(rt: &impl Abort, heap: &Heap<Global>, roots: &[RootId], apart: usize) {
+    for at in 0..roots.len() {
+        let mark = if at % apart == 0 {
+            Some(at as u64)
+        } else {
+            None
+        };
+        assert_eq!(rt; heap.get(roots[at], 0).ok(), mark);
+    }
 }

@@ -2,6 +2,8 @@
 #![tactic(auto)]
 
 #[cfg(test)]
+mod at_size;
+#[cfg(test)]
 mod collections;
 #[cfg(test)]
 mod free_blocks;

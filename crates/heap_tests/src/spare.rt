@@ -1,7 +1,7 @@
 //! The memory that a heap keeps from one collection for the next.
-use crate::heaps::{collected, heap_of};
+use crate::heaps::{allocated, collected, heap_of};
 use collector::collect_one;
-use heap::{AllocateError, Config, Heap, RootId, Sizes};
+use heap::{Config, Heap, RootId, Sizes};
 use refusing::Refusing;
 use std::alloc::Global;
 use std::process::Abort;
@@ -102,18 +102,6 @@ fn large_heap(refusing: &Refusing<Global>) -> Result<Counting<'_>, Fail> {
     Ok(Heap::new(refusing, config)?)
 }
 
-/// A new object of one pointer, with a collection of the young where the nursery is full.
-fn allocated<'a>(refusing: &'a Refusing<Global>, heap: &mut Counting<'a>) -> Result<RootId, Fail> {
-    match heap.allocate(0, 1, 2) {
-        Ok(root) => Ok(root),
-        Err(AllocateError::NurseryFull) => {
-            let _report = collect_one(refusing, heap, 0)?;
-            Ok(heap.allocate(0, 1, 2)?)
-        }
-        Err(error) => Err(Fail::from(error)),
-    }
-}
-
 /// A list of so many objects more in front of one.
 fn longer<'a>(
     refusing: &'a Refusing<Global>,
@@ -123,7 +111,7 @@ fn longer<'a>(
 ) -> Result<RootId, Fail> {
     let mut first = from;
     for _object in 0..more {
-        let root = allocated(refusing, heap)?;
+        let root = allocated(refusing, heap, 1, 2)?;
         heap.store(root, 0, Some(first))?;
         heap.release(first)?;
         first = root;
@@ -136,9 +124,9 @@ fn long_list<'a>(
     refusing: &'a Refusing<Global>,
     heap: &mut Counting<'a>,
 ) -> Result<(RootId, RootId), Fail> {
-    let last = allocated(refusing, heap)?;
+    let last = allocated(refusing, heap, 1, 2)?;
     let tail = longer(refusing, heap, last, 999)?;
-    let next = allocated(refusing, heap)?;
+    let next = allocated(refusing, heap, 1, 2)?;
     heap.store(next, 0, Some(tail))?;
     let first = longer(refusing, heap, next, 1_998_999)?;
     Ok((first, tail))

@@ -3,8 +3,8 @@ use Rattle.std.specs.Prelude.{◌≡◌, ◌⊎◌, ◌≤◌, ℕ, true, false,
 use Rattle.steps.specs.HeapValue.{HeapValue}
 use Rattle.steps.specs.CollectionValue.{CollectionValue}
 use Rattle.workers.specs.Worker.{Nothing}
-use Rattle.workers.specs.WorkerSteps.{IsOutOfWork, CanScan, current_slot}
-use Rattle.workers.specs.System.{Event, opening}
+use Rattle.workers.specs.WorkerSteps.{IsOutOfWork, CanLook, CanScan, current_slot}
+use Rattle.workers.specs.System.{Event, Look, opening}
 use Rattle.workers.specs.Lawful.{next_alone}
 use Rattle.workers.specs.Finish.{Stepped}
 use Rattle.workers.specs.Measure.{measure, young_names_of}
@@ -34,8 +34,10 @@ pub record IsDone (v : SerialValue) : Type 0 where
   pub out : IsOutOfWork v.workspace.worker
   pub queue : waiting_in (lane_of v) ≡ []
 
--- a look wants a block, and a draw found none
+-- what comes next is a look, it can come and wants a block, and a draw found none
 pub record IsFullForLook (old new : SerialValue) : Type 0 where
+  pub is_next : next_alone (setting_in old) (system_of old) ≡ Some (Look 0)
+  pub can : CanLook (setting_in old) old.workspace.worker
   pub wants : WantsDraw old
   pub out : new.draws.out ≡ true
 

@@ -34,6 +34,8 @@ mod long_inputs;
 #[cfg(test)]
 mod names;
 #[cfg(test)]
+mod names_at_size;
+#[cfg(test)]
 mod odd;
 #[cfg(test)]
 mod pieces;

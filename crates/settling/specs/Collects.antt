@@ -15,7 +15,7 @@ use Rattle.workers.specs.Worker.{Worker}
 use Rattle.workers.specs.System.{System, opening}
 use Rattle.workers.specs.Total.{times, wins_of}
 use Rattle.workers.specs.Lawful.{AllEnded, next_alone}
-use Rattle.workers.specs.Finish.{Stepped}
+use Rattle.workers.specs.Finish.{Stepped, IsStuck}
 use Rattle.settling.specs.OwnDeliveries.{own_deliveries}
 
 -- the word of a small place is below those of the large ones
@@ -68,6 +68,13 @@ pub record ScansOnce (heap : HeapValue) (g : ℕ) (workers : List WorkerLists) :
 -- fewer blocks were free than the space bound of the live words for one worker
 abbrev pub IsShortOfBlocks : HeapValue → ℕ → Type 0
 IsShortOfBlocks heap g = (words : ℕ) → LiveWords heap.graph g heap.config.block_words words → length heap.free < space_bound words heap.config.block_words 1 (dest_count heap.config.shape g)
+
+-- one worker by itself, each event the next in its order, came to a look that wants a block where none is free
+pub record IsStuckAlone (heap : HeapValue) (g : ℕ) : Type 0 where
+  pub count : ℕ
+  pub last : System
+  pub run : Stepped (setting_at heap g 1) (next_alone (setting_at heap g 1)) (opening_at heap g 1) count last
+  pub stuck : IsStuck (setting_at heap g 1) (next_alone (setting_at heap g 1)) last
 
 -- workers collected the generations 0 to g, and report so: what they won is the renaming of the live objects
 pub record Collects (old : HeapValue) (g : ℕ) (kept freed : ℕ) (workers : List WorkerLists) (new : HeapValue) : Type 0 where

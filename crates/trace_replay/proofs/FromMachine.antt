@@ -26,7 +26,7 @@ use Rattle.machine.specs.MachineValue.{MachineValue, setting_in}
 use Rattle.machine.specs.Events.{IsSameCollection, IsShortOfBlocks, Opens}
 use Rattle.machine.specs.Settles.{Settles}
 use Rattle.trace_replay.specs.Runs.{Finishes, IsSchedule}
-use Rattle.trace_replay.specs.Stops.{IsUnreadable, IsFaulty, IsRefusedBlocks, IsSoundLine, IsUsedUp, OfLine, StopsAt, StopsWith, IsStuckAfter, faulty, not_ended}
+use Rattle.trace_replay.specs.Stops.{IsUnreadable, IsFaulty, IsRefusedBlocks, IsSoundLine, IsUsedUp, OfLine, StopsAt, StopsWith, ComesToStuck, IsStuckAfter, IsFullInTurn, faulty, not_ended}
 use Rattle.trace_session.proofs.LineLemmas.{OfInput-map, moves_as, stops_moved}
 use Rattle.trace_replay.specs.Brought.{IsBrought, BringsToCommit, ComesToCommit}
 
@@ -117,12 +117,12 @@ module _ (heap : HeapValue) (g n : ℕ) (first : MachineValue) (opens : Opens he
       ⊥ ⊥
       → MatchEachFault e
       (λ _ _. ⊥) (λ _ _. ⊥)
-      (λ at. (at ≡ Some number) × IsShortOfBlocks heap g n)
+      (λ at. (at ≡ Some number) × IsFullInTurn heap g n)
       (λ at. at ≡ Some number)
       ⊥ ⊥
   finish_fault number (BadTrace at kind) f = f
   finish_fault number (BadSchedule at kind) f = f
-  finish_fault number (HeapFull at) f = (f.0, short_is f.1.short)
+  finish_fault number (HeapFull at) f = (f.0, record { comes = at_heap ComesToStuck f.1.comes; short = short_is f.1.short })
   finish_fault number (NoMemory at) f = f
   finish_fault number (Unsettled line) f = absurd f
   finish_fault number ReadFailed f = f

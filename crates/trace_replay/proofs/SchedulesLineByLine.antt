@@ -202,7 +202,7 @@ module _ (number : ℕ) (line : List ℕ) (m : MachineValue) where
       ⊥ ⊥
   fault_of_finish says (BadTrace at kind) f = absurd f
   fault_of_finish says (BadSchedule at kind) f = absurd f
-  fault_of_finish says (HeapFull at) f = (f.0, record { wants = by_finish says f.1.run f.1.stuck; short = f.1.short })
+  fault_of_finish says (HeapFull at) f = (f.0, record { wants = by_finish says f.1.comes; short = f.1.short })
   fault_of_finish says (NoMemory at) f = (f, record { said = Finish; says = says; may = tt })
   fault_of_finish says (Unsettled line) f = absurd f
   fault_of_finish says ReadFailed f = f

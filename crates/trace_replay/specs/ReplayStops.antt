@@ -18,7 +18,7 @@ use Rattle.trace_session.specs.Sound.{IsSoundTraceLine, IsSoundCommand}
 use Rattle.trace_session.specs.CollectsFirst.{LineCollectsFirst}
 use Rattle.trace_session.specs.Refusals.{IsFullFor}
 use Rattle.trace_session.specs.Commands.{IsNoCollection}
-use Rattle.trace_replay.specs.Stops.{IsUnreadable, IsRefusedBlocks, IsSoundLine, OfLine, StopsAt, StopsWith, IsUsedUp}
+use Rattle.trace_replay.specs.Stops.{IsUnreadable, IsRefusedBlocks, IsFullInTurn, IsSoundLine, OfLine, StopsAt, StopsWith, IsUsedUp}
 use Rattle.trace_replay.specs.Replays.{State, Holds, HasMadeRoom, Replays, IsReplayed}
 
 -- a `collect` line without a fault, and the text after it
@@ -44,10 +44,10 @@ pub record HasScheduleFault (config : Config) (n : ℕ) (kind : ScheduleKind) (s
   pub opens : OpensSchedule config s left
   pub stops : StopsWith (setting_at s.heap opens.g n) (opening_at s.heap opens.g n) number opens.text at kind
 
--- a new object without a fault: a small one for which there is no room, and this heap has too few free blocks for n workers
--- to collect generation 0, or a large one for which this heap is full
+-- a new object without a fault: a small one for which there is no room, and this heap is full for n workers who collect
+-- generation 0, or a large one for which this heap is full
 pub data WantsRoom (config : Config) (n : ℕ) (s : State) (line : List ℕ) : Type 0 where
-  for_collection : IsSoundTraceLine config s.store line → LineCollectsFirst config s.store line → IsShortOfBlocks s.heap 0 n → WantsRoom config n s line
+  for_collection : IsSoundTraceLine config s.store line → LineCollectsFirst config s.store line → IsFullInTurn s.heap 0 n → WantsRoom config n s line
   for_large : IsSoundTraceLine config s.store line → IsNoCollection (entry_of line) → IsFullFor 1 s.heap (entry_of line) → WantsRoom config n s line
 
 -- the line has no fault, and blocks are wanting in it

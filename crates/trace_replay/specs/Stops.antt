@@ -14,6 +14,8 @@ use Rattle.trace_text.specs.declared.schedule.ScheduleKind.{ScheduleKind}
 use Rattle.trace_text.specs.declared.schedule.ScheduleKind.TheVariants.{NotLawful, NotEnded, UnfinishedSchedule}
 use Rattle.trace_text.specs.declared.schedule.LineFault.TheVariants as faults
 use Rattle.trace_session.specs.Pieces.{Piece, finished, unfinished, pieces, whole_lines}
+use Rattle.steps.specs.HeapValue.{HeapValue}
+use Rattle.settling.specs.Collects.{setting_at, opening_at}
 use Rattle.trace_replay.specs.Naming.{meant}
 use Rattle.machine.specs.MachineValue.{MachineValue, setting_in}
 use Rattle.machine.specs.Events.{IsShortOfBlocks}
@@ -30,23 +32,32 @@ pub data IsFaulty (setting : Setting) (s : System) (line : List ℕ) : ScheduleK
   unlawful : {event : ScheduleEvent} → schedule_line_of line ≡ Ok (Event event) → ¬ IsLawful setting s (meant event) → IsFaulty setting s line NotLawful
   not_ended : schedule_line_of line ≡ Ok Commit → ¬ AllEnded s → IsFaulty setting s line NotEnded
 
--- a line that comes to a look which wants a block where none is free
+-- what comes next by itself comes to a look which wants a block where none is free
+pub record ComesToStuck (setting : Setting) (s : System) : Type 0 where
+  pub mid : System
+  pub count : ℕ
+  pub run : Stepped setting (next_lawful setting) s count mid
+  pub stuck : IsStuck setting (next_lawful setting) mid
+
+-- a line that comes to such a look
 pub data IsRefusedBlocks (setting : Setting) (s : System) (line : List ℕ) : Type 0 where
   by_event : {event : ScheduleEvent} → schedule_line_of line ≡ Ok (Event event) → IsRefused setting s (meant event) → IsRefusedBlocks setting s line
-  by_finish : {mid : System} {count : ℕ} → schedule_line_of line ≡ Ok Finish → Stepped setting (next_lawful setting) s count mid → IsStuck setting (next_lawful setting) mid → IsRefusedBlocks setting s line
+  by_finish : schedule_line_of line ≡ Ok Finish → ComesToStuck setting s → IsRefusedBlocks setting s line
 
 -- of a machine, in whose collection too few blocks were free
 pub record IsShort (line : List ℕ) (m : MachineValue) : Type 0 where
   pub wants : IsRefusedBlocks (setting_in m) m.system line
   pub short : IsShortOfBlocks m.heap m.collection.generation m.workers
 
--- what comes next by itself comes to such a look
+-- what comes next by itself comes to one, and too few blocks were free
 pub record IsStuckAfter (m : MachineValue) : Type 0 where
-  pub mid : System
-  pub count : ℕ
-  pub run : Stepped (setting_in m) (next_lawful (setting_in m)) m.system count mid
-  pub stuck : IsStuck (setting_in m) (next_lawful (setting_in m)) mid
+  pub comes : ComesToStuck (setting_in m) m.system
   pub short : IsShortOfBlocks m.heap m.collection.generation m.workers
+
+-- the same of n workers in turn, from the opening of a collection of this heap
+pub record IsFullInTurn (heap : HeapValue) (g n : ℕ) : Type 0 where
+  pub comes : ComesToStuck (setting_at heap g n) (opening_at heap g n)
+  pub short : IsShortOfBlocks heap g n
 
 -- what a line says may come
 abbrev pub MayCome : Setting → System → ScheduleLine → Type 0

@@ -2,11 +2,11 @@
 ghost use Rattle.std.specs.Prelude.{◌≡◌, ◌+◌, ◌-◌, ◌^◌, ◌<◌, ◌≤◌, ◌⊎◌, [], Some, MatchOption, IfOk, OnOk, IfErr};
 ghost use Rattle.heap_text.specs.Streams.{OfGiven, OfInput};
 ghost use Rattle.model.specs.Store.{collected};
-ghost use Rattle.trace_replay.specs.Events.{IsShortOfBlocks};
-ghost use Rattle.trace_session.specs.Faults.{MatchFault, MatchEachFault};
+ghost use Rattle.trace_session.specs.Faults.{MatchFault, MatchEachFault, UnlessOfWrite};
 ghost use Rattle.trace_session.specs.Lines.{IsOutOfReads, Moves, most_left};
 ghost use Rattle.trace_session.specs.Stepped.{AtEach, Writes};
 ghost use Rattle.trace_session.specs.Session.{Stands};
+ghost use Rattle.trace_replay.specs.Stops.{IsFullInTurn};
 ghost use Rattle.trace_replay.specs.Replays.{CollectsTo, MakesRoom, state_of};
 ghost use Rattle.trace_replay.specs.ReplayStops.{AfterCollect, HasTraceFault, HasScheduleFault, WantsBlocks, IsSoundAt, LeavesNothingWhole};
 
@@ -18,7 +18,7 @@ use trace_session::{Fault, Lines, Session};
 
 /// Collects the generations 0 to `generation` by so many workers, 1 to 16, as the schedule says that follows line
 /// `number` and is read line by line, and writes what was kept and freed and what each worker did. It gives the number
-/// of the line after the schedule.
+/// of the line after the schedule. At each fault but that of a write the session is as before.
 pub(crate) fn collect<A: Allocator + Clone, S: Source, W: Sink>(
     session: &mut Session<A>,
     workers: u32,
@@ -61,6 +61,7 @@ pub(crate) fn collect<A: Allocator + Clone, S: Source, W: Sink>(
         × ((S.failed_reads reader.new ≡ S.failed_reads reader.old + 1)
         ⊎ IsOutOfReads lines.old.reads (S.input reader.old) (S.input reader.new)))
         (W.failed_writes writer.new ≡ W.failed_writes writer.old + 1)) }
+    ensures before { IfErr result (λ e. UnlessOfWrite e (session.new ≡ session.old)) }
 {
     if generation >= session.heap.config().generations() as u64 {
         return Err(Fault::BadTrace(number, Kind::NoGeneration));
@@ -124,7 +125,7 @@ pub(crate) fn make_room<A: Allocator + Clone, W: Sink>(
     ensures counts { OnOk result (W.failed_writes writer.new ≡ W.failed_writes writer.old) }
     ensures rises { W.failed_writes writer.new ≤ W.failed_writes writer.old + 1 }
     ensures err { IfErr result (λ e. MatchFault e (λ _ _. ⊥)
-        (λ at. (at ≡ Some number) × IsShortOfBlocks session.old.heap 0 workers × (session.new ≡ session.old) × (writer.new ≡ writer.old))
+        (λ at. (at ≡ Some number) × IsFullInTurn session.old.heap 0 workers × (session.new ≡ session.old) × (writer.new ≡ writer.old))
         (λ at. (at ≡ Some number) × (session.new ≡ session.old) × (writer.new ≡ writer.old))
         ⊥
         (W.failed_writes writer.new ≡ W.failed_writes writer.old + 1)) }

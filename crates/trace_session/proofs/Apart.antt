@@ -10,7 +10,6 @@ use Rattle.heap.specs.HeapValue.{HeapValue}
 use Rattle.collector.specs.declared.apart.CellKind.{CellKind}
 use Rattle.collector.specs.declared.apart.CellKind.TheVariants as kinds
 use Rattle.trace_text.specs.Grammar.{entry_of}
-use Rattle.workers_in_threads.specs.Reports.{IsShortOfBlocksFor}
 use Rattle.trace_session.specs.declared.trace_lines.fault.Fault.{Fault}
 use Rattle.trace_session.specs.declared.trace_lines.fault.Fault.TheVariants.{BadTrace, BadSchedule, HeapFull, NoMemory, Unsettled, ReadFailed, WriteFailed}
 use Rattle.trace_session.specs.CollectsFirst.{ReadCollectsFirst, LineCollectsFirst, IsSoundSoFar, auto_line}
@@ -19,7 +18,7 @@ use Rattle.trace_session.specs.Faults.{MatchFault, MatchFaultApart}
 use Rattle.trace_session.specs.Outcome.{line_step, command_step}
 use Rattle.trace_session.specs.Sound.{IsSoundTraceLine, IsSoundCommand}
 use Rattle.trace_session.specs.Stepped.{AtEach, StepsTo, Writes}
-use Rattle.trace_session.specs.Refusals.{IsFullFor, IsFullForLine, ReadWantsBlocks, CommandMayBeFull, MayBeFull}
+use Rattle.trace_session.specs.Refusals.{IsFullFor, IsFullForLine, ReadWantsBlocks, CommandMayBeFull, MayBeFull, IsFullToCollect}
 use Rattle.trace_session.proofs.CommandLine.{line_is, line_sound}
 use Rattle.trace_session.proofs.Twice.{silent}
 
@@ -92,7 +91,7 @@ module _ (line : List ℕ) (g : ℕ) (says : entry_of line ≡ Ok (Some (Collect
     OfCollection e =
         MatchFaultApart e
         (λ at kind. (at ≡ number) × AtEach stands (λ config store. command_step config store (Collect g) ≡ Err kind) × (new ≡ old))
-        (λ at. (at ≡ Some number) × IsShortOfBlocksFor heap g n × AtEach stands (λ config store. CommandMayBeFull n config store (Collect g)) × (new ≡ old))
+        (λ at. (at ≡ Some number) × IsFullToCollect heap g n × AtEach stands (λ config store. CommandMayBeFull n config store (Collect g)) × (new ≡ old))
         (λ at. (at ≡ Some number) × AtEach stands (λ config store. IsSoundCommand config store (Collect g)) × (new ≡ old))
         (λ at. (at ≡ number) × box × AtEach stands (λ config store. IsSoundCommand config store (Collect g)) × (new ≡ old))
         ⊥ written

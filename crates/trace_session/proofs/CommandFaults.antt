@@ -9,7 +9,7 @@ use Rattle.model.specs.Store.{Store}
 use Rattle.model.specs.Commands.{Outcome as Stepped}
 use Rattle.trace_session.specs.declared.trace_lines.fault.Fault.{Fault}
 use Rattle.trace_session.specs.declared.trace_lines.fault.Fault.TheVariants.{BadTrace, BadSchedule, HeapFull, NoMemory, Unsettled, ReadFailed, WriteFailed}
-use Rattle.trace_session.specs.Faults.{MatchFault}
+use Rattle.trace_session.specs.Faults.{MatchFault, UnlessOfWrite}
 use Rattle.trace_session.specs.Stepped.{AtEach, StepsTo, StepsQuietly}
 
 -- what was written stays as it is
@@ -51,3 +51,13 @@ module _ {X T : Type 0} (number : ℕ) (before after : T) (same : after ≡ befo
   quiet_faults (Err (Unsettled line)) fault = absurd fault
   quiet_faults (Err ReadFailed) fault = absurd fault
   quiet_faults (Err WriteFailed) fault = absurd fault
+
+-- what holds holds at any fault
+pub unless_any : (e : Fault) (fact : Type 0) → fact → UnlessOfWrite e fact
+unless_any (BadTrace line kind) fact holds = holds
+unless_any (BadSchedule line kind) fact holds = holds
+unless_any (HeapFull line) fact holds = holds
+unless_any (NoMemory line) fact holds = holds
+unless_any (Unsettled line) fact holds = holds
+unless_any ReadFailed fact holds = holds
+unless_any WriteFailed fact holds = tt

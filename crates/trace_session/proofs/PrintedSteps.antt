@@ -13,12 +13,11 @@ use Rattle.heap.specs.HeapValue.{HeapValue}
 use Rattle.heap.specs.Commands.{heap_census}
 use Rattle.heap.specs.ReportValue.{WorkerLists}
 use Rattle.settling.specs.Collects.{Collects}
-use Rattle.workers_in_threads.specs.Reports.{IsShortOfBlocksFor}
 use Rattle.trace_session.specs.CollectsFirst.{auto_line}
 use Rattle.trace_session.specs.Outcome.{command_step}
 use Rattle.trace_session.specs.Sound.{IsSoundCommand}
 use Rattle.trace_session.specs.Stepped.{StepsTo}
-use Rattle.trace_session.specs.Refusals.{CommandMayBeFull}
+use Rattle.trace_session.specs.Refusals.{CommandMayBeFull, IsFullToCollect}
 use Rattle.trace_session.specs.Made.{MadeByCalls}
 use Rattle.trace_session.specs.Stands.{StandsFor}
 use Rattle.trace_session.proofs.CountsSame.{same_census}
@@ -60,13 +59,13 @@ module _ (heap : HeapValue) (names : List (List ℕ × ℕ)) (config : Config) (
       let known : nat_lt g config.shape.generations ≡ false = grind (arith, nat_tests, past, ap (λ (c : Config). c.shape.generations) stands.config_is) in
       rw known refl
 
-  -- where the heap is short of blocks a collection may be refused
-  pub collect_full : (n g : ℕ) → g < heap.config.shape.generations → IsShortOfBlocksFor heap g n → CommandMayBeFull n config store (Collect g)
+  -- where the heap is full for a collection it may be refused
+  pub collect_full : (n g : ℕ) → g < heap.config.shape.generations → IsFullToCollect heap g n → CommandMayBeFull n config store (Collect g)
   collect_full n g in_range short =
       let known : nat_lt g config.shape.generations ≡ true = lt-ltb g config.shape.generations (rw (← stands.config_is) in_range) in
       record {
         sound = rw known refl;
-        wants = record { heap = heap; names = names; stands = stands; short = short };
+        wants = record { heap = heap; names = names; stands = stands; full = short };
       }
 
   -- generation 0 is collected for a new object

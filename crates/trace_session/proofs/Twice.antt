@@ -19,7 +19,7 @@ use Rattle.trace_session.specs.Outcome.{line_step}
 use Rattle.trace_session.specs.Sound.{IsSoundTraceLine}
 use Rattle.trace_session.specs.Stepped.{AtEach, StepsTo, Writes}
 use Rattle.trace_session.proofs.SecondAttempt.{line_again}
-use Rattle.trace_session.specs.Refusals.{MayBeFull, IsShortFor, ReadWantsBlocks}
+use Rattle.trace_session.specs.Refusals.{MayBeFull, HasFullHeap, ReadWantsBlocks}
 
 -- what a step writes, and the store that it leaves
 abbrev text_of : Outcome → List ℕ
@@ -50,7 +50,7 @@ full_again n config store next (Ok (Some (Collect g))) first wants = absurd firs
 full_again n config store next (Ok (Some Census)) first wants = absurd first
 full_again n config store next (Ok (Some Heap)) first wants = absurd first
 
-pub wants_blocks : (n : ℕ) (config : Config) (store : Store) (read : Result (Option Command) Kind) → ReadCollectsFirst config store read → IsShortFor n config store 0 → ReadWantsBlocks n config store read
+pub wants_blocks : (n : ℕ) (config : Config) (store : Store) (read : Result (Option Command) Kind) → ReadCollectsFirst config store read → HasFullHeap n config store 0 → ReadWantsBlocks n config store read
 wants_blocks n config store (Err kind) first short = absurd first
 wants_blocks n config store (Ok None) first short = absurd first
 wants_blocks n config store (Ok (Some (New text m p q))) first short = inl (first, short)

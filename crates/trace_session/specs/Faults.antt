@@ -25,3 +25,13 @@ MatchEachFault fault trace schedule full memory read write = MatchAnyFault fault
 -- where no thread shares cells, and no line is one of a schedule
 abbrev pub MatchFault : Fault → (ℕ → Kind → Type 0) → (Option ℕ → Type 0) → (Option ℕ → Type 0) → Type 0 → Type 0 → Type 0
 MatchFault fault trace full memory read write = MatchEachFault fault trace (λ _ _. ⊥) full memory read write
+
+-- what holds at each fault but that of a write
+abbrev pub UnlessOfWrite : Fault → Type 0 → Type 0
+UnlessOfWrite (BadTrace line kind) fact = fact
+UnlessOfWrite (BadSchedule line kind) fact = fact
+UnlessOfWrite (HeapFull line) fact = fact
+UnlessOfWrite (NoMemory line) fact = fact
+UnlessOfWrite (Unsettled line) fact = fact
+UnlessOfWrite ReadFailed fact = fact
+UnlessOfWrite WriteFailed fact = Unit {0}

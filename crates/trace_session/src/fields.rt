@@ -1,5 +1,5 @@
 //! The commands on the fields of the objects that names lead to.
-ghost use Rattle.std.specs.Prelude.{◌≡◌, ◌↔◌, Some, Err, OnOk, IfOk, IfErr, IsTrue};
+ghost use Rattle.std.specs.Prelude.{◌≡◌, ◌↔◌, Some, Err, OnOk, OnErr, IfOk, IfErr, IsTrue};
 ghost use Rattle.std.specs.Option.{option_map};
 ghost use Rattle.model.specs.Commands.{Set, Put, Get, target_of};
 ghost use Rattle.heap.specs.Commands.{HasPointer};
@@ -59,6 +59,7 @@ impl<A: Allocator + Clone> Session<A> {
             (λ _. ⊥)
             (λ at. (at ≡ Some number) × AtEach (Stands self.old) (λ config store. IsSoundCommand config store (Set name.now field (target_of (λ x. x.now) target.entry))))
             ⊥ ⊥) }
+        ensures before { OnErr result (self.new ≡ self.old) }
     {
         let Some(holder) = self.names.get(name) else {
             return Err(Fault::BadTrace(number, Kind::UnknownName));
@@ -87,6 +88,7 @@ impl<A: Allocator + Clone> Session<A> {
         ensures err { IfErr result (λ e. MatchFault e
             (λ at kind. (at ≡ number) × AtEach (Stands self.old) (λ config store. command_step config store (Put name.now field value) ≡ Err kind))
             (λ _. ⊥) (λ _. ⊥) ⊥ ⊥) }
+        ensures before { OnErr result (self.new ≡ self.old) }
     {
         let Some(root) = self.names.get(name) else {
             return Err(Fault::BadTrace(number, Kind::UnknownName));
@@ -98,7 +100,8 @@ impl<A: Allocator + Clone> Session<A> {
         }
     }
 
-    /// A free name leads from now on to what pointer `field` of the other name's object leads to.
+    /// A free name leads from now on to what pointer `field` of the other name's object leads to. At each fault but want of memory,
+    /// which may leave a root without a name, the session is as before.
     pub fn get(
         &mut self,
         number: u128,
@@ -113,6 +116,7 @@ impl<A: Allocator + Clone> Session<A> {
             (λ _. ⊥)
             (λ at. (at ≡ Some number) × AtEach (Stands self.old) (λ config store. IsSoundCommand config store (Get new_name.now name.now field)))
             ⊥ ⊥) }
+        ensures before { IfErr result (λ e. MatchFault e (λ _ _. self.new ≡ self.old) (λ _. ⊥) (λ _. Unit {0}) ⊥ ⊥) }
     {
         if self.names.get(new_name).is_some() {
             return Err(Fault::BadTrace(number, Kind::NameInUse));

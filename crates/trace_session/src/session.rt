@@ -53,7 +53,8 @@ impl<A: Allocator + Clone> Session<A> {
     }
 
     /// A new object, to which a free name leads. Where its nursery has no room, nothing has changed. `HeapFull` says that a
-    /// large one takes more blocks than are free in this heap.
+    /// large one takes more blocks than are free in this heap. At each fault but want of memory, which may leave an object without a
+    /// name, the session is as before.
     pub fn add(
         &mut self,
         number: u128,
@@ -71,6 +72,7 @@ impl<A: Allocator + Clone> Session<A> {
             (λ at. (at ≡ Some number) × LacksBlocks self.old.heap pointers plain × AtEach (Stands self.old) (λ config store. CommandMayBeFull 1 config store (New name.now mutator pointers plain) × ¬ CollectsFirst config store (New name.now mutator pointers plain)))
             (λ at. (at ≡ Some number) × AtEach (Stands self.old) (λ config store. IsSoundCommand config store (New name.now mutator pointers plain)))
             ⊥ ⊥) }
+        ensures before { IfErr result (λ e. MatchFault e (λ _ _. self.new ≡ self.old) (λ _. self.new ≡ self.old) (λ _. Unit {0}) ⊥ ⊥) }
     {
         if self.names.get(name).is_some() {
             return Err(Fault::BadTrace(number, Kind::NameInUse));

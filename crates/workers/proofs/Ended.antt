@@ -170,7 +170,7 @@ module _ (setting : Setting) (s : System) (parts : List Part) (shaped : Shaped s
     where
       go : (b : Bool) (free : List ℕ) → draw_wanted setting l.worker (cell_of s (cell_wanted setting l.worker)) ≡ b → s.free ≡ free → Comes (Look t)
       go false free e f = inl (_, record { worker = l.worker; at = l.at; can = l.can; number = 0; drawn = subst (λ b. OnTrue b (Contains s.free 0)) (sym e) tt; change = refl })
-      go true [] e f = inr (record { t = t; worker = l.worker; look = refl; at = l.at; wanted = e; none_free = f })
+      go true [] e f = inr (record { t = t; worker = l.worker; look = refl; at = l.at; can = l.can; wanted = e; none_free = f })
       go true (x ∷ xs) e f = inl (_, record { worker = l.worker; at = l.at; can = l.can; number = x; drawn = subst (λ b. OnTrue b (Contains s.free x)) (sym e) (subst (λ ys. Contains ys x) (sym f) (0, omega arith, refl)); change = refl })
   lawful_comes (Race t) l = let p = there_is l.worker.proposal l.can in inl (_, record { worker = l.worker; at = l.at; proposal = p.0; proposed = p.1; change = refl })
   lawful_comes (Scan t) l = inl (_, record { worker = l.worker; at = l.at; can = l.can; change = refl })

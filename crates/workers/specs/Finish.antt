@@ -17,6 +17,7 @@ pub data Stepped (setting : Setting) (next : System → Option Event) : System �
   stay : {s : System} → Stepped setting next s 0 s
   go : {s mid last : System} {event : Event} {count : ℕ} → next s ≡ Some event → Step setting s event mid → Stepped setting next mid count last → Stepped setting next s (count + 1) last
 
+-- what comes next is refused: a look, of one that can look, for which a block is wanted and none is free
 pub record IsStuck (setting : Setting) (next : System → Option Event) (s : System) : Type 0 where
   pub event : Event
   pub is_next : next s ≡ Some event

@@ -51,6 +51,7 @@ pub record IsRefused (setting : Setting) (system : System) (event : Event) : Typ
   pub worker : Worker
   pub look : event ≡ Look t
   pub at : IsAwake system t worker
+  pub can : CanLook setting worker
   pub wanted : draw_wanted setting worker (cell_of system (cell_wanted setting worker)) ≡ true
   pub none_free : system.free ≡ []
 

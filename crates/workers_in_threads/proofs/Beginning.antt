@@ -1,17 +1,16 @@
 -- A worker among several before its first step.
-use Rattle.std.proofs.Common.{◌≡◌, ℕ, ◌<◌, ◌≤◌, List, [], All, Option, map, length, refl, sym, ap, subst, ◌∙◌}
+use Rattle.std.proofs.Common.{◌≡◌, ℕ, ◌<◌, ◌≤◌, List, [], All, Option, map, length, sym, ap, subst}
 use Rattle.std.proofs.lemmas.List.Elements.{All-nil}
 use Rattle.layout.specs.declared.place.Place.{Place}
 use Rattle.block_pool.specs.ClaimsValue.{SeatValue, unused}
-use Rattle.pending_queues.specs.PendingValue.{new_seat, IsSeatOf}
+use Rattle.pending_queues.specs.PendingValue.{new_seat}
 use Rattle.pending_queues.specs.PendingValue.{SeatValue as QueueSeatValue}
 use Rattle.scavenge.specs.Handed.{CopiesKeyValue}
 use Rattle.steps.specs.CollectionValue.{young_names}
-use Rattle.workers.specs.Worker.{Worker}
-use Rattle.workers.specs.WorkerRun.{WorkerRun, stay, no_history}
+use Rattle.workers.specs.WorkerRun.{stay, no_history}
 use Rattle.scavenge.specs.Named.{named}
 use Rattle.scavenge.specs.ReadyToCollect.{IsReadyToCollect}
-use Rattle.workers_in_threads.specs.SharingValue.{SharingValue, setting_in, begins_as, worker_of, forwarded_in}
+use Rattle.workers_in_threads.specs.SharingValue.{SharingValue, begins_as, worker_of, forwarded_in}
 use Rattle.workers_in_threads.specs.Queued.{IsQueued}
 use Rattle.workers_in_threads.specs.IsSharing.{IsSharing, HasWorked}
 

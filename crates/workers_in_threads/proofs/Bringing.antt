@@ -8,7 +8,8 @@ use Rattle.pending_queues.specs.PendingValue.{Source}
 use Rattle.pending_queues.specs.PendingValue.{SeatValue as QueueSeatValue}
 use Rattle.pending_queues.specs.PendingValue.{IsSeatOf as IsQueueSeat}
 use Rattle.scavenge.specs.Handed.{CopiesKeyValue}
-use Rattle.workers.specs.WorkerSteps.{draw_wanted}
+use Rattle.workers.specs.Setting.{Setting}
+use Rattle.workers.specs.WorkerSteps.{draw_wanted, CanLook}
 use Rattle.scavenge.specs.Shown.{WorkspaceValue}
 use Rattle.scavenge.specs.declared.looking.LookError.TheVariants.{HeapFull}
 use Rattle.workers_in_threads.specs.declared.sharing_worker.resting.Outcome.{Outcome}
@@ -28,11 +29,11 @@ module _ {C P A : Type 0} {fits : C → P → Type 0} {limit : C → ℕ} {known
       (subst (λ m. HasWorked new.heap new.collection m t (known new.pass) (won new.pass) new.draws new.seat new.workspace.worker) (same.workers ∙ workers_are)
       (subst (λ i. HasWorked new.heap new.collection new.workers i (known new.pass) (won new.pass) new.draws new.seat new.workspace.worker) (same.number ∙ number_is) k.worked)))
 
-  wants : draw_wanted (setting_for new.heap new.collection new.workers) new.workspace.worker None ≡ true → draw_wanted (setting_for heap c n) new.workspace.worker None ≡ true
-  wants w =
-      subst (λ h. draw_wanted (setting_for h c n) new.workspace.worker None ≡ true) (same.heap ∙ heap_is)
-      (subst (λ d. draw_wanted (setting_for new.heap d n) new.workspace.worker None ≡ true) (same.collection ∙ collection_is)
-      (subst (λ m. draw_wanted (setting_for new.heap new.collection m) new.workspace.worker None ≡ true) (same.workers ∙ workers_are) w))
+  at_heap : (Q : Setting → Type 0) → Q (setting_for new.heap new.collection new.workers) → Q (setting_for heap c n)
+  at_heap Q q =
+      subst (λ h. Q (setting_for h c n)) (same.heap ∙ heap_is)
+      (subst (λ d. Q (setting_for new.heap d n)) (same.collection ∙ collection_is)
+      (subst (λ m. Q (setting_for new.heap new.collection m)) (same.workers ∙ workers_are) q))
 
   pub brings : (outcome : Outcome) (pass : P) (draws : SeatValue) (seat : QueueSeatValue A CopiesKeyValue) (workspace : WorkspaceValue) → pass ≡ new.pass → draws ≡ new.draws → seat ≡ new.seat → workspace ≡ new.workspace
       → is_pass t new.pass → (outcome ≡ Ended → IsDone new) → (outcome ≡ Refused HeapFull → IsRefusedBlock new)
@@ -48,6 +49,7 @@ module _ {C P A : Type 0} {fits : C → P → Type 0} {limit : C → ℕ} {known
         seat = subst (λ q. IsQueueSeat q new.seat) (same.queues ∙ queues_are) k.seat;
         thread = record { index = same.number ∙ number_is; config = k.config ∙ ap (λ (h : HeapValue). h.config) (same.heap ∙ heap_is); names = k.names ∙ ap (λ (h : HeapValue). young_names h.graph new.collection.generation) (same.heap ∙ heap_is) ∙ ap (λ (d : CollectionValue). young_names heap.graph d.generation) (same.collection ∙ collection_is); queued = k.queued; worked = worked };
         ended = λ e. record { out = (ended e).out; cleared = (ended e).cleared };
-        wanted = λ e. wants (full e).wanted;
+        can = λ e. at_heap (λ s. CanLook s new.workspace.worker) (full e).can;
+        wanted = λ e. at_heap (λ s. draw_wanted s new.workspace.worker None ≡ true) (full e).wanted;
         out = λ e. (full e).out;
       }))))

@@ -1,5 +1,5 @@
 -- A worker that looks and races at once.
-use Rattle.std.proofs.Common.{◌≡◌, ℕ, ◌≤◌, Option, None, List, refl, sym, ap, subst, ◌∙◌}
+use Rattle.std.proofs.Common.{◌≡◌, ℕ, ◌≤◌, Option, None, List, refl}
 use Rattle.std.specs.Prelude.{IsSome}
 use Rattle.layout.specs.declared.place.Place.{Place}
 use Rattle.forwarding.specs.declared.cells.outcome.Outcome.{Outcome}
@@ -16,7 +16,7 @@ use Rattle.workers_in_threads.specs.SharingValue.{SharingValue, worker_of}
 use Rattle.workers_in_threads.specs.IsSharing.{IsSharing}
 use Rattle.workers_in_threads.proofs.Readiness.{can_look}
 use Rattle.workers_in_threads.proofs.Looked.{turned, looks, still}
-use Rattle.workers_in_threads.proofs.Raced.{race_keeps, raced}
+use Rattle.workers_in_threads.proofs.Raced.{raced}
 use Rattle.scavenge.proofs.Unchanged.{some_there}
 
 module _ {C P A : Type 0} (fits : C → P → Type 0) (limit : C → ℕ) (known : P → ℕ → Option Place) (won : P → List (ℕ × Place)) (v : SharingValue C P A) (k : IsSharing fits limit known won v) (none : v.workspace.worker.proposal ≡ None)

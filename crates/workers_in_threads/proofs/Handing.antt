@@ -1,27 +1,23 @@
 -- A worker among several sends a block to its queue, or takes one.
-use Rattle.std.proofs.Common.{◌≡◌, ◌≢◌, ℕ, ◌+◌, ◌<◌, ◌≤◌, Bool, true, false, List, [], ◌∷◌, ◌++◌, length, map, All, Some, None, Option, refl, sym, ap, subst, ◌∙◌, arith, zero, suc}
+use Rattle.std.proofs.Common.{◌≡◌, ◌≢◌, ℕ, ◌+◌, ◌<◌, Bool, true, false, List, [], ◌∷◌, ◌++◌, length, map, All, Some, Option, refl, sym, ap, subst, ◌∙◌, arith, zero, suc}
 use Rattle.std.specs.Prelude.{slice_get, if◌then◌else◌, ◌==◌}
 use Rattle.std.proofs.lemmas.List.{map-append}
 use Rattle.model.specs.Destination.{Shape}
 use Rattle.layout.specs.declared.place.Place.{Place}
 use Rattle.block_pool.specs.BlockValue.{BlockValue}
-use Rattle.steps.specs.HeapValue.{HeapValue}
-use Rattle.steps.specs.CollectionValue.{CollectionValue}
-use Rattle.pending_queues.specs.Labelled.{labelled}
-use Rattle.pending_queues.specs.PassValue.{position_of, position_on}
-use Rattle.pending_queues.specs.PendingValue.{IsSeatOf, Source, next_export, after_export, after_take, after_none, SeatValue as QueueSeatValue}
+use Rattle.pending_queues.specs.PassValue.{position_of}
+use Rattle.pending_queues.specs.PendingValue.{IsSeatOf, next_export, after_export, after_take, after_none, SeatValue as QueueSeatValue}
 use Rattle.scavenge.specs.Handed.{CopiesKeyValue, IsHandedFor}
 use Rattle.workers.specs.Block.{Block, has_unscanned}
-use Rattle.workers.specs.Worker.{Worker}
 use Rattle.workers.specs.WorkerSteps.{IsFree, after_aside, without_oldest, after_take as after_take_of}
-use Rattle.workers.specs.WorkerRun.{Exported, Took, History, noted, first_alone, go}
+use Rattle.workers.specs.WorkerRun.{Exported, Took, noted, first_alone, go}
 use Rattle.workers.specs.Joined.{Each}
-use Rattle.workers.specs.Ordered.{LeftHere, InTurn, IsRising}
+use Rattle.workers.specs.Ordered.{InTurn, IsRising}
 use Rattle.workers.specs.Ready.{IsHanded}
 use Rattle.workers.proofs.ReadyLemmas.{handed_alike, handed_labelled}
 use Rattle.scavenge.specs.Named.{named, IsWhole}
 use Rattle.scavenge.specs.Shown.{WorkspaceValue, Begins}
-use Rattle.workers_in_threads.specs.SharingValue.{SharingValue, setting_for, setting_in, worker_of, labelled_from}
+use Rattle.workers_in_threads.specs.SharingValue.{SharingValue, setting_in, worker_of, labelled_from}
 use Rattle.workers_in_threads.specs.IsSharing.{IsSharing, HasWorked}
 use Rattle.workers_in_threads.specs.Queued.{IsQueued, positions_in}
 use Rattle.workers_in_threads.proofs.Rising.{rises_more}

@@ -1,19 +1,16 @@
 -- What holds of a worker among several lasts with each thing that it does.
-use Rattle.std.proofs.Common.{◌≡◌, ℕ, ◌≤◌, Bool, true, false, cond, List, [], ◌∷◌, ◌++◌, map, All, Option, Some, None, Result, Ok, Err, refl, sym, ap, subst, ◌∙◌}
+use Rattle.std.proofs.Common.{◌≡◌, ℕ, Bool, true, false, List, Option, Result, Ok, Err, refl, sym, ap, subst, ◌∙◌}
 use Rattle.std.specs.Prelude.{OnOk, OnErr}
 use Rattle.layout.specs.declared.place.Place.{Place}
-use Rattle.block_pool.specs.ClaimsValue.{SeatValue, IsSeatOf}
 use Rattle.steps.specs.HeapValue.{HeapValue}
 use Rattle.steps.specs.CollectionValue.{CollectionValue}
-use Rattle.pending_queues.specs.PendingValue.{SeatValue as QueueSeatValue}
-use Rattle.scavenge.specs.Handed.{CopiesKeyValue}
 use Rattle.workers.specs.Worker.{Worker}
-use Rattle.workers.specs.WorkerRun.{History, Act, Looked, Raced, Scanned, Exported, Took, Owned, OwnedLarge, after, CanAct, noted, go}
+use Rattle.workers.specs.WorkerRun.{History, Act, Scanned, Owned, OwnedLarge, after, CanAct, noted, go}
 use Rattle.workers.specs.Joined.{Each}
 use Rattle.workers.specs.Ordered.{InTurn}
 use Rattle.workers.specs.Ready.{IsHanded}
 use Rattle.scavenge.specs.Shown.{WorkspaceValue}
-use Rattle.workers_in_threads.specs.SharingValue.{SharingValue, setting_for, setting_in, worker_of, forwarded_in, labelled_from}
+use Rattle.workers_in_threads.specs.SharingValue.{SharingValue, setting_for, setting_in, worker_of, labelled_from}
 use Rattle.workers_in_threads.specs.IsSharing.{IsSharing, HasWorked, KnowsPair}
 use Rattle.workers_in_threads.specs.Sharing.{IsSame}
 
@@ -110,3 +107,28 @@ module _ {C P A : Type 0} (fits : C → P → Type 0) (limit : C → ℕ) (known
   either_or v (Ok true) new next k some none err f = f (some refl)
   either_or v (Ok false) new next k some none err f = subst (λ (w : WorkspaceValue). IsSharing fits limit known won (with_part v w)) (sym (none refl)) k
   either_or v (Err e) new next k some none err f = subst (λ (w : WorkspaceValue). IsSharing fits limit known won (with_part v w)) (sym err) k
+
+  pub acted_or : (v : SharingValue C P A) (did : Bool) (new next : WorkspaceValue) → IsSharing fits limit known won v → (did ≡ true → new ≡ next) → (did ≡ false → new ≡ v.workspace)
+      → (new ≡ next → IsSharing fits limit known won (with_part v new)) → IsSharing fits limit known won (with_part v new)
+  acted_or v true new next k some none f = f (some refl)
+  acted_or v false new next k some none f = subst (λ (w : WorkspaceValue). IsSharing fits limit known won (with_part v w)) (sym (none refl)) k
+
+  -- what is the same of two steps is the same of both together
+  pub same_both : (a b c : SharingValue C P A) → IsSame at_home a b → IsSame at_home b c → IsSame at_home a c
+  same_both a b c p q =
+      record {
+        heap = q.heap ∙ p.heap;
+        collection = q.collection ∙ p.collection;
+        claims = q.claims ∙ p.claims;
+        queues = q.queues ∙ p.queues;
+        workers = q.workers ∙ p.workers;
+        number = q.number ∙ p.number;
+        home = λ cells h. q.home cells (p.home cells h);
+      }
+
+  pub same_as : (a b : SharingValue C P A) → b ≡ a → IsSame at_home a b
+  same_as a b e = subst (IsSame at_home a) (sym e) (record { heap = refl; collection = refl; claims = refl; queues = refl; workers = refl; number = refl; home = λ cells h. h })
+
+  -- a call that changes nothing comes before, and the result has another name
+  pub same_over : (a b c d : SharingValue C P A) → b ≡ a → IsSame at_home b c → d ≡ c → IsSame at_home a d
+  same_over a b c d e p f = subst (IsSame at_home a) (sym f) (subst (λ v. IsSame at_home v c) e p)

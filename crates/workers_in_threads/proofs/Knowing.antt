@@ -1,5 +1,5 @@
 -- What a worker knows of places, as its pass learns.
-use Rattle.std.proofs.Common.{◌≡◌, ◌≢◌, ℕ, ◌+◌, zero, suc, ◌∷◌, ◌++◌, [], List, Option, Some, None, length, map, refl, sym, ap, subst, ◌∙◌, ⊎_elim, arith, All}
+use Rattle.std.proofs.Common.{◌≡◌, ◌≢◌, ℕ, ◌+◌, zero, suc, ◌∷◌, ◌++◌, [], List, Option, Some, length, refl, sym, ap, ◌∙◌, ⊎_elim, arith}
 use Rattle.std.specs.Prelude.{slice_get}
 use Rattle.std.proofs.lemmas.Bool.{cases_eq}
 use Rattle.layout.specs.declared.place.Place.{Place}

@@ -1,16 +1,14 @@
 -- Lists and sums over them.
-use Rattle.std.proofs.Common.{◌≡◌, ℕ, zero, suc, ◌+◌, ◌<◌, ◌≤◌, Bool, true, false, List, [], ◌∷◌, ◌++◌, All, map, length, Option, Some, None, refl, sym, ap, subst, ◌∙◌, arith, nat_eq}
+use Rattle.std.proofs.Common.{◌≡◌, ℕ, zero, suc, ◌+◌, ◌<◌, true, List, [], ◌∷◌, All, map, length, Option, Some, None, refl, sym, ap, subst, ◌∙◌, arith, nat_eq}
 use Rattle.std.proofs.lemmas.Map.Views.{list_any-from_Contains}
-use Rattle.std.specs.Prelude.{slice_get, flat_map, if◌then◌else◌, ◌==◌, Contains}
+use Rattle.std.specs.Prelude.{slice_get, flat_map, if◌then◌else◌, Contains}
 use Rattle.std.specs.Cmp.{nat_eq_equiv}
 use Rattle.model.specs.Reached.{has}
-use Rattle.std.specs.List.{sum_by, slice_index_or}
 use Rattle.block_pool.specs.BlockValue.{BlockValue}
 use Rattle.block_pool.specs.Drawn.{times_in}
 use Rattle.pending_queues.specs.Labelled.{times_at, is_label}
 use Rattle.model.specs.Destination.{Shape}
 use Rattle.pending_queues.proofs.Unique.{sum-total}
-use Rattle.model.specs.Total.{times as times_by}
 use Rattle.workers.specs.Block.{Block}
 use Rattle.workers.specs.Total.{total, one_if, times}
 use Rattle.workers.specs.Joined.{Each, deliveries, is_sent}

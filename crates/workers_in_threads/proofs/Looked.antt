@@ -1,24 +1,21 @@
 -- What a worker knows and drew after a look, as the cells told it and its draws went.
-use Rattle.std.proofs.Common.{◌≡◌, ℕ, ◌<◌, ◌≤◌, Bool, true, false, cond, List, [], ◌∷◌, ◌++◌, map, All, Option, Some, None, Result, Ok, Err, refl, sym, ap, subst, ◌∙◌, true≢false}
-use Rattle.std.specs.Prelude.{◌↔◌, IsSome, OnErr, if◌then◌else◌}
-use Rattle.model.specs.Graph.{IsClosed}
+use Rattle.std.proofs.Common.{◌≡◌, ℕ, ◌<◌, ◌≤◌, Bool, true, false, cond, List, [], ◌∷◌, ◌++◌, All, Option, Some, None, Result, Ok, Err, refl, sym, ap, subst, ◌∙◌, true≢false}
+use Rattle.std.specs.Prelude.{IsSome, OnErr, if◌then◌else◌}
 use Rattle.layout.specs.declared.place.Place.{Place}
 use Rattle.block_pool.specs.ClaimsValue.{SeatValue, IsSeatOf}
 use Rattle.steps.specs.HeapValue.{HeapValue}
 use Rattle.steps.specs.CollectionValue.{CollectionValue}
-use Rattle.steps.specs.NamesArePlaces.{NamesArePlaces}
-use Rattle.heap.proofs.SoundHeap.{heap_closed, heap_places}
 use Rattle.workers.specs.Block.{Block, has_unscanned}
 use Rattle.workers.specs.Setting.{Setting, is_collected, is_large_name, destination_of}
 use Rattle.workers.specs.Worker.{Worker, allocation_at}
 use Rattle.workers.specs.WorkerSteps.{CanLook, current_slot, cell_wanted, draw_wanted, draws_for, is_open_at, retired, propose_into, look_at, look_slot, after_look}
-use Rattle.workers.specs.WorkerRun.{Looked, History, noted_look, known_by_look, go}
+use Rattle.workers.specs.WorkerRun.{Looked, noted_look, known_by_look, go}
 use Rattle.workers.specs.Joined.{Each}
 use Rattle.scavenge.specs.Shown.{WorkspaceValue}
 use Rattle.scavenge.specs.Slots.{seen, cell_of, IsTold, Looks, WantsBlock, seat_after}
 use Rattle.scavenge.specs.Slots as slots
 use Rattle.scavenge.proofs.Unchanged.{finish_won}
-use Rattle.workers_in_threads.specs.SharingValue.{SharingValue, setting_for, setting_in, worker_of, forwarded_in, forwarded_at}
+use Rattle.workers_in_threads.specs.SharingValue.{SharingValue, setting_in, worker_of, forwarded_in}
 use Rattle.workers_in_threads.specs.IsSharing.{IsSharing, HasWorked, KnowsPair}
 use Rattle.workers_in_threads.specs.Sharing.{IsSame, IsRefusedBlock}
 use Rattle.workers_in_threads.specs.Sharing as sharing

@@ -71,3 +71,12 @@ module _ {P A : Type 0} (known : P → ℕ → Option Place) (won : P → List (
       let p = part_at 0 rs h u r e in
       subst (λ s. (k : Is s r) → slice_get (parts_of 0 rs h) u ≡ Some (part_of s r k) → PartFirst rs h u r) (let z : u ≡ 0 + u = omega arith in z)
       (λ k there. record { is = k; there = there }) p.is p.there
+
+  -- each began with its share
+  starts_from : (s : ℕ) (rs : List (ThreadValue P A)) (h : Are s rs) (u : ℕ) (p : Part) → slice_get (parts_of s rs h) u ≡ Some p → p.start ≡ begins heap c n (s + u)
+  starts_from s [] h u p e = absurd (cc)
+  starts_from s (r ∷ rs) h zero p e = let q : part_of s r h.0 ≡ p = cc in let z : s ≡ s + 0 = omega arith in ap (λ (x : Part). x.start) (sym q) ∙ ap (begins heap c n) z
+  starts_from s (r ∷ rs) h (suc u) p e = let z : s + 1 + u ≡ s + suc u = omega arith in starts_from (s + 1) rs h.1 u p e ∙ ap (begins heap c n) z
+
+  pub starts_at : (rs : List (ThreadValue P A)) (h : Are 0 rs) (u : ℕ) (p : Part) → slice_get (parts_of 0 rs h) u ≡ Some p → p.start ≡ begins heap c n u
+  starts_at rs h u p e = let z : 0 + u ≡ u = omega arith in starts_from 0 rs h u p e ∙ ap (begins heap c n) z

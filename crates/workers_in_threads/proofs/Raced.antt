@@ -1,28 +1,24 @@
 -- What a worker knows and won after a race, as the cells ended it.
-use Rattle.std.proofs.Common.{◌≡◌, ℕ, ◌<◌, ◌≤◌, Bool, true, false, cond, List, [], ◌∷◌, ◌++◌, map, All, Option, Some, None, Result, Ok, Err, refl, sym, ap, subst, ◌∙◌, is_some}
+use Rattle.std.proofs.Common.{◌≡◌, ℕ, ◌<◌, ◌≤◌, List, [], ◌∷◌, ◌++◌, All, Option, Some, None, Result, Ok, Err, sym, ap, subst, ◌∙◌, is_some}
 use Rattle.std.proofs.lemmas.Bool.{cond-true, cond-false}
 use Rattle.std.proofs.lemmas.List.{map-append}
 use Rattle.std.proofs.lemmas.List.Elements.{All-push}
-use Rattle.std.specs.Prelude.{IsSome, OnOk, OnErr, slice_index, if◌then◌else◌}
+use Rattle.std.specs.Prelude.{IsSome, OnOk, OnErr, if◌then◌else◌}
 use Rattle.layout.specs.declared.place.Place.{Place}
 use Rattle.layout.specs.Place.{place_word}
 use Rattle.forwarding.specs.declared.cells.outcome.Outcome.{Outcome}
 use Rattle.forwarding.specs.declared.cells.outcome.Outcome.TheVariants.{Won, Lost}
 use Rattle.forwarding.specs.Learned.{RaceEnds, Learns, place_after}
-use Rattle.block_pool.specs.ClaimsValue.{SeatValue, IsSeatOf}
-use Rattle.steps.specs.HeapValue.{HeapValue}
-use Rattle.steps.specs.CollectionValue.{CollectionValue, young_names}
-use Rattle.workers.specs.Setting.{is_large_name}
 use Rattle.workers.specs.Worker.{Worker, Proposal, Copied, Claimed}
 use Rattle.workers.specs.WorkerSteps.{race_of, after_race}
-use Rattle.workers.specs.WorkerRun.{Raced, proposed_name, proposed_place, known_by_race, noted, go, History}
+use Rattle.workers.specs.WorkerRun.{Raced, proposed_name, proposed_place, known_by_race, noted, go}
 use Rattle.workers.specs.Joined.{Each}
 use Rattle.workers.proofs.Acts.{ProposalFit}
 use Rattle.scavenge.specs.Shown.{WorkspaceValue, lost_to, IsBid, name_of}
 use Rattle.scavenge.specs.Told.{IsNumberOf, lost_of}
 use Rattle.scavenge.specs.Told as told
 use Rattle.scavenge.proofs.Unchanged.{some_there, finish_won}
-use Rattle.workers_in_threads.specs.SharingValue.{SharingValue, setting_for, setting_in, worker_of, forwarded_at, forwarded_in, stands_at}
+use Rattle.workers_in_threads.specs.SharingValue.{SharingValue, setting_in, forwarded_at, forwarded_in, stands_at}
 use Rattle.workers_in_threads.specs.IsSharing.{IsSharing, HasWorked, KnowsPair}
 use Rattle.workers_in_threads.specs.Sharing as sharing
 use Rattle.workers_in_threads.proofs.Knowing.{pair_still, each_on}

@@ -1,5 +1,5 @@
 -- What the worker's calls may rely on.
-use Rattle.std.proofs.Common.{◌≡◌, ℕ, ◌<◌, ◌≤◌, true, false, [], ◌∷◌, List, length, map, Option, Some, None, refl, sym, subst, arith, true≢false, All}
+use Rattle.std.proofs.Common.{◌≡◌, ℕ, ◌<◌, ◌≤◌, [], List, length, map, Option, Some, None, refl, sym, subst, arith, All}
 use Rattle.std.specs.Prelude.{IsSome}
 use Rattle.std.specs.Option.{option_map_or}
 use Rattle.model.specs.Graph.{Object, object_at}
@@ -12,13 +12,12 @@ use Rattle.steps.specs.CollectionValue.{CollectionValue, target_of_slot}
 use Rattle.heap.proofs.SoundHeap.{heap_fields}
 use Rattle.pending_queues.specs.PendingValue.{SeatValue as QueueSeatValue}
 use Rattle.scavenge.specs.Handed.{CopiesKeyValue}
-use Rattle.workers.specs.Setting.{is_collected, destination_of, old_pointers}
+use Rattle.workers.specs.Setting.{old_pointers}
 use Rattle.workers.specs.Worker.{Worker}
 use Rattle.workers.specs.Joined.{Each, Roomy}
 use Rattle.workers.specs.Kept.{LiveOrOlder}
 use Rattle.workers.specs.Ready.{IsReady, IsHanded}
 use Rattle.workers.specs.WorkerRun.{proposed_name}
-use Rattle.workers.specs.System.{every}
 use Rattle.workers.proofs.Starts.{opens, opens_roomy, opening_each}
 use Rattle.workers.proofs.ReadyRuns.{run_ready, exports_handed}
 use Rattle.workers.proofs.ReadyLemmas.{few_fields}

@@ -9,6 +9,7 @@ use Rattle.block_pool.specs.ClaimsValue.{all_drawn}
 use Rattle.forwarding.specs.Settled.{all_pairs}
 use Rattle.steps.specs.CollectionValue.{target_of_slot}
 use Rattle.workers.specs.Block.{Block}
+use Rattle.workers.specs.System.{opening_worker}
 use Rattle.workers.specs.Total.{total, one_if, wins_of}
 use Rattle.workers.specs.Joined.{Each, Part}
 use Rattle.workers.specs.Kept.{LiveOrOlder, CopiesLive}
@@ -20,9 +21,10 @@ use Rattle.workers_in_threads.specs.SharingValue.{setting_for, forwarded_in, for
 use Rattle.workers_in_threads.proofs.Readiness.{start_roomy, start_live}
 use Rattle.workers_in_threads.specs.Threads.{ThreadValue, passes_of, draws_of}
 use Rattle.workers_in_threads.specs.Refusing.{Refusing}
+use Rattle.workers_in_threads.specs.Reports.{IsStuckApart}
 use Rattle.workers_in_threads.proofs.Lists.{all_each, total-append}
 use Rattle.workers_in_threads.proofs.Named.{InRange, won_once}
-use Rattle.workers_in_threads.proofs.Parts.{Is, Are, part_of, parts_of, parts_length, each_thread, total_parts, part_first}
+use Rattle.workers_in_threads.proofs.Parts.{Is, Are, part_of, parts_of, parts_length, each_thread, total_parts, part_first, starts_at}
 use Rattle.workers_in_threads.proofs.Joined.{handed_live}
 
 module _ {P A : Type 0} {known : P → ℕ → Option Place} {won : P → List (ℕ × Place)} (all : Refusing P A known won) where
@@ -64,7 +66,7 @@ module _ {P A : Type 0} {known : P → ℕ → Option Place} {won : P → List (
       by [] = refl
       by (r ∷ rs) = ap (λ k. length r.draws.drawn + k) (by rs) ∙ sym (length-append r.draws.drawn (all_drawn (draws_of rs)))
 
-  refused : Refused all.heap.graph all.collection.generation all.heap.config.shape all.heap.config.block_words all.workers (dest_count all.heap.config.shape all.collection.generation) (length all.heap.free) parts
+  abbrev refused : Refused all.heap.graph all.collection.generation all.heap.config.shape all.heap.config.block_words all.workers (dest_count all.heap.config.shape all.collection.generation) (length all.heap.free) parts
   refused =
       let p = part_first known won all.heap all.collection all.workers all.threads all.each all.t all.thread all.there in
       record {
@@ -86,3 +88,15 @@ module _ {P A : Type 0} {known : P → ℕ → Option Place} {won : P → List (
   below_bound words l =
       subst (λ n. length all.heap.free < space_bound words all.heap.config.block_words n (dest_count all.heap.config.shape all.collection.generation)) (parts_length known won all.heap all.collection all.workers 0 all.threads all.each ∙ all.count)
       (refused-below all.heap.graph all.collection.generation all.heap.config.shape all.heap.config.block_words all.workers (dest_count all.heap.config.shape all.collection.generation) (length all.heap.free) parts refused words l)
+
+  pub stuck_apart : IsStuckApart all.heap all.collection.generation all.workers
+  stuck_apart =
+      record {
+        parts = parts;
+        many = parts_length known won all.heap all.collection all.workers 0 all.threads all.each ∙ all.count;
+        starts = λ t part there.
+            starts_at known won all.heap all.collection all.workers all.threads all.each t part there
+            ∙ ap (λ ss. opening_worker (dest_count all.heap.config.shape all.collection.generation) all.workers (map target_of_slot ss) t) all.ready.opened.slots;
+        refused = refused;
+        can = all.can;
+      }

@@ -2,13 +2,11 @@
 use Rattle.std.specs.Prelude.{◌≡◌, ℕ, ◌<◌, ◌≤◌, List, All, map, length, Option, Some}
 use Rattle.layout.specs.declared.place.Place.{Place}
 use Rattle.block_pool.specs.ClaimsValue.{SeatValue, IsSeatOf}
-use Rattle.steps.specs.ConfigRange.{IsInRange}
 use Rattle.steps.specs.HeapValue.{HeapValue}
 use Rattle.steps.specs.CollectionValue.{CollectionValue, young_names}
 use Rattle.pending_queues.specs.PendingValue.{IsSeatOf as IsQueueSeat}
 use Rattle.pending_queues.specs.PendingValue.{SeatValue as QueueSeatValue}
 use Rattle.scavenge.specs.Handed.{CopiesKeyValue}
-use Rattle.workers.specs.Setting.{Setting}
 use Rattle.workers.specs.Worker.{Worker}
 use Rattle.workers.specs.WorkerRun.{WorkerRun, History}
 use Rattle.workers.specs.Joined.{Each}

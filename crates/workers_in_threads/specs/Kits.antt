@@ -11,7 +11,7 @@ use Rattle.idle_count.specs.VerdictValue.{VerdictValue}
 use Rattle.pending_queues.specs.PendingValue.{Source, new_seat}
 use Rattle.pending_queues.specs.PendingValue.{IsSeatOf as IsQueueSeat}
 use Rattle.scavenge.specs.Handed.{CopiesKeyValue}
-use Rattle.workers.specs.WorkerSteps.{draw_wanted}
+use Rattle.workers.specs.WorkerSteps.{draw_wanted, CanLook}
 use Rattle.scavenge.specs.declared.looking.LookError.TheVariants.{HeapFull}
 use Rattle.scavenge.specs.ReadyToCollect.{IsReadyToCollect}
 use Rattle.workers_in_threads.specs.declared.sharing_worker.resting.Outcome.TheVariants.{Ended, Refused}
@@ -53,6 +53,7 @@ module _ {P A : Type 0} where
     pub seat : IsQueueSeat queues r.seat
     pub thread : IsThread known won heap c n t (thread_of r)
     pub ended : r.outcome ≡ Ended → HasEnded (thread_of r)
+    pub can : r.outcome ≡ Refused HeapFull → CanLook (setting_for heap c n) r.workspace.worker
     pub wanted : r.outcome ≡ Refused HeapFull → draw_wanted (setting_for heap c n) r.workspace.worker None ≡ true
     pub out : r.outcome ≡ Refused HeapFull → r.draws.out ≡ true
 

@@ -10,13 +10,15 @@ use Rattle.steps.specs.declared.heap_values.report.Delivery.{Delivery}
 use Rattle.workers.specs.Block.{Block, has_unscanned}
 use Rattle.workers.specs.Joined.{Each, Part}
 use Rattle.workers.specs.Kept.{won_lists}
+use Rattle.workers.specs.Refused.{Refused}
 use Rattle.workers.specs.Ordered.{TurnRun}
 use Rattle.workers.specs.Scans.{ScansInBlocks}
 use Rattle.workers.specs.System.{System, opening_worker}
 use Rattle.workers.specs.Taken.{AreTakenInOrder}
 use Rattle.workers.specs.Worker.{Worker}
+use Rattle.workers.specs.WorkerSteps.{CanLook}
 use Rattle.scavenge.specs.Waiting.{left_of}
-use Rattle.settling.specs.Collects.{Collects, ScansAlone, setting_at}
+use Rattle.settling.specs.Collects.{Collects, ScansAlone, setting_at, IsStuckAlone}
 use Rattle.settling.specs.Together.{Reports}
 use Rattle.workers_in_threads.specs.SharingValue.{labelled_from}
 use Rattle.workers_in_threads.specs.LastPlaces.{last_places, StandInOrder}
@@ -69,6 +71,18 @@ pub record ReportsApart (heap : HeapValue) (g n : ℕ) (reports : List WorkerLis
 -- fewer blocks were free than the space bound of the live words for n workers
 abbrev pub IsShortOfBlocksFor : HeapValue → ℕ → ℕ → Type 0
 IsShortOfBlocksFor heap g n = (words : ℕ) → LiveWords heap.graph g heap.config.block_words words → length heap.free < space_bound words heap.config.block_words n (dest_count heap.config.shape g)
+
+-- of n workers on threads of their own, each of which went on from its share of the start and stands anywhere, one can look at a slot whose copy wants a block, and each block that was free was drawn
+pub record IsStuckApart (heap : HeapValue) (g n : ℕ) : Type 0 where
+  pub parts : List Part
+  pub many : length parts ≡ n
+  pub starts : (t : ℕ) (part : Part) → slice_get parts t ≡ Some part → part.start ≡ opening_worker (dest_count heap.config.shape g) n (map target_of_slot (slots_of heap g)) t
+  pub refused : Refused heap.graph g heap.config.shape heap.config.block_words n (dest_count heap.config.shape g) (length heap.free) parts
+  pub can : CanLook (setting_at heap g n) refused.part.final
+
+-- n workers came to that; or, where one left early though none was refused anything, one worker by itself did
+abbrev pub IsStuckFor : HeapValue → ℕ → ℕ → Type 0
+IsStuckFor heap g n = IsStuckApart heap g n ⊎ IsStuckAlone heap g
 
 -- n workers on threads of their own collected the generations 0 to g and report so; or, where one left early though none was refused anything, one worker did it by itself
 pub record CollectsApart (old : HeapValue) (g n kept freed : ℕ) (workers : List WorkerLists) (deliveries : List Delivery) (new : HeapValue) : Type 0 where

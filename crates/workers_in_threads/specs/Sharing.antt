@@ -1,6 +1,6 @@
 -- What one step changes of a worker among several.
 use Rattle.std.specs.Prelude.{◌≡◌, ℕ, true, None, Option, length}
-use Rattle.workers.specs.WorkerSteps.{draw_wanted, IsOutOfWork, current_slot}
+use Rattle.workers.specs.WorkerSteps.{draw_wanted, CanLook, IsOutOfWork, current_slot}
 use Rattle.workers.specs.WorkerRun.{Act, Looked, Raced, after}
 use Rattle.workers.specs.Worker.{Nothing}
 use Rattle.workers_in_threads.specs.SharingValue.{SharingValue, setting_in, worker_of}
@@ -31,8 +31,9 @@ module _ {C P A : Type 0} where
     pub lost : Option ℕ
     pub acts : Acts (Raced lost) old new
 
-  -- a copy wanted a block, and a draw found none
+  -- it can look, its copy wants a block, and a draw found none
   pub record IsRefusedBlock (v : SharingValue C P A) : Type 0 where
+    pub can : CanLook (setting_in v) (worker_of v)
     pub wanted : draw_wanted (setting_in v) (worker_of v) None ≡ true
     pub out : v.draws.out ≡ true
 

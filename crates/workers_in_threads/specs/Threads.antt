@@ -1,11 +1,11 @@
 -- What workers on threads of their own bring together, and what cells, draws and queues say of it.
-use Rattle.std.specs.Prelude.{◌≡◌, ℕ, ◌+◌, ◌<◌, zero, suc, List, [], ◌∷◌, All, map, flat_map, length, Option, None, nat_eq, slice_index_or, IsTrue}
+use Rattle.std.specs.Prelude.{◌≡◌, ℕ, ◌+◌, ◌<◌, List, [], ◌∷◌, All, map, length, Option, None, nat_eq, slice_index_or, IsTrue}
 use Rattle.std.specs.List.{Contains, IsDistinct}
 use Rattle.std.specs.Ordering.{nat_cmp}
 use Rattle.std.specs.FinMap.{find}
 use Rattle.model.specs.Reached.{has}
 use Rattle.layout.specs.declared.place.Place.{Place}
-use Rattle.block_pool.specs.ClaimsValue.{Source, SeatValue, IsSeatOf, all_drawn}
+use Rattle.block_pool.specs.ClaimsValue.{SeatValue, all_drawn}
 use Rattle.forwarding.specs.Settled.{IsSettled, all_pairs}
 use Rattle.pending_queues.specs.declared.exports.deliveries.Delivery.{Delivery}
 use Rattle.steps.specs.HeapValue.{HeapValue}
@@ -21,7 +21,7 @@ use Rattle.workers.specs.Ordered.{Ordered, AreHandedOn, GoOn, ScanOwn}
 use Rattle.scavenge.specs.Shown.{WorkspaceValue}
 use Rattle.scavenge.specs.ReadyToCollect.{IsReadyToCollect}
 use Rattle.workers_in_threads.specs.Queued.{IsQueued}
-use Rattle.workers_in_threads.specs.SharingValue.{setting_for, begins, forwarded_in}
+use Rattle.workers_in_threads.specs.SharingValue.{setting_for, forwarded_in}
 use Rattle.workers_in_threads.specs.IsSharing.{HasWorked}
 
 -- what one worker brings: its pass, its draws, its seat at the queues and its own part

@@ -10,6 +10,7 @@ ghost use Rattle.block_pool.specs.BlockValue.{BlockValue};
 ghost use Rattle.steps.specs.ReportValue.{WorkerLists, all_won};
 ghost use Rattle.steps.specs.SettledValue.{IsSettled};
 ghost use Rattle.workers_in_threads.specs.Reported.{Reported};
+ghost use Rattle.workers_in_threads.specs.Reports.{IsStuckApart};
 ghost use Rattle.workers_in_threads.specs.Threads.{ThreadValue, Gathered, KeptBy};
 
 /// What is made of it may be committed.
@@ -20,6 +21,11 @@ pub fn threads_settle<P, A>()
 /// What they brought is what a collection keeps.
 pub fn threads_keep<P, A>()
     ensures { (known : P → ℕ → Option Place) (won : P → List (ℕ × Place)) (all : Gathered P A known won) → KeptBy all }
+{}
+
+/// Where one is refused a block, it can look, and all that were free were drawn.
+pub fn threads_are_stuck<P, A>()
+    ensures { (known : P → ℕ → Option Place) (won : P → List (ℕ × Place)) (all : Refusing P A known won) → IsStuckApart all.heap all.collection.generation all.workers }
 {}
 
 /// Where one is refused a block, fewer were free than the space bound.

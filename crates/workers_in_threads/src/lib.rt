@@ -14,6 +14,6 @@ mod threads;
 
 pub use apart::{MOST_WORKERS, scavenged_apart};
 pub use gathering::gathered;
-pub use joining::{threads_below_bound, threads_keep, threads_settle};
+pub use joining::{threads_are_stuck, threads_below_bound, threads_keep, threads_settle};
 pub use separating::{Apart, Seats};
 pub use sharing_worker::Outcome;

@@ -43,10 +43,10 @@ pub fn work_apart<R: Wait, S: SharedCells, G: Gate, A: Allocator + Clone>(
         gate,
         worker: seat.index(),
     };
-    let mut worker = SharingWorker::new(
+    let worker = SharingWorker::new(
         heap, collection, claims, queues, workers, lent, pass, draws, seat, workspace,
     );
-    let outcome = worker.run(rt, alloc, gate, idle, &mut rest, verdict, &mut voice);
+    let (worker, outcome) = worker.run(rt, alloc, gate, idle, &mut rest, verdict, &mut voice);
     let SharingParts {
         cells: _,
         pass,

@@ -178,8 +178,12 @@ is_there r true is there = is
 is_there r false is there = absurd (there is)
 
 -- a block is wanted, and none is left
-pub is_refused : (v : InterleavedValue) (t : ℕ) → WantsDraw v t → (system_of v).free ≡ [] → IsRefused (setting_in v) (system_of v) (Look t)
-is_refused v t wants none = record { t = t; worker = wants.worker; look = refl; at = wants.at; wanted = wants.wanted; none_free = none }
+pub is_refused : (v : InterleavedValue) (t : ℕ) → IsLawful (setting_in v) (system_of v) (Look t) → WantsDraw v t → (system_of v).free ≡ [] → IsRefused (setting_in v) (system_of v) (Look t)
+is_refused v t lawful wants none =
+    record { t = t; worker = wants.worker; look = refl; at = wants.at; can = subst (CanLook (setting_in v)) same lawful.can; wanted = wants.wanted; none_free = none }
+  where
+    same : lawful.worker ≡ wants.worker
+    same = let e : Some lawful.worker ≡ Some wants.worker = sym lawful.at.is ∙ wants.at.is in cc
 
 -- the call's answer: a look, or nothing
 module _ (v : InterleavedValue) (k : IsInterleaved v) (t : ℕ) (m : MemberValue) (is : m ≡ slice_index_or v.members t m) (lawful : IsLawful (setting_in v) (system_of v) (Look t)) (heap : HeapValue) (c : CollectionValue) (same_heap : heap ≡ v.heap) (same_collection : c ≡ v.collection) (pass : PlainPassValue) where

@@ -6,7 +6,7 @@ use Rattle.scavenge.specs.declared.looking.LookError.TheVariants.{HeapFull}
 use Rattle.settling.specs.Collects.{ScansAlone, ScansOnce}
 use Rattle.one_worker.specs.Stepping.{IsDone}
 use Rattle.one_worker.proofs.Going.{reached_of}
-use Rattle.collector.proofs.Concluding.{begins, ready_in, short_of, scans, scans_once}
+use Rattle.collector.proofs.Concluding.{begins, ready_in, short_of, stuck_of, scans, scans_once}
 use Rattle.collector.proofs.scavenged.Goals as goal
 
 pub run_to_end-serial-requires-clause-stepped : goal.run_to_end-serial-requires-clause-stepped
@@ -39,4 +39,10 @@ pub returns-in_ok-count_drawn-in-Err-HeapFull-clause-full : goal.returns-in_ok-c
 returns-in_ok-count_drawn-in-Err-HeapFull-clause-full g c e =
     let was : c.run_to_end-serial.result.1 ≡ Err c.in-Err-HeapFull.field-0 = c.in-Err-HeapFull.is in
     let is : c.in-Err-HeapFull.field-0 ≡ HeapFull = rw c.in-Err-HeapFull.is at c.in-Err-HeapFull.field-0-is in
-    short_of c.args.heap.now c.args.collection c.run_to_end-serial.result.0 c.requires c.run_to_end-serial.ensures.same c.run_to_end-serial.ensures.stepped (c.run_to_end-serial.ensures.full (was ∙ ap Err is)).wants c.in_ok-count_drawn-in-Err-HeapFull.ensures
+    short_of c.args.heap.now c.args.collection c.run_to_end-serial.result.0 c.requires c.run_to_end-serial.ensures.same c.run_to_end-serial.ensures.stepped (c.run_to_end-serial.ensures.full (was ∙ ap Err is)) c.in_ok-count_drawn-in-Err-HeapFull.ensures
+
+pub returns-in_ok-count_drawn-in-Err-HeapFull-clause-stuck : goal.returns-in_ok-count_drawn-in-Err-HeapFull-clause-stuck
+returns-in_ok-count_drawn-in-Err-HeapFull-clause-stuck g c e =
+    let was : c.run_to_end-serial.result.1 ≡ Err c.in-Err-HeapFull.field-0 = c.in-Err-HeapFull.is in
+    let is : c.in-Err-HeapFull.field-0 ≡ HeapFull = rw c.in-Err-HeapFull.is at c.in-Err-HeapFull.field-0-is in
+    stuck_of c.args.heap.now c.args.collection c.run_to_end-serial.result.0 c.requires c.run_to_end-serial.ensures.same c.run_to_end-serial.ensures.stepped (c.run_to_end-serial.ensures.full (was ∙ ap Err is)) c.in_ok-count_drawn-in-Err-HeapFull.ensures

@@ -1,8 +1,8 @@
 //! What a collection without a schedule brings to a commit.
 ghost use Rattle.std.specs.Prelude.{◌≡◌, ◌<◌, ◌≤◌, Some, IfOk, IfErr};
 ghost use Rattle.trace_session.specs.Faults.{MatchEachFault};
-ghost use Rattle.machine.specs.Events.{IsShortOfBlocks};
 ghost use Rattle.trace_replay.specs.Brought.{ComesToCommit};
+ghost use Rattle.trace_replay.specs.Stops.{IsFullInTurn};
 
 use crate::schedules::lines::finish;
 use heap::{Heap, Settled};
@@ -25,7 +25,7 @@ pub fn settled_by_itself<A: Allocator + Clone>(
     ensures ok { IfOk result (λ s. ComesToCommit heap.now generation workers s.collection s.places s.blocks.items s.workers.items s.deliveries.items) }
     ensures err { IfErr result (λ e. MatchEachFault e
         (λ _ _. ⊥) (λ _ _. ⊥)
-        (λ at. (at ≡ Some number) × IsShortOfBlocks heap.now generation workers)
+        (λ at. (at ≡ Some number) × IsFullInTurn heap.now generation workers)
         (λ at. at ≡ Some number)
         ⊥ ⊥) }
 {

@@ -4,13 +4,12 @@ ghost use Rattle.heap_text.specs.Streams.{Appends};
 ghost use Rattle.model.specs.Store.{collected};
 ghost use Rattle.model.specs.Commands.{Collect};
 ghost use Rattle.collector.specs.declared.apart.CellKind.TheVariants.{Box};
-ghost use Rattle.workers_in_threads.specs.Reports.{IsShortOfBlocksFor};
 ghost use Rattle.trace_session.specs.CollectsFirst.{auto_line};
-ghost use Rattle.trace_session.specs.Faults.{MatchFaultApart};
+ghost use Rattle.trace_session.specs.Faults.{MatchFaultApart, UnlessOfWrite};
 ghost use Rattle.trace_session.specs.Outcome.{command_step};
 ghost use Rattle.trace_session.specs.Sound.{IsSoundCommand};
 ghost use Rattle.trace_session.specs.Stepped.{AtEach, StepsTo};
-ghost use Rattle.trace_session.specs.Refusals.{CommandMayBeFull};
+ghost use Rattle.trace_session.specs.Refusals.{CommandMayBeFull, IsFullToCollect};
 ghost use Rattle.trace_session.specs.Session.{Stands};
 
 use crate::Session;
@@ -24,7 +23,7 @@ use std::sync::Wait;
 use std::thread::Threads;
 
 /// Collects the generations 0 to this one by the crew, and writes how many objects were kept and freed. `HeapFull` says that
-/// fewer blocks of this heap were free than the space bound for so many workers, `Unsettled` that boxed cells were not settled.
+/// a copy wanted a block when none was free, and that fewer were free than the space bound for so many workers, `Unsettled` that boxed cells were not settled.
 pub fn collect_apart<
     R: Threads + Wait + Sync + AllocGlobal,
     G: Gate + Sync,
@@ -44,11 +43,12 @@ pub fn collect_apart<
     ensures rises { W.failed_writes writer.new ≤ W.failed_writes writer.old + 1 }
     ensures err { IfErr result (λ e. MatchFaultApart e
         (λ at kind. (at ≡ number) × AtEach (Stands session.old) (λ config store. command_step config store (Collect generation) ≡ Err kind) × (writer.new ≡ writer.old))
-        (λ at. (at ≡ Some number) × IsShortOfBlocksFor session.old.heap generation crew.now.workers × AtEach (Stands session.old) (λ config store. CommandMayBeFull crew.now.workers config store (Collect generation)) × (writer.new ≡ writer.old))
+        (λ at. (at ≡ Some number) × IsFullToCollect session.old.heap generation crew.now.workers × AtEach (Stands session.old) (λ config store. CommandMayBeFull crew.now.workers config store (Collect generation)) × (writer.new ≡ writer.old))
         (λ at. (at ≡ Some number) × AtEach (Stands session.old) (λ config store. IsSoundCommand config store (Collect generation)) × (writer.new ≡ writer.old))
         (λ at. (at ≡ number) × (crew.now.kind ≡ Box) × AtEach (Stands session.old) (λ config store. IsSoundCommand config store (Collect generation)) × (writer.new ≡ writer.old))
         ⊥
         (W.failed_writes writer.new ≡ W.failed_writes writer.old + 1)) }
+    ensures before { IfErr result (λ e. UnlessOfWrite e (session.new ≡ session.old)) }
 {
     if generation >= session.heap.config().generations() as u64 {
         return Err(Fault::BadTrace(number, Kind::NoGeneration));
@@ -90,7 +90,7 @@ pub fn make_room_apart<
     ensures counts { OnOk result (W.failed_writes writer.new ≡ W.failed_writes writer.old) }
     ensures rises { W.failed_writes writer.new ≤ W.failed_writes writer.old + 1 }
     ensures err { IfErr result (λ e. MatchFaultApart e (λ _ _. ⊥)
-        (λ at. (at ≡ Some number) × IsShortOfBlocksFor session.old.heap 0 crew.now.workers × (session.new ≡ session.old) × (writer.new ≡ writer.old))
+        (λ at. (at ≡ Some number) × IsFullToCollect session.old.heap 0 crew.now.workers × (session.new ≡ session.old) × (writer.new ≡ writer.old))
         (λ at. (at ≡ Some number) × (session.new ≡ session.old) × (writer.new ≡ writer.old))
         (λ at. (at ≡ number) × (crew.now.kind ≡ Box) × (session.new ≡ session.old) × (writer.new ≡ writer.old))
         ⊥

@@ -2,17 +2,16 @@
 ghost use Rattle.std.specs.Prelude.{◌≡◌, ◌+◌, ◌-◌, ◌^◌, ◌<◌, ◌≤◌, Some, Err, OnOk, IfErr, is_some};
 ghost use Rattle.heap_text.specs.Streams.{Appends};
 ghost use Rattle.std.specs.List.{list_all};
-ghost use Rattle.settling.specs.Collects.{IsShortOfBlocks};
 ghost use Rattle.model.specs.Graph.{root_at};
 ghost use Rattle.model.specs.Store.{collected};
 ghost use Rattle.model.specs.Commands as meant;
 ghost use Rattle.model.specs.Commands.{Collect, Census};
 ghost use Rattle.trace_session.specs.CollectsFirst.{auto_line};
-ghost use Rattle.trace_session.specs.Faults.{MatchFault};
+ghost use Rattle.trace_session.specs.Faults.{MatchFault, UnlessOfWrite};
 ghost use Rattle.trace_session.specs.Outcome.{command_step};
 ghost use Rattle.trace_session.specs.Sound.{IsSoundCommand};
 ghost use Rattle.trace_session.specs.Stepped.{AtEach, StepsTo};
-ghost use Rattle.trace_session.specs.Refusals.{CommandMayBeFull};
+ghost use Rattle.trace_session.specs.Refusals.{CommandMayBeFull, IsFullToCollect};
 ghost use Rattle.trace_session.specs.Session.{Stands};
 
 use crate::Session;
@@ -50,6 +49,7 @@ pub fn census<A: Allocator + Clone, W: Sink>(
         (λ at. (at ≡ Some number) × AtEach (Stands session.old) (λ config store. IsSoundCommand config store Census) × (writer.new ≡ writer.old))
         ⊥
         (W.failed_writes writer.new ≡ W.failed_writes writer.old + 1)) }
+    ensures kept { session.new ≡ session.old }
 {
     let Ok(alloc) = session.alloc.clone() else {
         return Err(Fault::NoMemory(Some(number)));
@@ -61,8 +61,9 @@ pub fn census<A: Allocator + Clone, W: Sink>(
     }
 }
 
-/// Collects the generations 0 to this one, and writes how many objects were kept and freed. `HeapFull` says that fewer
-/// blocks of this heap were free than the space bound.
+/// Collects the generations 0 to this one, and writes how many objects were kept and freed. `HeapFull` says that a copy
+/// wanted a block when none was free, and that fewer blocks of this heap were free than the space bound. At each fault but that of
+/// a write the session is as before.
 pub fn collect<A: Allocator + Clone, W: Sink>(
     session: &mut Session<A>,
     number: u128,
@@ -76,10 +77,11 @@ pub fn collect<A: Allocator + Clone, W: Sink>(
     ensures rises { W.failed_writes writer.new ≤ W.failed_writes writer.old + 1 }
     ensures err { IfErr result (λ e. MatchFault e
         (λ at kind. (at ≡ number) × AtEach (Stands session.old) (λ config store. command_step config store (Collect generation) ≡ Err kind) × (writer.new ≡ writer.old))
-        (λ at. (at ≡ Some number) × IsShortOfBlocks session.old.heap generation × AtEach (Stands session.old) (λ config store. CommandMayBeFull 1 config store (Collect generation)) × (writer.new ≡ writer.old))
+        (λ at. (at ≡ Some number) × IsFullToCollect session.old.heap generation 1 × AtEach (Stands session.old) (λ config store. CommandMayBeFull 1 config store (Collect generation)) × (writer.new ≡ writer.old))
         (λ at. (at ≡ Some number) × AtEach (Stands session.old) (λ config store. IsSoundCommand config store (Collect generation)) × (writer.new ≡ writer.old))
         ⊥
         (W.failed_writes writer.new ≡ W.failed_writes writer.old + 1)) }
+    ensures before { IfErr result (λ e. UnlessOfWrite e (session.new ≡ session.old)) }
 {
     if generation >= session.heap.config().generations() as u64 {
         return Err(Fault::BadTrace(number, Kind::NoGeneration));
@@ -113,7 +115,7 @@ pub fn make_room<A: Allocator + Clone, W: Sink>(
     ensures counts { OnOk result (W.failed_writes writer.new ≡ W.failed_writes writer.old) }
     ensures rises { W.failed_writes writer.new ≤ W.failed_writes writer.old + 1 }
     ensures err { IfErr result (λ e. MatchFault e (λ _ _. ⊥)
-        (λ at. (at ≡ Some number) × IsShortOfBlocks session.old.heap 0 × (session.new ≡ session.old) × (writer.new ≡ writer.old))
+        (λ at. (at ≡ Some number) × IsFullToCollect session.old.heap 0 1 × (session.new ≡ session.old) × (writer.new ≡ writer.old))
         (λ at. (at ≡ Some number) × (session.new ≡ session.old) × (writer.new ≡ writer.old))
         ⊥
         (W.failed_writes writer.new ≡ W.failed_writes writer.old + 1)) }
@@ -158,6 +160,7 @@ pub fn show_heap<A: Allocator + Clone, W: Sink>(
         (λ at. (at ≡ Some number) × AtEach (Stands session.old) (λ config store. IsSoundCommand config store meant.Heap) × (writer.new ≡ writer.old))
         ⊥
         (W.failed_writes writer.new ≡ W.failed_writes writer.old + 1)) }
+    ensures kept { session.new ≡ session.old }
 {
     let Ok(alloc) = session.alloc.clone() else {
         return Err(Fault::NoMemory(Some(number)));

@@ -3,6 +3,8 @@ mod queueing;
 mod racing;
 mod readers;
 mod resting;
+mod sweep;
+mod sweeping;
 mod taking;
 mod worker;
 mod working;

@@ -2,6 +2,7 @@
 ghost use Rattle.std.specs.Prelude.{◌≡◌, ◌≢◌, ◌<◌, ◌↔◌, [], None, IsSome, IsTrue};
 ghost use Rattle.workers.specs.Worker.{Nothing};
 ghost use Rattle.workers.specs.Lawful.{lowest_open};
+ghost use Rattle.scavenge.specs.Swept.{is_holding};
 ghost use Rattle.workers_in_threads.specs.SharingValue.{worker_of};
 
 use crate::sharing_worker::worker::SharingWorker;
@@ -36,6 +37,14 @@ impl<'a, C: Cells, A: Allocator> SharingWorker<'a, C, A> {
         ensures { IsTrue result ↔ ((worker_of self.now).hand ≢ Nothing) }
     {
         self.workspace.has_hand()
+    }
+
+    /// Whether a block is held in hand that was retired or taken.
+    #[inline(always)]
+    pub fn holds_block(&self) -> bool
+        ensures { result ≡ is_holding (worker_of self.now).hand }
+    {
+        self.workspace.holds_block()
     }
 
     /// Whether something is aside.

@@ -93,7 +93,7 @@ impl<'a, C: Cells, A: Allocator + Clone> SharingWorker<'a, C, A> {
     /// Works and rests in turn until all workers are idle, or it is told to leave, or it can't go on; then it tells the
     /// others to leave.
     pub fn run<R: Wait, G: Gate, B: Allocator>(
-        &mut self,
+        mut self,
         rt: &R,
         alloc: A,
         gate: &G,
@@ -101,37 +101,39 @@ impl<'a, C: Cells, A: Allocator + Clone> SharingWorker<'a, C, A> {
         rest: &mut IdleSeat,
         verdict: &Verdict,
         voice: &mut VerdictSeat,
-    ) -> Outcome
+    ) -> (Self, Outcome)
         requires rest { IsSeatOf idle.now rest.old }
         requires busy { rest.old.idle ≡ false }
         requires voice { voice.old.name ≡ verdict.now.name }
-        ensures same { IsSame C.at_home self.old self.new }
+        ensures same { IsSame C.at_home self.entry result.0 }
         ensures rest { IsSeatOf idle.now rest.new }
         ensures voice { voice.new.name ≡ verdict.now.name }
-        ensures ended { result ≡ Ended → IsDone self.new × HasEnded rest.new }
-        ensures full { result ≡ Refused HeapFull → IsRefusedBlock self.new }
+        ensures ended { result.1 ≡ Ended → IsDone result.0 × HasEnded rest.new }
+        ensures full { result.1 ≡ Refused HeapFull → IsRefusedBlock result.0 }
     {
         let number = self.number();
         for _ in rt.forever() {
             let Ok(alloc) = alloc.clone() else {
                 gate.before(number, StepKind::Verdict);
                 verdict.raise(voice, Cause::Refused);
-                return Outcome::Refused(LookError::NoMemory);
+                return (self, Outcome::Refused(LookError::NoMemory));
             };
-            match self.work(rt, alloc, gate, verdict, voice) {
+            let (worker, worked) = self.work(rt, alloc, gate, verdict, voice);
+            self = worker;
+            match worked {
                 Err(error) => {
                     gate.before(number, StepKind::Verdict);
                     verdict.raise(voice, Cause::Refused);
-                    return Outcome::Refused(error);
+                    return (self, Outcome::Refused(error));
                 }
-                Ok(false) => return Outcome::Left,
+                Ok(false) => return (self, Outcome::Left),
                 Ok(true) => {}
             }
             gate.before(number, StepKind::Idle);
             idle.idle(rest);
             match self.rest(rt, gate, idle, rest, verdict, voice) {
-                Rested::Ended => return Outcome::Ended,
-                Rested::Left => return Outcome::Left,
+                Rested::Ended => return (self, Outcome::Ended),
+                Rested::Left => return (self, Outcome::Left),
                 Rested::Woken => {}
             }
         }

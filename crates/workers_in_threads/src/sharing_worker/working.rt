@@ -3,6 +3,7 @@ ghost use Rattle.std.specs.Prelude.{◌≡◌, ◌≢◌, true, false, Ok, Err, 
 ghost use Rattle.workers.specs.WorkerSteps.{IsFree};
 ghost use Rattle.workers_in_threads.specs.SharingValue.{worker_of};
 ghost use Rattle.workers_in_threads.specs.Sharing.{IsSame, IsRefusedBlock, HasNothingInHand, IsDone};
+ghost use Rattle.workers_in_threads.specs.declared.sharing_worker.working.Worked.TheVariants as worked;
 
 use crate::sharing_worker::worker::SharingWorker;
 use forwarding::{Cells, Gate, StepKind};
@@ -10,6 +11,17 @@ use idle_count::{Verdict, VerdictSeat};
 use scavenge::{Evacuated, LookError};
 use std::alloc::{AllocError, Allocator};
 use std::sync::Wait;
+
+/// What a worker's next step came to.
+#[derive(Clone, Copy, PartialEq, Eq, Debug)]
+enum Worked {
+    /// There was one.
+    GoesOn,
+    /// Nothing is left to it.
+    OutOfWork,
+    /// It is told to leave.
+    Left,
+}
 
 impl<'a, C: Cells, A: Allocator + Clone> SharingWorker<'a, C, A> {
     /// A look with the race for what it proposes, or a scan, where they want neither a block nor a queue. Tells whether
@@ -113,33 +125,67 @@ impl<'a, C: Cells, A: Allocator + Clone> SharingWorker<'a, C, A> {
         self.take_any(rt, gate)
     }
 
-    /// Works until nothing is left to the worker (true), or until it is told to leave (false). An error says that a block
-    /// was wanted and all were drawn, or that memory ran out.
-    pub fn work<R: Wait, G: Gate>(
+    /// What comes next: what `scavenge` can do, and then a step that may want a block or a queue, or a look at the verdict.
+    /// An error says that a block was wanted and all were drawn, or that memory ran out.
+    fn work_once<R: Wait, G: Gate>(
         &mut self,
         rt: &R,
         alloc: A,
         gate: &G,
         verdict: &Verdict,
         voice: &mut VerdictSeat,
-    ) -> Result<bool, LookError>
+    ) -> Result<Worked, LookError>
         requires voice { voice.old.name ≡ verdict.now.name }
         ensures voice { voice.new.name ≡ verdict.now.name }
         ensures same { IsSame C.at_home self.old self.new }
-        ensures done { result ≡ Ok true → IsDone self.new }
+        ensures done { result ≡ Ok worked.OutOfWork → IsDone self.new }
         ensures full { result ≡ Err LookError.HeapFull → IsRefusedBlock self.new }
     {
+        self.scavenge(rt)?;
+        if self.go_on(alloc)? {
+            return Ok(Worked::GoesOn);
+        }
+        gate.before(self.number(), StepKind::Verdict);
+        if verdict.read(voice).is_some() {
+            return Ok(Worked::Left);
+        }
+        if self.find_work(rt, gate)? {
+            return Ok(Worked::GoesOn);
+        }
+        Ok(Worked::OutOfWork)
+    }
+
+    /// Works until nothing is left to the worker (true), or until it is told to leave (false). Where it holds a block in hand, a
+    /// sweep goes over that first. An error says that a block was wanted and all were drawn, or that memory ran out.
+    pub fn work<R: Wait, G: Gate>(
+        mut self,
+        rt: &R,
+        alloc: A,
+        gate: &G,
+        verdict: &Verdict,
+        voice: &mut VerdictSeat,
+    ) -> (Self, Result<bool, LookError>)
+        requires voice { voice.old.name ≡ verdict.now.name }
+        ensures voice { voice.new.name ≡ verdict.now.name }
+        ensures same { IsSame C.at_home self.entry result.0 }
+        ensures done { result.1 ≡ Ok true → IsDone result.0 }
+        ensures full { result.1 ≡ Err LookError.HeapFull → IsRefusedBlock result.0 }
+    {
         for _ in rt.forever() {
-            self.scavenge(rt)?;
-            if self.go_on(alloc.clone()?)? {
-                continue;
+            if self.holds_block() && !self.has_proposal() {
+                if self.reserve_sweep().is_err() {
+                    return (self, Err(LookError::NoMemory));
+                }
+                self = self.swept(rt);
             }
-            gate.before(self.number(), StepKind::Verdict);
-            if verdict.read(voice).is_some() {
-                return Ok(false);
-            }
-            if !self.find_work(rt, gate)? {
-                return Ok(true);
+            let Ok(own) = alloc.clone() else {
+                return (self, Err(LookError::NoMemory));
+            };
+            match self.work_once(rt, own, gate, verdict, voice) {
+                Ok(Worked::GoesOn) => {}
+                Ok(Worked::OutOfWork) => return (self, Ok(true)),
+                Ok(Worked::Left) => return (self, Ok(false)),
+                Err(error) => return (self, Err(error)),
             }
         }
         unreachable!()

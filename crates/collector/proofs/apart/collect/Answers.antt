@@ -1,4 +1,4 @@
-use Rattle.std.proofs.Common.{◌≡◌, Err, refl, sym, ap, subst, ◌∙◌, ⊎_elim, arith}
+use Rattle.std.proofs.Common.{◌≡◌, Err, refl, sym, ap, subst, ◌∙◌, inr, ⊎_elim, arith}
 use Rattle.std.specs.Prelude.{IfSome}
 use Rattle.steps.specs.CollectionValue.{CollectionValue}
 use Rattle.steps.specs.declared.heap_values.collection.Settled.{Settled}
@@ -9,6 +9,9 @@ use Rattle.collector.proofs.apart.collect.Goals as goal
 
 pub returns-in-Err-HeapFull-clause-full : goal.returns-in-Err-HeapFull-clause-full
 returns-in-Err-HeapFull-clause-full g c = λ e. rw (← c.take_spare-spare.ensures) (more_workers c.take_spare-spare.new.self c.args.generation c.args.n (omega (arith, c.if-n-eq0.false)) (c.in-Err-HeapFull.ensures.full (ap Err c.in-Err-HeapFull.field-0-is)))
+
+pub returns-in-Err-HeapFull-clause-stuck : goal.returns-in-Err-HeapFull-clause-stuck
+returns-in-Err-HeapFull-clause-stuck g c = λ e. rw (← c.take_spare-spare.ensures) (inr (c.in-Err-HeapFull.ensures.stuck (ap Err c.in-Err-HeapFull.field-0-is)))
 
 pub returns-in_default-commit-clause-config : goal.returns-in_default-commit-clause-config
 returns-in_default-commit-clause-config g c = (λ e. absurd (cc), λ h. absurd (⊎_elim (λ z. omega (arith, z, c.if-n-eq0.false)) (λ l. omega (arith, l, c.if-n-gt-MOST_WORKERS.false)) h))

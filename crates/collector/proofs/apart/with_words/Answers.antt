@@ -2,7 +2,7 @@ use Rattle.std.proofs.Common.{◌≡◌, length, ap, subst, ◌∙◌, arith}
 use Rattle.std.specs.Prelude.{IfOk, IfSome}
 use Rattle.forwarding.specs.Words.{WordPassValue, fresh_pass}
 use Rattle.steps.specs.declared.heap_values.collection.Settled.{Settled}
-use Rattle.workers_in_threads.specs.Reports.{ReportsApart, IsShortOfBlocksFor}
+use Rattle.workers_in_threads.specs.Reports.{ReportsApart, IsShortOfBlocksFor, IsStuckApart}
 use Rattle.workers_in_threads.proofs.Back.{workspaces_count}
 use Rattle.collector.proofs.ByThreads.{at_all, each_pass, were_settled}
 use Rattle.collector.proofs.apart.with_words.Goals as goal
@@ -31,3 +31,6 @@ returns-clause-apart g c =
 
 pub returns-clause-full : goal.returns-clause-full
 returns-clause-full g c = λ e. subst (IsShortOfBlocksFor c.args.heap.now c.args.collection.generation) (workspaces_count _ _ _ _ _ _ _ _ _ _ _ _ _ c.in_ok-ending.ensures ∙ c.in_ok-cells.ensures.many) (c.concluded.ensures.full e)
+
+pub returns-clause-stuck : goal.returns-clause-stuck
+returns-clause-stuck g c = λ e. subst (IsStuckApart c.args.heap.now c.args.collection.generation) (workspaces_count _ _ _ _ _ _ _ _ _ _ _ _ _ c.in_ok-ending.ensures ∙ c.in_ok-cells.ensures.many) (c.concluded.ensures.stuck e)

@@ -4,6 +4,7 @@ use Rattle.model.specs.Text.{collection_line}
 use Rattle.heap_text.specs.ReportText.{workers_text}
 use Rattle.heap_text.specs.CollectionLine.{cause_word}
 use Rattle.heap_text.specs.declared.cause.Cause.TheVariants.{Command}
+use Rattle.trace_session.proofs.CommandFaults.{unless_any}
 use Rattle.trace_session.proofs.LineLemmas.{OfInput-here}
 use Rattle.trace_replay.proofs.BySchedule.{no_generation, no_memory_at, fault_of_schedule, no_memory_read, collects_read, later_read}
 use Rattle.trace_replay.proofs.collecting.collect.Goals as goal
@@ -47,6 +48,9 @@ pub returns-in-Err-clause-err : goal.returns-in-Err-clause-err
 returns-in-Err-clause-err g c =
     fault_of_schedule c.args.session.now.heap c.args.session.now.names c.args.generation c.args.workers c.args.number
     (omega (arith, c.if-generation-generations.false, c.generations.ensures.value, ap (λ x. x.shape.generations) c.config.ensures)) c.args.lines.now.pending (g.S.Source.input c.args.reader.now) _ _ _ _ _ refl c.in-Err.fault c.in-Err.ensures.err
+
+pub returns-in-Err-clause-before : goal.returns-in-Err-clause-before
+returns-in-Err-clause-before g c = unless_any c.in-Err.fault _ refl
 
 pub commit-requires : goal.commit-requires
 commit-requires g c = (c.in-Ok-settled_by_schedule.ensures.ok.holds []).brought.may_commit

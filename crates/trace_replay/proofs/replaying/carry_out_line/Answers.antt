@@ -1,6 +1,6 @@
 use Rattle.std.proofs.Common.{◌≡◌, ◌+◌, Ok, refl, ap, subst, ◌∙◌}
 use Rattle.trace_session.specs.declared.trace_lines.attempt.Attempt.TheVariants.{Done, NurseryFull}
-use Rattle.trace_replay.specs.Events.{IsShortOfBlocks}
+use Rattle.trace_replay.specs.Stops.{IsFullInTurn}
 use Rattle.trace_session.specs.Session.{Stands}
 use Rattle.trace_session.proofs.Twice.{told, first_fault, room_fault, done_twice, no_full_twice, second_fault}
 use Rattle.trace_replay.specs.Replays.{state_of, HasMadeRoom}
@@ -23,7 +23,7 @@ returns-in-Err-make_room-clause-err g c =
     let same = c.in-Ok-NurseryFull.ensures.full (ap (λ a. Ok a) c.in-Ok-NurseryFull.field-0-is) in
     room_fault (Stands c.args.session.now) c.args.number c.args.line.now (λ config store. WantsRoom config c.args.workers (state_of c.args.session.now store) c.args.line.now) (λ config store. HasMadeRoom c.args.workers (state_of c.args.session.now store)) g.W.Sink.output c.args.writer.now
     (λ config store there. told _ _ c.in-Ok-NurseryFull.field-0 NurseryFull c.in-Ok-NurseryFull.field-0-is (c.in-Ok-NurseryFull.ensures.ok config store there)) c.attempt_line.new.writer same.1
-    (IsShortOfBlocks c.attempt_line.new.session.heap 0 c.args.workers) (λ config store there sound first blocks. for_collection sound first (subst (λ s. IsShortOfBlocks s.heap 0 c.args.workers) same.0 blocks))
+    (IsFullInTurn c.attempt_line.new.session.heap 0 c.args.workers) (λ config store there sound first blocks. for_collection sound first (subst (λ s. IsFullInTurn s.heap 0 c.args.workers) same.0 blocks))
     c.attempt_line.new.session c.make_room.new.session c.make_room.new.writer _ _ (λ is. is ∙ ap (λ w. g.W.Sink.failed_writes w + 1) same.1) c.in-Err-make_room.fault c.in-Err-make_room.ensures.err
 
 pub returns-in-Ok-Done-attempt_line-clause-ok : goal.returns-in-Ok-Done-attempt_line-clause-ok

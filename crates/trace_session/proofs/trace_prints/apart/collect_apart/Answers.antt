@@ -1,4 +1,5 @@
 use Rattle.std.proofs.Common.{Err, refl, ap, arith}
+use Rattle.trace_session.specs.Refusals.{IsFullToCollect}
 use Rattle.trace_session.specs.Made.{collected_apart}
 use Rattle.trace_session.proofs.Apart.{must_be_box}
 use Rattle.trace_session.proofs.PrintedSteps.{steps_collect, collect_full, collect_sound, collect_nowhere}
@@ -22,7 +23,7 @@ returns-then-generation-generations-clause-err g c = (
 
 pub returns-in-Err-HeapFull-clause-err : goal.returns-in-Err-HeapFull-clause-err
 returns-in-Err-HeapFull-clause-err g c =
-    let short = c.in-Err-HeapFull.ensures.full (ap (λ e. Err e) c.in-Err-HeapFull.field-0-is) in (
+    let short : IsFullToCollect c.args.session.now.heap c.args.generation c.args.crew.now.workers = record { short = c.in-Err-HeapFull.ensures.full (ap (λ e. Err e) c.in-Err-HeapFull.field-0-is); stuck = c.in-Err-HeapFull.ensures.stuck (ap (λ e. Err e) c.in-Err-HeapFull.field-0-is) } in (
       refl,
       short,
       λ config store stands.

@@ -11,7 +11,7 @@ returns-in-Ok-write_collection-clause-ok g c = λ config store stands.
 pub returns-in-Err-HeapFull-clause-err : goal.returns-in-Err-HeapFull-clause-err
 returns-in-Err-HeapFull-clause-err g c = (
   refl,
-  c.in-Err-HeapFull.ensures.full (ap (λ e. Err e) c.in-Err-HeapFull.field-0-is),
+  record { short = c.in-Err-HeapFull.ensures.full (ap (λ e. Err e) c.in-Err-HeapFull.field-0-is); stuck = c.in-Err-HeapFull.ensures.stuck (ap (λ e. Err e) c.in-Err-HeapFull.field-0-is) },
   ap (λ h. record c.args.session.now { heap = h }) c.in-Err-HeapFull.ensures.err,
   refl,
 )

@@ -1,4 +1,5 @@
-use Rattle.std.proofs.Common.{Err, refl, ap, arith}
+use Rattle.std.proofs.Common.{Err, refl, ap, inr, arith}
+use Rattle.trace_session.specs.Refusals.{IsFullToCollect}
 use Rattle.trace_session.specs.Made.{collected}
 use Rattle.trace_session.proofs.PrintedSteps.{steps_collect, collect_full, collect_sound, collect_nowhere}
 use Rattle.trace_session.proofs.trace_prints.printing.collect.Goals as goal
@@ -21,7 +22,7 @@ returns-then-generation-generations-clause-err g c = (
 
 pub returns-in-Err-HeapFull-clause-err : goal.returns-in-Err-HeapFull-clause-err
 returns-in-Err-HeapFull-clause-err g c =
-    let short = c.in-Err-HeapFull.ensures.full (ap (λ e. Err e) c.in-Err-HeapFull.field-0-is) in (
+    let short : IsFullToCollect c.args.session.now.heap c.args.generation 1 = record { short = c.in-Err-HeapFull.ensures.full (ap (λ e. Err e) c.in-Err-HeapFull.field-0-is); stuck = inr (c.in-Err-HeapFull.ensures.stuck (ap (λ e. Err e) c.in-Err-HeapFull.field-0-is)) } in (
       refl,
       short,
       λ config store stands.

@@ -1,4 +1,4 @@
-use Rattle.std.proofs.Common.{Err, refl, ap, arith}
+use Rattle.std.proofs.Common.{Err, refl, ap, inr, arith}
 use Rattle.trace_session.specs.Made.{collected}
 use Rattle.trace_session.proofs.PrintedSteps.{room_made}
 use Rattle.trace_session.proofs.trace_prints.printing.make_room.Goals as goal
@@ -10,7 +10,7 @@ returns-in-Ok-write_collection-clause-ok g c = λ config store stands.
 pub returns-in-Err-HeapFull-clause-err : goal.returns-in-Err-HeapFull-clause-err
 returns-in-Err-HeapFull-clause-err g c = (
   refl,
-  c.in-Err-HeapFull.ensures.full (ap (λ e. Err e) c.in-Err-HeapFull.field-0-is),
+  record { short = c.in-Err-HeapFull.ensures.full (ap (λ e. Err e) c.in-Err-HeapFull.field-0-is); stuck = inr (c.in-Err-HeapFull.ensures.stuck (ap (λ e. Err e) c.in-Err-HeapFull.field-0-is)) },
   ap (λ h. record c.args.session.now { heap = h }) c.in-Err-HeapFull.ensures.err,
   refl,
 )

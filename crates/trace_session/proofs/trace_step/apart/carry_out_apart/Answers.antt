@@ -6,8 +6,7 @@ use Rattle.trace_session.specs.declared.trace_lines.fault.Fault.TheVariants.{Hea
 use Rattle.trace_session.specs.CollectsFirst.{auto_line, LineCollectsFirst}
 use Rattle.trace_session.specs.Sound.{IsSoundTraceLine}
 use Rattle.trace_session.specs.Stepped.{AtEach}
-use Rattle.workers_in_threads.specs.Reports.{IsShortOfBlocksFor}
-use Rattle.trace_session.specs.Refusals.{MayBeFull, IsFullForLine}
+use Rattle.trace_session.specs.Refusals.{MayBeFull, IsFullForLine, IsFullToCollect}
 use Rattle.trace_session.specs.Session.{Stands}
 use Rattle.trace_session.proofs.Apart.{tells_apart, never_unsettled, may_by_any, full_by_any, full_of, collects_line, faults_of_collect, with_full}
 use Rattle.trace_session.proofs.Twice.{told, tells_full, wants_blocks, first_fault, room_fault, done_twice, no_full_twice, second_fault}
@@ -40,13 +39,13 @@ returns-in-Err-make_room_apart-clause-err g c =
     let wants : AtEach (Stands c.args.session.now) (λ config store. IsSoundTraceLine config store line × LineCollectsFirst config store line) = λ config store there. told _ _ c.in-Ok-NurseryFull.field-0 NurseryFull c.in-Ok-NurseryFull.field-0-is (c.in-Ok-NurseryFull.ensures.ok config store there) in
     tells_apart _ _ _ _ _ _ _ _ _ _ _ _ c.in-Err-make_room_apart.fault
     (room_fault (Stands c.args.session.now) c.args.number line (λ config store. MayBeFull c.args.crew.now.workers config store line) (λ config store written. written ≡ auto_line store) g.W.Sink.output c.args.writer.now wants c.attempt_line.new.writer same.1
-    (IsShortOfBlocksFor c.attempt_line.new.session.heap 0 c.args.crew.now.workers)
+    (IsFullToCollect c.attempt_line.new.session.heap 0 c.args.crew.now.workers)
     (λ config store there sound first short.
     record {
       sound = sound;
       wants =
           wants_blocks c.args.crew.now.workers config store (entry_of line) first
-          (record { heap = c.args.session.now.heap; names = c.args.session.now.names; stands = there; short = subst (λ s. IsShortOfBlocksFor s.heap 0 c.args.crew.now.workers) same.0 short });
+          (record { heap = c.args.session.now.heap; names = c.args.session.now.names; stands = there; full = subst (λ s. IsFullToCollect s.heap 0 c.args.crew.now.workers) same.0 short });
     })
     c.attempt_line.new.session c.make_room_apart.new.session c.make_room_apart.new.writer _ _ (λ is. is ∙ ap (λ w. g.W.Sink.failed_writes w + 1) same.1) c.in-Err-make_room_apart.fault)
     (λ at f. (f.0, f.1, λ config store there. ((wants config store there).0, f.3 ∙ same.1)))
@@ -108,7 +107,7 @@ returns-in-Err-make_room_apart-clause-full g c = λ at is config store there.
     let same = c.in-Ok-NurseryFull.ensures.full (ap (λ a. Ok a) c.in-Ok-NurseryFull.field-0-is) in
     let full : c.in-Err-make_room_apart.fault ≡ HeapFull at = cc in
     let wants = told _ _ c.in-Ok-NurseryFull.field-0 NurseryFull c.in-Ok-NurseryFull.field-0-is (c.in-Ok-NurseryFull.ensures.ok config store there) in
-    inr (wants.1, subst (λ s. IsShortOfBlocksFor s.heap 0 c.args.crew.now.workers) same.0 (full_of _ _ _ _ _ _ c.in-Err-make_room_apart.fault at full c.in-Err-make_room_apart.ensures.err).1)
+    inr (wants.1, subst (λ s. IsFullToCollect s.heap 0 c.args.crew.now.workers) same.0 (full_of _ _ _ _ _ _ c.in-Err-make_room_apart.fault at full c.in-Err-make_room_apart.ensures.err).1)
 
 pub returns-in-Ok-NurseryFull-attempt_line-clause-full : goal.returns-in-Ok-NurseryFull-attempt_line-clause-full
 returns-in-Ok-NurseryFull-attempt_line-clause-full g c = λ at is.

@@ -4,8 +4,7 @@ use Rattle.trace_text.specs.Grammar.{entry_of}
 use Rattle.trace_session.specs.declared.trace_lines.attempt.Attempt.TheVariants.{Done, NurseryFull}
 use Rattle.trace_session.specs.declared.trace_lines.fault.Fault.TheVariants.{HeapFull}
 use Rattle.trace_session.specs.CollectsFirst.{auto_line}
-use Rattle.settling.specs.Collects.{IsShortOfBlocks}
-use Rattle.trace_session.specs.Refusals.{MayBeFull, IsFullForLine}
+use Rattle.trace_session.specs.Refusals.{MayBeFull, IsFullForLine, IsFullToCollect}
 use Rattle.trace_session.specs.Session.{Stands}
 use Rattle.trace_session.proofs.Twice.{told, tells_full, wants_blocks, first_fault, room_fault, done_twice, no_full_twice, second_fault}
 use Rattle.trace_session.proofs.trace_step.step.carry_out.Goals as goal
@@ -24,13 +23,13 @@ returns-in-Err-make_room-clause-err g c =
     let same = c.in-Ok-NurseryFull.ensures.full (ap (λ a. Ok a) c.in-Ok-NurseryFull.field-0-is) in
     room_fault (Stands c.args.session.now) c.args.number line (λ config store. MayBeFull 1 config store line) (λ config store written. written ≡ auto_line store) g.W.Sink.output c.args.writer.now
     (λ config store there. told _ _ c.in-Ok-NurseryFull.field-0 NurseryFull c.in-Ok-NurseryFull.field-0-is (c.in-Ok-NurseryFull.ensures.ok config store there)) c.attempt_line.new.writer same.1
-    (IsShortOfBlocks c.attempt_line.new.session.heap 0)
+    (IsFullToCollect c.attempt_line.new.session.heap 0 1)
     (λ config store there sound first short.
     record {
       sound = sound;
       wants =
           wants_blocks 1 config store (entry_of line) first
-          (record { heap = c.args.session.now.heap; names = c.args.session.now.names; stands = there; short = subst (λ s. IsShortOfBlocks s.heap 0) same.0 short });
+          (record { heap = c.args.session.now.heap; names = c.args.session.now.names; stands = there; full = subst (λ s. IsFullToCollect s.heap 0 1) same.0 short });
     })
     c.attempt_line.new.session c.make_room.new.session c.make_room.new.writer _ _ (λ is. is ∙ ap (λ w. g.W.Sink.failed_writes w + 1) same.1) c.in-Err-make_room.fault c.in-Err-make_room.ensures.err
 
@@ -92,8 +91,8 @@ returns-in-Err-make_room-clause-full g c = λ at is.
     tells_full (Stands c.args.session.now) c.args.number line (λ config store. IsFullForLine 1 c.args.session.now.heap config store line) (λ config store written. written ≡ auto_line store) g.W.Sink.output c.args.writer.now c.make_room.new.writer _ c.in-Err-make_room.fault at full
     (room_fault (Stands c.args.session.now) c.args.number line (λ config store. IsFullForLine 1 c.args.session.now.heap config store line) (λ config store written. written ≡ auto_line store) g.W.Sink.output c.args.writer.now
     (λ config store there. told _ _ c.in-Ok-NurseryFull.field-0 NurseryFull c.in-Ok-NurseryFull.field-0-is (c.in-Ok-NurseryFull.ensures.ok config store there)) c.attempt_line.new.writer same.1
-    (IsShortOfBlocks c.attempt_line.new.session.heap 0)
-    (λ config store there sound first short. inr (first, subst (λ s. IsShortOfBlocks s.heap 0) same.0 short))
+    (IsFullToCollect c.attempt_line.new.session.heap 0 1)
+    (λ config store there sound first short. inr (first, subst (λ s. IsFullToCollect s.heap 0 1) same.0 short))
     c.attempt_line.new.session c.make_room.new.session c.make_room.new.writer _ _ (λ failed. failed) c.in-Err-make_room.fault c.in-Err-make_room.ensures.err)
 
 pub returns-in-Ok-NurseryFull-attempt_line-clause-full : goal.returns-in-Ok-NurseryFull-attempt_line-clause-full

@@ -102,7 +102,7 @@ pub returns-in-Err-clause-refused : goal.returns-in-Err-clause-refused
 returns-in-Err-clause-refused g c =
     let v : InterleavedValue = record { heap = c.self.inside.heap.value; collection = c.self.inside.collection.value; cells = c.self.inside.cells; pass = c.self.inside.pass; claims = c.self.inside.claims; draws = c.self.inside.draws; queues = c.self.inside.queues; workers = c.self.inside.workers; idlers = c.self.inside.idlers; members = c.self.inside.members.items } in
     λ is. subst (λ (x : InterleavedValue). IsRefused (setting_in x) (system_of x) (Look c.args.t)) c.self.view_is
-    (is_refused v c.args.t
+    (is_refused v c.args.t (lawful_as (Look c.args.t) c.self.view_is c.requires.lawful)
     (wants_draw v c.self.invariant c.args.t _ (behind c.self.inside.members.items c.args.t c.behind-self.view_is c.index_mut.ensures.value) (lawful_as (Look c.args.t) c.self.view_is c.requires.lawful)
     c.args.heap.now c.args.collection.now (c.requires.heap ∙ ap (λ (x : InterleavedValue). x.heap) (sym c.self.view_is)) (c.requires.collection ∙ ap (λ (x : InterleavedValue). x.collection) (sym c.self.view_is)) c.look.new.pass (c.look.ensures.wanted (c.in-Err.is ∙ ap Err (same_error is))))
     (none_left v.claims.source.free v.draws.drawn (c.look.ensures.used_up (c.in-Err.is ∙ ap Err (same_error is)) c.self.invariant.draws.seats)))

@@ -1,4 +1,4 @@
-use Rattle.std.proofs.Common.{sym, ap, subst}
+use Rattle.std.proofs.Common.{ap}
 use Rattle.scavenge.specs.Shown.{WorkspaceValue, Begins}
 use Rattle.workers_in_threads.proofs.Handing.{handed_for, exported}
 use Rattle.workers_in_threads.proofs.sharing_worker.worker.SharingWorker.export.Goals as goal

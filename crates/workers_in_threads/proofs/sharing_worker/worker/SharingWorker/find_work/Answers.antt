@@ -1,7 +1,7 @@
-use Rattle.std.proofs.Common.{◌≡◌, refl, sym, ap, subst, ◌∙◌, arith}
+use Rattle.std.proofs.Common.{◌≡◌, sym, ap, subst, ◌∙◌, arith}
 use Rattle.workers.specs.WorkerSteps.{has_open_work, IsOutOfWork}
 use Rattle.scavenge.proofs.OpenBlocks.{open_there, none_there}
-use Rattle.workers_in_threads.specs.SharingValue.{setting_in, worker_of}
+use Rattle.workers_in_threads.specs.SharingValue.{setting_in}
 use Rattle.workers_in_threads.proofs.Order.{empty_of, is_free}
 use Rattle.workers_in_threads.proofs.sharing_worker.worker.SharingWorker.find_work.Goals as goal
 

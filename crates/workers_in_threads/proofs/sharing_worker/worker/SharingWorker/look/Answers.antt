@@ -1,5 +1,4 @@
-use Rattle.std.proofs.Common.{◌≡◌, ◌≤◌, None, Ok, true, sym, subst}
-use Rattle.std.specs.Prelude.{IsSome}
+use Rattle.std.proofs.Common.{◌≡◌, ◌≤◌, None, sym, subst}
 use Rattle.workers_in_threads.specs.SharingValue.{SharingValue}
 use Rattle.workers_in_threads.proofs.Readiness.{places_in, slot_in, few_in, untouched_in, rooms_in, numbers_in, can_look}
 use Rattle.workers_in_threads.specs.Sharing as sharing

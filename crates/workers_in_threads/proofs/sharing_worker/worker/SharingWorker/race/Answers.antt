@@ -1,4 +1,4 @@
-use Rattle.std.proofs.Common.{◌≡◌, ◌≤◌, sym, subst}
+use Rattle.std.proofs.Common.{◌≤◌, sym, subst}
 use Rattle.std.specs.Prelude.{IsSome}
 use Rattle.workers_in_threads.specs.SharingValue.{SharingValue}
 use Rattle.workers_in_threads.proofs.Readiness.{young_in, few_in, ready_in}

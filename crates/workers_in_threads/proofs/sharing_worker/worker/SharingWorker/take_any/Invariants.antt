@@ -1,5 +1,4 @@
 use Rattle.std.proofs.Common.{◌≡◌, length}
-use Rattle.workers.specs.WorkerSteps.{IsFree}
 use Rattle.workers_in_threads.specs.SharingValue.{worker_of}
 use Rattle.workers_in_threads.specs.Sharing.{IsSame}
 use Rattle.workers_in_threads.proofs.sharing_worker.worker.SharingWorker.take_any.Given as goal
