@@ -12,3 +12,4 @@ mod number_set_tests;
 mod reference_tests;
 #[cfg(test)]
 mod remembered_tests;
+mod sharing_tests;

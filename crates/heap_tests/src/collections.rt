@@ -1,21 +1,14 @@
-//! Collections of a heap through its own calls, where memory and blocks run out too.
-use crate::heaps::{Ends, add_objects, census_of, collected, config_of, heap_of, is_carried_out};
+//! Collections of a heap through its own calls, where blocks run out too.
+use crate::heaps::{add_objects, census_of, collected, config_of, heap_of};
 use collector::{CollectError, collect_one};
 use heap::{AllocateError, Heap, MakeError, NoRoot, OpenError, Report, RootId, StepId};
 use layout::Place;
-use refusing::Refusing;
-use std::alloc::{Allocator, Global};
+use std::alloc::Global;
 use std::process::Abort;
 use std::test::Fail;
 
-const BEFORE: &[u8] =
-    b"gen 0 step 0: 6 objects 21 words\nlarge: 0 objects 0 words\nroots: 5\nremembered: 0\n";
-
-const AFTER: &[u8] =
-    b"gen 0 step 0: 5 objects 17 words\nlarge: 0 objects 0 words\nroots: 5\nremembered: 0\n";
-
 /// Allocates six objects, one of which is dead. The others take two blocks. The last has a pointer and two plain words.
-fn add_six<A: Allocator + Clone>(heap: &mut Heap<A>) -> Result<RootId, Fail> {
+fn add_six(heap: &mut Heap<Global>) -> Result<RootId, Fail> {
     let dead = heap.allocate(0, 0, 3)?;
     add_objects(heap, 1, 3, 0)?;
     add_objects(heap, 2, 0, 3)?;
@@ -26,100 +19,21 @@ fn add_six<A: Allocator + Clone>(heap: &mut Heap<A>) -> Result<RootId, Fail> {
 }
 
 /// A heap of six objects, and the root of the last.
-fn six_objects<A: Allocator + Clone>(alloc: A) -> Result<(Heap<A>, RootId), Fail> {
+fn six_objects(alloc: Global) -> Result<(Heap<Global>, RootId), Fail> {
     let mut heap = heap_of(alloc, 16, 2, 12)?;
     let last = add_six(&mut heap)?;
     Ok((heap, last))
 }
 
-/// More requests than a heap and its collection make.
-const MANY: u64 = 1000;
-
-/// How many requests the making of the heap takes.
-fn requests_of_six_objects(alloc: Global) -> Result<u64, Fail> {
-    let refusing = Refusing::new(alloc, MANY);
-    let _heap = six_objects(&refusing)?;
-    Ok(refusing.asked())
-}
-
 /// Asserts that a heap has this census.
-fn assert_census<A: Allocator + Clone>(
+fn assert_census(
     rt: &impl Abort,
     alloc: Global,
-    heap: &Heap<A>,
+    heap: &Heap<Global>,
     census: &[u8],
 ) -> Result<(), Fail> {
     assert_eq!(rt; census_of(alloc, heap)?.as_slice(), census);
     Ok(())
-}
-
-/// Six objects are collected, or memory is refused for that.
-const SIX: Ends = Ends {
-    counts: (5, 1),
-    refusal: CollectError::NoMemory,
-};
-
-/// Collects six objects, and where that is refused once more. Says whether it was refused.
-fn collect_twice<'a>(
-    rt: &impl Abort,
-    alloc: Global,
-    refusing: &'a Refusing<Global>,
-    heap: &mut Heap<&'a Refusing<Global>>,
-    last: RootId,
-) -> Result<bool, Fail> {
-    if is_carried_out(rt, refusing, heap, last, SIX) {
-        return Ok(false);
-    }
-    assert_census(rt, alloc, heap, BEFORE)?;
-    assert!(rt; is_carried_out(rt, refusing, heap, last, SIX));
-    Ok(true)
-}
-
-/// Collects six objects as `collect_twice` does, and asserts the census before and after.
-fn collect_between<'a>(
-    rt: &impl Abort,
-    alloc: Global,
-    refusing: &'a Refusing<Global>,
-    heap: &mut Heap<&'a Refusing<Global>>,
-    last: RootId,
-) -> Result<bool, Fail> {
-    assert_census(rt, alloc, heap, BEFORE)?;
-    let refused = collect_twice(rt, alloc, refusing, heap, last)?;
-    assert_census(rt, alloc, heap, AFTER)?;
-    Ok(refused)
-}
-
-/// Makes six objects and collects, and where that is refused once more. Says whether it was refused.
-fn is_refused(rt: &impl Abort, alloc: Global, refusing: &Refusing<Global>) -> Result<bool, Fail> {
-    let (mut heap, last) = six_objects(refusing)?;
-    collect_between(rt, alloc, refusing, &mut heap, last)
-}
-
-/// Asserts how many requests were made and returned, of which the first took `first`. Says whether one was refused.
-fn refuse(rt: &impl Abort, alloc: Global, first: u64, refused: u64) -> Result<bool, Fail> {
-    let refusing = Refusing::new(alloc, refused);
-    let is_refused = is_refused(rt, alloc, &refusing)?;
-    let (asked, returned) = (refusing.asked(), refusing.returned());
-    if is_refused {
-        assert!(rt; asked > refused);
-        assert_eq!(rt; returned, asked - 1);
-    } else {
-        assert_eq!(rt; (asked, returned), (refused, refused));
-        // At least one for each of the two blocks.
-        assert!(rt; refused > first.saturating_add(2));
-    }
-    Ok(is_refused)
-}
-
-#[test]
-fn each_request_of_a_collection_is_refused(rt: HostRuntime) -> Result<(), Fail> {
-    let first = requests_of_six_objects(rt.alloc())?;
-    for refused in first..MANY {
-        if !refuse(&rt, rt.alloc(), first, refused)? {
-            return Ok(());
-        }
-    }
-    Err(Fail::from("each collection was refused"))
 }
 
 const FIVE: &[u8] =

@@ -59,7 +59,7 @@ pub(crate) fn collected<A: Allocator + Clone>(
     Ok((report.kept, report.freed))
 }
 
-/// The two ends of a collection for which memory or blocks may run out: so many objects are kept and freed, or this error.
+/// The two ends of a collection for which blocks may run out: so many objects are kept and freed, or this error.
 #[derive(Clone, Copy)]
 pub(crate) struct Ends {
     pub(crate) counts: (u64, u64),
@@ -68,15 +68,15 @@ pub(crate) struct Ends {
 
 /// Collects, and asserts that it ends in one of two ways, and that a refused one leaves the root where it leads. Says whether
 /// it was carried out.
-pub(crate) fn is_carried_out<A: Allocator + Clone>(
+pub(crate) fn is_carried_out(
     rt: &impl Abort,
-    of_heap: A,
-    heap: &mut Heap<A>,
+    alloc: Global,
+    heap: &mut Heap<Global>,
     root: RootId,
     ends: Ends,
 ) -> bool {
     let place = heap.target(root);
-    match collected(of_heap, heap) {
+    match collected(alloc, heap) {
         Ok(counts) => {
             assert_eq!(rt; counts, ends.counts);
             true
@@ -90,10 +90,7 @@ pub(crate) fn is_carried_out<A: Allocator + Clone>(
 }
 
 /// The lines of a heap's census.
-pub(crate) fn census_of<A: Allocator + Clone>(
-    alloc: Global,
-    heap: &Heap<A>,
-) -> Result<Vec<u8>, Fail> {
+pub(crate) fn census_of(alloc: Global, heap: &Heap<Global>) -> Result<Vec<u8>, Fail> {
     let mut writer = Counted::new(Vec::new(alloc));
     write_census(alloc, &heap.census(), &mut writer)?;
     Ok(writer.inner)
@@ -145,7 +142,7 @@ pub(crate) fn release_others(
     apart: usize,
 ) -> Result<(), NoRoot> {
     for at in 0..roots.len() {
-        if at % apart != 0 {
+        if at.checked_rem(apart) != Some(0) {
             heap.release(roots[at])?;
         }
     }
@@ -155,7 +152,7 @@ pub(crate) fn release_others(
 /// Asserts that each root that was not given up so leads to the object of its mark, and that the others are no roots.
 pub(crate) fn assert_marks(rt: &impl Abort, heap: &Heap<Global>, roots: &[RootId], apart: usize) {
     for at in 0..roots.len() {
-        let mark = if at % apart == 0 {
+        let mark = if at.checked_rem(apart) == Some(0) {
             Some(at as u64)
         } else {
             None

@@ -41,12 +41,6 @@ impl From<AllocError> for NoText {
     }
 }
 
-impl From<OpenError> for NoText {
-    fn from(_error: OpenError) -> NoText {
-        NoText
-    }
-}
-
 /// What a pointer's word leads to.
 fn push_pointer<A: Allocator + Clone>(
     text: &mut Vec<u8, A>,
@@ -196,6 +190,18 @@ fn push_roots<A: Allocator + Clone>(
     Ok(())
 }
 
+/// The objects of all generations.
+fn all_objects<A: Allocator + Clone>(alloc: A, heap: &Heap<A>) -> Result<Collection<A>, AllocError>
+    ensures { IfOk result (HasAllObjects heap.now) }
+{
+    let oldest = heap.config().generations() as u64 - 1;
+    match heap.open_collection(alloc, oldest) {
+        Ok(all) => Ok(all),
+        Err(OpenError::NoMemory) => Err(AllocError),
+        Err(OpenError::NoGeneration) => unreachable!(),
+    }
+}
+
 /// The lines of the names, and then those of the objects.
 fn text_of<A: Allocator + Clone>(
     alloc: A,
@@ -205,8 +211,7 @@ fn text_of<A: Allocator + Clone>(
     requires { All (λ name. IsSome (root_at heap.now.graph name.root.number)) names.now }
     ensures { IfOk result (λ text. text.items ≡ heap_lines heap.now.graph (map name_value names.now)) }
 {
-    let oldest = heap.config().generations() as u64 - 1;
-    let all = heap.open_collection(alloc.clone()?, oldest)?;
+    let all = all_objects(alloc.clone()?, heap)?;
     let numbering = number_objects(alloc.clone()?, heap, &all, names)?;
     let mut text = Vec::new(alloc);
     push_roots(&mut text, heap, &all, &numbering, names)?;

@@ -16,9 +16,9 @@ use Rattle.workers.specs.Joined.{Each}
 use Rattle.workers.specs.Lawful.{AllEnded}
 use Rattle.scavenge.specs.Named.{named}
 use Rattle.settling.proofs.Blocks.{named_length}
-use Rattle.workers_in_turn.specs.InterleavedValue.{InterleavedValue, MemberValue, queue_in, exports_in, system_of}
-use Rattle.workers_in_turn.specs.IsInterleaved.{IsInterleaved, HasTaken}
-use Rattle.workers_in_turn.proofs.Places.{get-map}
+use Rattle.machine.specs.InterleavedValue.{InterleavedValue, MemberValue, queue_in, exports_in, system_of}
+use Rattle.machine.specs.IsInterleaved.{IsInterleaved, HasTaken}
+use Rattle.machine.proofs.Places.{get-map}
 use Rattle.settling.specs.Together.{label_of, IsDelivery, AreDelivered}
 use Rattle.settling.specs.Telling.{delivery_of, deliveries_of, all_deliveries}
 use Rattle.settling.proofs.Parted.{Each-append}

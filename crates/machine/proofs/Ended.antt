@@ -31,9 +31,9 @@ use Rattle.settling.specs.Shown.{shown_after}
 use Rattle.settling.proofs.ShownLarge.{shown_in, places_show}
 use Rattle.settling.proofs.Blocks.{stands_has, times-places}
 use Rattle.settling.proofs.Blocks.{held_place}
-use Rattle.workers_in_turn.specs.InterleavedValue.{InterleavedValue, MemberValue, worker_of, system_of, setting_in, targets_in, destinations_in}
-use Rattle.workers_in_turn.specs.IsInterleaved.{IsInterleaved}
-use Rattle.workers_in_turn.proofs.Places.{get-map}
+use Rattle.machine.specs.InterleavedValue.{InterleavedValue, MemberValue, worker_of, system_of, setting_in, targets_in, destinations_in}
+use Rattle.machine.specs.IsInterleaved.{IsInterleaved}
+use Rattle.machine.proofs.Places.{get-map}
 use Rattle.settling.specs.Collects.{ScansOnce}
 use Rattle.scavenge.specs.Shown.{WorkspaceValue}
 use Rattle.settling.specs.Telling.{IsAtRest, AreBrought}

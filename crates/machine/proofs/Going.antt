@@ -12,11 +12,11 @@ use Rattle.workers.proofs.Reached.{reached_next, reached_none}
 use Rattle.workers.proofs.RunBrings.{refused_below}
 use Rattle.scavenge.specs.ReadyToCollect.{IsReadyToCollect}
 use Rattle.scavenge.proofs.Starts.{targets_live}
-use Rattle.workers_in_turn.specs.declared.event.Event.{Event}
-use Rattle.workers_in_turn.specs.Events.{event_of}
-use Rattle.workers_in_turn.specs.InterleavedValue.{InterleavedValue, Goes, Stays, system_of, destinations_in, targets_in}
-use Rattle.workers_in_turn.specs.InterleavedValue as interleaved
-use Rattle.workers_in_turn.proofs.Reaching.{reached_by, reached_still, reached_first}
+use Rattle.machine.specs.declared.workers_in_turn.event.Event.{Event}
+use Rattle.machine.specs.SystemEvents.{event_of}
+use Rattle.machine.specs.InterleavedValue.{InterleavedValue, Goes, Stays, system_of, destinations_in, targets_in}
+use Rattle.machine.specs.InterleavedValue as interleaved
+use Rattle.machine.proofs.Reaching.{reached_by, reached_still, reached_first}
 use Rattle.machine.specs.MachineValue.{MachineValue, IsMachine, HasReached, machine_of, setting_in}
 use Rattle.machine.specs.Events.{IsFullForEvent, Opens}
 

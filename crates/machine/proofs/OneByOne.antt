@@ -13,10 +13,10 @@ use Rattle.workers.specs.Finish as finish
 use Rattle.workers.proofs.Finish.{lawful_choice}
 use Rattle.workers.proofs.OneMore.{run_more, stepped_more}
 use Rattle.workers.proofs.Reached.{reached_falls, young_covers}
-use Rattle.workers_in_turn.specs.declared.event.Event.{Event as Named}
-use Rattle.workers_in_turn.specs.Events.{event_of}
-use Rattle.workers_in_turn.specs.InterleavedValue.{setting_for}
-use Rattle.workers_in_turn.proofs.Places.{get-map}
+use Rattle.machine.specs.declared.workers_in_turn.event.Event.{Event as Named}
+use Rattle.machine.specs.SystemEvents.{event_of}
+use Rattle.machine.specs.InterleavedValue.{setting_for}
+use Rattle.machine.proofs.Places.{get-map}
 use Rattle.machine.specs.declared.step_error.StepError.{StepError}
 use Rattle.machine.specs.declared.step_error.StepError.TheVariants.{NotLawful, HeapFull}
 use Rattle.machine.specs.MachineValue.{MachineValue, HasReached, setting_in}

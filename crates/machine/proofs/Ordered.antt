@@ -5,7 +5,7 @@ use Rattle.workers.specs.Alone.{AreEmpty}
 use Rattle.steps.specs.HeapValue.{HeapValue}
 use Rattle.steps.specs.CollectionValue.{CollectionValue}
 use Rattle.heap.proofs.SoundHeap.{heap_empty}
-use Rattle.workers_in_turn.specs.InterleavedValue.{InterleavedValue, setting_in, destinations_in, targets_in, system_of}
+use Rattle.machine.specs.InterleavedValue.{InterleavedValue, setting_in, destinations_in, targets_in, system_of}
 use Rattle.settling.proofs.Blocks.{stands_has}
 use Rattle.workers.specs.Scans.{ScansInBlocks}
 use Rattle.workers.specs.Taken.{AreTakenInOrder}

@@ -1,5 +1,7 @@
--- A machine of several workers, event by event.
-
+-- Several workers on one thread, event by event, and a machine of them.
+pub mod InterleavedValue
+pub mod IsInterleaved
+pub mod SystemEvents
 pub use Rattle.layout.specs.declared.place.Place
 pub use Rattle.block_pool.specs.BlockValue
 pub use Rattle.steps.specs.HeapValue
@@ -13,8 +15,6 @@ pub use Rattle.workers.specs.System
 pub use Rattle.workers.specs.Steps
 pub use Rattle.workers.specs.Lawful
 pub use Rattle.workers.specs.Finish
-pub use Rattle.workers_in_turn.specs.InterleavedValue
-pub use Rattle.workers_in_turn.specs.Events as InterleavedEvents
 pub mod MachineValue
 pub mod Events
 pub mod Settles

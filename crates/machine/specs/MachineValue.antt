@@ -12,8 +12,8 @@ use Rattle.workers.specs.System.{System}
 use Rattle.workers.specs.Finish.{IsReached}
 use Rattle.scavenge.specs.Codes.{copies_code, worker_code}
 use Rattle.scavenge.specs.ReadyToCollect.{IsReadyToCollect}
-use Rattle.workers_in_turn.specs.InterleavedValue.{InterleavedValue, setting_for}
-use Rattle.workers_in_turn.specs.InterleavedValue as interleaved
+use Rattle.machine.specs.InterleavedValue.{InterleavedValue, setting_for}
+use Rattle.machine.specs.InterleavedValue as interleaved
 
 -- the heap, the collection of it, how many workers there are, and where they stand
 pub record MachineValue : Type 0 where

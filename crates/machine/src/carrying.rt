@@ -1,13 +1,13 @@
 //! A lawful event comes.
 ghost use Rattle.std.specs.Prelude.{◌≡◌, Err, OnOk, OnErr};
 ghost use Rattle.workers.specs.Lawful.{IsLawful, IsRefused};
-ghost use Rattle.workers_in_turn.specs.InterleavedValue.{Goes, Stays, setting_in, system_of};
-ghost use Rattle.workers_in_turn.specs.Events.{event_of};
+ghost use Rattle.machine.specs.InterleavedValue.{Goes, Stays, setting_in, system_of};
+ghost use Rattle.machine.specs.SystemEvents.{event_of};
 
+use crate::workers_in_turn::{Event, InterleavedCollection};
 use heap::{Collection, Heap};
 use scavenge::LookError;
 use std::alloc::Allocator;
-use workers_in_turn::{Event, InterleavedCollection};
 
 /// The event, which is lawful, comes. An error says that a block was wanted and none is left, or that memory ran out;
 /// nothing came then.

@@ -9,10 +9,11 @@ mod machine_error;
 mod running;
 mod step_error;
 mod stepping;
+mod workers_in_turn;
 
+pub use crate::workers_in_turn::Event;
 pub use interleaved_settling::SettleError;
 pub use machine::Machine;
 pub use machine_error::MachineError;
 pub use scavenge::LookError;
 pub use step_error::StepError;
-pub use workers_in_turn::Event;

@@ -1,13 +1,13 @@
 //! A machine, and how it opens.
 ghost use Rattle.std.specs.Prelude.{◌≡◌, ◌<◌, ◌≤◌, ◌⊎◌, ◌↔◌, Err, IfOk};
-ghost use Rattle.workers_in_turn.specs.InterleavedValue.{HasWorkers};
+ghost use Rattle.machine.specs.InterleavedValue.{HasWorkers};
 ghost use Rattle.machine.specs.Events.{Opens};
 
 use crate::machine_error::MachineError;
+use crate::workers_in_turn::InterleavedCollection;
 use heap::{Collection, Heap};
 use std::alloc::{Allocator, Global};
 use std::marker::Model;
-use workers_in_turn::InterleavedCollection;
 
 /// A collection of a heap by several workers, event by event. It borrows the heap, and never changes it.
 #[derive(Drop)]

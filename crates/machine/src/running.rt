@@ -1,14 +1,14 @@
 //! A list of events, and all that are left.
 ghost use Rattle.std.specs.Prelude.{◌≡◌, Err, OnOk, IfErr, map};
 ghost use Rattle.workers.specs.Lawful.{AllEnded};
-ghost use Rattle.workers_in_turn.specs.Events.{event_of};
+ghost use Rattle.machine.specs.SystemEvents.{event_of};
 ghost use Rattle.machine.specs.Events.{Ran, Stopped, WentOn, IsStuck};
 
 use crate::machine::Machine;
 use crate::step_error::StepError;
+use crate::workers_in_turn::Event;
 use scavenge::LookError;
 use std::alloc::Allocator;
-use workers_in_turn::Event;
 
 impl<'a, A: Allocator + Clone> Machine<'a, A> {
     /// The events come one after another. An error says which didn't come, and why; those before it came.

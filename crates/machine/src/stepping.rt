@@ -2,16 +2,16 @@
 ghost use Rattle.std.specs.Prelude.{◌≡◌, ◌↔◌, None, Err, IsTrue, IfSome, OnOk, OnErr};
 ghost use Rattle.std.specs.Option.{option_map};
 ghost use Rattle.workers.specs.Lawful.{IsLawful, AllEnded, next_lawful};
-ghost use Rattle.workers_in_turn.specs.Events.{event_of};
+ghost use Rattle.machine.specs.SystemEvents.{event_of};
 ghost use Rattle.machine.specs.MachineValue.{HasReached, setting_in};
 ghost use Rattle.machine.specs.Events.{Comes, IsFullForEvent};
 
 use crate::carrying::carry_out;
 use crate::machine::Machine;
 use crate::step_error::StepError;
+use crate::workers_in_turn::Event;
 use scavenge::LookError;
 use std::alloc::Allocator;
-use workers_in_turn::Event;
 
 impl<'a, A: Allocator + Clone> Machine<'a, A> {
     /// Whether the event is lawful now.

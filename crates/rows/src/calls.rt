@@ -64,7 +64,8 @@ fn most_workers(rt: HostRuntime) {
 
 #[test]
 fn run_without_words(rt: HostRuntime) -> Result<(), Fail> {
-    let config = sixteen_blocks(1)?;
+    let config = sixteen_blocks(1)?.with_seed(u128::MAX);
+    assert_eq!(rt; config.seed(), u128::MAX);
     let mut reader = CountedReader::new(FIRST_TRACE.as_bytes());
     let mut writer = Counted::new(Vec::new(rt.alloc()));
     let result = run(&rt, rt.alloc(), &mut reader, &mut writer, config, &OpenGate);

@@ -22,6 +22,8 @@ mod field_faults;
 #[cfg(test)]
 mod generations;
 #[cfg(test)]
+mod hostile;
+#[cfg(test)]
 mod in_pieces;
 #[cfg(test)]
 mod large;

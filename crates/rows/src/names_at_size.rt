@@ -3,6 +3,7 @@ use crate::program::{Ended, assert_output, ran, text_of};
 use std::alloc::{AllocError, AllocGlobal, Global};
 use std::fmt::Write;
 use std::process::Abort;
+use std::random::RandomSource;
 use std::sync::Wait;
 use std::thread::Threads;
 
@@ -55,7 +56,7 @@ fn is_counted(ended: &Ended) -> bool {
 }
 
 /// Asserts that two workers in turn keep all, each event the one that comes next by itself.
-fn assert_replayed<R: Threads + Wait + Sync + AllocGlobal + Abort>(
+fn assert_replayed<R: Threads + Wait + Sync + AllocGlobal + RandomSource + Abort>(
     rt: &R,
 ) -> Result<(), AllocError> {
     let trace = trace_of(rt.alloc(), "collect 0\nfinish\ncommit")?;

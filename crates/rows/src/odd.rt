@@ -2,6 +2,7 @@
 use crate::program::{FIRST_OUTPUT, FIRST_TRACE, Left, assert_run, ran};
 use std::alloc::{AllocError, AllocGlobal};
 use std::process::Abort;
+use std::random::RandomSource;
 use std::sync::Wait;
 use std::thread::Threads;
 
@@ -26,7 +27,7 @@ fn stopped(status: u8, tells: &'static str) -> Left<'static> {
 const ONE_GENERATION: &str = "gctrace run --generations 1";
 
 /// Asserts what a run leaves whose name is its command line.
-fn assert_words<R: Threads + Wait + Sync + AllocGlobal + Abort>(
+fn assert_words<R: Threads + Wait + Sync + AllocGlobal + RandomSource + Abort>(
     rt: &R,
     words: &str,
     input: &[u8],
@@ -153,7 +154,10 @@ fn numbers_in_range(rt: HostRuntime) -> Result<(), AllocError> {
 /// The status of a run, and whether it writes and tells nothing.
 type End = (u8, bool, bool);
 
-fn end_of<R: Threads + Wait + Sync + AllocGlobal>(rt: &R, words: &str) -> Result<End, AllocError> {
+fn end_of<R: Threads + Wait + Sync + AllocGlobal + RandomSource>(
+    rt: &R,
+    words: &str,
+) -> Result<End, AllocError> {
     let ended = ran(rt, words, b"new\n")?;
     Ok((
         ended.status,
@@ -163,7 +167,7 @@ fn end_of<R: Threads + Wait + Sync + AllocGlobal>(rt: &R, words: &str) -> Result
 }
 
 /// Asserts that the run of each of these command lines ends so.
-fn assert_ends<R: Threads + Wait + Sync + AllocGlobal + Abort>(
+fn assert_ends<R: Threads + Wait + Sync + AllocGlobal + RandomSource + Abort>(
     rt: &R,
     lines: &str,
     wanted: End,

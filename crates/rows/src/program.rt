@@ -2,6 +2,7 @@
 use heap_text::Counted;
 use std::alloc::{AllocError, AllocGlobal};
 use std::process::Abort;
+use std::random::RandomSource;
 use std::sync::Wait;
 use std::thread::Threads;
 use trace_driver::{CountedReader, main_with};
@@ -15,7 +16,11 @@ pub(crate) struct Ended {
 }
 
 /// Runs the program over memory.
-fn ran_by<R: Threads + Wait + Sync + AllocGlobal>(rt: &R, words: &[&str], input: &[u8]) -> Ended {
+fn ran_by<R: Threads + Wait + Sync + AllocGlobal + RandomSource>(
+    rt: &R,
+    words: &[&str],
+    input: &[u8],
+) -> Ended {
     let mut reader = CountedReader::new(input);
     let mut writer = Counted::new(Vec::new(rt.alloc()));
     let mut errors = Counted::new(Vec::new(rt.alloc()));
@@ -28,7 +33,7 @@ fn ran_by<R: Threads + Wait + Sync + AllocGlobal>(rt: &R, words: &[&str], input:
 }
 
 /// Runs the program over memory by the words of a command line, between which there are spaces.
-pub(crate) fn ran<R: Threads + Wait + Sync + AllocGlobal>(
+pub(crate) fn ran<R: Threads + Wait + Sync + AllocGlobal + RandomSource>(
     rt: &R,
     words: &str,
     input: &[u8],
@@ -62,7 +67,7 @@ fn assert_left(rt: &impl Abort, name: &str, ended: &Ended, left: Left<'_>) {
 }
 
 /// Runs the program, and asserts all that it leaves.
-pub(crate) fn assert_run<R: Threads + Wait + Sync + AllocGlobal + Abort>(
+pub(crate) fn assert_run<R: Threads + Wait + Sync + AllocGlobal + RandomSource + Abort>(
     rt: &R,
     name: &str,
     words: &str,
@@ -80,7 +85,7 @@ fn is_written(ended: &Ended, output: &str) -> bool {
 }
 
 /// Asserts that a run ends well and writes a long text, which a failure doesn't show.
-pub(crate) fn assert_output<R: Threads + Wait + Sync + AllocGlobal + Abort>(
+pub(crate) fn assert_output<R: Threads + Wait + Sync + AllocGlobal + RandomSource + Abort>(
     rt: &R,
     words: &str,
     input: &str,

@@ -5,6 +5,7 @@ use crate::program::{FIRST_OUTPUT, FIRST_TRACE, text_of};
 use heap_text::Counted;
 use std::alloc::{AllocGlobal, Global};
 use std::process::Abort;
+use std::random::RandomSource;
 use std::sync::Wait;
 use std::thread::Threads;
 use trace_driver::{CountedReader, main_with};
@@ -77,7 +78,11 @@ fn errors_of(alloc: Global, part: Part, calls: u64) -> PieceWriter {
 }
 
 /// A run in which so many calls of this part are made before one fails.
-fn ran<R: Threads + Wait + Sync + AllocGlobal>(rt: &R, part: Part, calls: u64) -> Ended {
+fn ran<R: Threads + Wait + Sync + AllocGlobal + RandomSource>(
+    rt: &R,
+    part: Part,
+    calls: u64,
+) -> Ended {
     let mut reader = CountedReader::new(reader_of(part, calls));
     let mut writer = Counted::new(writer_of(rt.alloc(), part, calls));
     let mut errors = Counted::new(errors_of(rt.alloc(), part, calls));
@@ -138,7 +143,10 @@ fn assert_ended(rt: &impl Abort, part: Part, ended: &Ended) -> bool {
 }
 
 /// Lets each call of this part fail in turn, and says how many there are.
-fn fail_each<R: Threads + Wait + Sync + AllocGlobal + Abort>(rt: &R, part: Part) -> u64 {
+fn fail_each<R: Threads + Wait + Sync + AllocGlobal + RandomSource + Abort>(
+    rt: &R,
+    part: Part,
+) -> u64 {
     for calls in 0..MANY {
         let ended = ran(rt, part, calls);
         if !assert_ended(rt, part, &ended) {

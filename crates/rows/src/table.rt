@@ -18,6 +18,7 @@ use crate::{
 };
 use std::alloc::AllocGlobal;
 use std::process::Abort;
+use std::random::RandomSource;
 use std::sync::Wait;
 use std::test::Fail;
 use std::thread::Threads;
@@ -67,7 +68,7 @@ pub(crate) fn row_named(rows: &'static str, name: &str) -> Option<Row> {
 }
 
 /// Asserts that the run of a row leaves what it says.
-fn assert_row<R: Threads + Wait + Sync + AllocGlobal + Abort>(
+fn assert_row<R: Threads + Wait + Sync + AllocGlobal + RandomSource + Abort>(
     rt: &R,
     text: &'static str,
 ) -> Result<(), Fail> {
@@ -80,7 +81,7 @@ fn assert_row<R: Threads + Wait + Sync + AllocGlobal + Abort>(
 }
 
 /// Asserts that the run of each row leaves what it says.
-fn assert_rows<R: Threads + Wait + Sync + AllocGlobal + Abort>(
+fn assert_rows<R: Threads + Wait + Sync + AllocGlobal + RandomSource + Abort>(
     rt: &R,
     rows: &'static str,
 ) -> Result<(), Fail> {

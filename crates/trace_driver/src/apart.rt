@@ -84,7 +84,7 @@ fn run_apart<
     let Ok(text_alloc) = alloc.clone() else {
         return Err(Fault::NoMemory(None));
     };
-    let mut session = match Session::new(alloc, config.config()) {
+    let mut session = match Session::new(alloc, config.config(), config.seed()) {
         Ok(session) => session,
         Err(fault) => return Err(fault),
     };

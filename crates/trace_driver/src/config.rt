@@ -9,13 +9,15 @@ use trace_session::MOST_PIECE;
 /// How many bytes a read asks for where nothing else is said.
 const PIECE: u32 = 4096;
 
-/// The sizes of the heap, the number of workers that collect, their cells, and how many bytes one read asks for.
+/// The sizes of the heap, the number of workers that collect, their cells, how many bytes one read asks for, and the seed of the
+/// hash by which names are found.
 #[derive(Clone, Copy, Debug)]
 pub struct RunConfig {
     config: Config,
     workers: u32,
     kind: CellKind,
     piece: u32,
+    seed: u128,
 }
 
 impl Model for RunConfig {
@@ -26,17 +28,18 @@ impl Model for RunConfig {
 
     ghost coded = { run_code };
 
-    ghost view = { λ r. record { config = r.config; workers = r.workers; kind = r.kind; piece = r.piece } };
+    ghost view = { λ r. record { config = r.config; workers = r.workers; kind = r.kind; piece = r.piece; seed = r.seed } };
 
     ghost invariant = { λ r. ((0 < r.workers) × (r.workers ≤ 16)) × ((0 < r.piece) × (r.piece ≤ 65536)) };
 
-    ghost inverse = { λ v. record { config = v.config; workers = v.workers; kind = v.kind; piece = v.piece } };
+    ghost inverse = { λ v. record { config = v.config; workers = v.workers; kind = v.kind; piece = v.piece; seed = v.seed } };
 }
 
 impl RunConfig {
-    /// A run with so many workers, 1 to 16, whose cells are of this kind where they are threads. A read asks for 4,096 bytes.
+    /// A run with so many workers, 1 to 16, whose cells are of this kind where they are threads. A read asks for 4,096 bytes,
+    /// and the seed is 0.
     pub fn new(config: Config, workers: u64, kind: CellKind) -> Result<RunConfig, BadConfig>
-        ensures ok { IfOk result (λ run. run ≡ record { config = config; workers = workers; kind = kind; piece = 4096 }) }
+        ensures ok { IfOk result (λ run. run ≡ record { config = config; workers = workers; kind = kind; piece = 4096; seed = 0 }) }
         ensures in_range { IsOk result ↔ ((0 < workers) × (workers ≤ 16)) }
     {
         if workers == 0 || workers > 16 {
@@ -47,6 +50,7 @@ impl RunConfig {
             workers: workers as u32,
             kind,
             piece: PIECE,
+            seed: 0,
         })
     }
 
@@ -62,6 +66,14 @@ impl RunConfig {
             piece: bytes as u32,
             ..self
         })
+    }
+
+    /// The same run, whose names are hashed with this seed. Who takes traces of others should draw it at random for each run, so that
+    /// nobody can choose names that collide.
+    pub fn with_seed(self, seed: u128) -> RunConfig
+        ensures { result ≡ record self { seed = seed } }
+    {
+        RunConfig { seed, ..self }
     }
 
     /// The sizes of the heap.
@@ -98,5 +110,13 @@ impl RunConfig {
     {
         let _workers = self.workers;
         self.piece as usize
+    }
+
+    /// The seed of the hash by which names are found.
+    pub fn seed(&self) -> u128
+        ensures { result ≡ self.now.seed }
+    {
+        let _workers = self.workers;
+        self.seed
     }
 }

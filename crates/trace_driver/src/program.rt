@@ -15,6 +15,7 @@ use heap::{BadConfig, Config};
 use heap_text::{Sink, Source, write_all};
 use std::alloc::AllocGlobal;
 use std::convert::AsStr;
+use std::random::RandomSource;
 use std::sync::Wait;
 use std::thread::Threads;
 use trace_session::{Fault, write_fault};
@@ -65,8 +66,26 @@ fn refuse<W: Sink, E: Sink>(refused: &Refused, writer: &mut W, errors: &mut E) -
     }
 }
 
+/// A seed that the system draws, or 0 where it draws none.
+fn drawn_seed(rt: &impl RandomSource) -> u128 {
+    let mut bytes = [0; 16];
+    match rt.fill_bytes(&mut bytes) {
+        Ok(()) => u128::from_le_bytes(bytes),
+        Err(_) => 0,
+    }
+}
+
+/// The settings that the words ask for, with a seed that the system draws.
+fn seeded_config(rt: &impl RandomSource, options: &Options) -> Result<RunConfig, BadConfig>
+    ensures ok { IfOk result (λ run. (run.config ≡ config_of options.now) × (run.workers ≡ options.now.threads) × (run.kind ≡ options.now.cells)) }
+    ensures in_range { IsOk result ↔ AreInRange options.now }
+{
+    let config = run_config(options)?;
+    Ok(config.with_seed(drawn_seed(rt)))
+}
+
 /// Carries out a trace with these numbers, and says the status.
-fn run_with<R: Threads + Wait + Sync + AllocGlobal, S: Source, W: Sink, E: Sink>(
+fn run_with<R: Threads + Wait + Sync + AllocGlobal + RandomSource, S: Source, W: Sink, E: Sink>(
     rt: &R,
     options: &Options,
     reader: &mut S,
@@ -85,7 +104,7 @@ fn run_with<R: Threads + Wait + Sync + AllocGlobal, S: Source, W: Sink, E: Sink>
     ensures writes { W.failed_writes writer.new ≤ W.failed_writes writer.old + 1 }
     ensures error_writes { E.failed_writes errors.new ≤ E.failed_writes errors.old + 1 }
 {
-    let config = match run_config(options) {
+    let config = match seeded_config(rt, options) {
         Ok(config) => config,
         Err(BadConfig) => {
             let _ = write_all(errors, b"gctrace: bad configuration\n");
@@ -107,14 +126,14 @@ fn run_with<R: Threads + Wait + Sync + AllocGlobal, S: Source, W: Sink, E: Sink>
 /// Reads a command line, carries out the trace that `reader` gives, and says the exit status: 0 for a trace without a
 /// fault and for help, 1 where blocks or memory are wanting or boxed cells were not settled, 2 for a faulty trace, 3 for a mistake in the words or a
 /// number out of its range, 4 for a failed read or write. What it tells of a fault goes to `errors`; a failed write of
-/// that doesn't change the status.
-pub fn main_with<R: Threads + Wait + Sync + AllocGlobal, T: AsStr, S: Source, W: Sink, E: Sink>(
-    rt: &R,
-    words: &[T],
-    reader: &mut S,
-    writer: &mut W,
-    errors: &mut E,
-) -> u8
+/// that doesn't change the status. Names are hashed with a seed that the runtime draws.
+pub fn main_with<
+    R: Threads + Wait + Sync + AllocGlobal + RandomSource,
+    T: AsStr,
+    S: Source,
+    W: Sink,
+    E: Sink,
+>(rt: &R, words: &[T], reader: &mut S, writer: &mut W, errors: &mut E) -> u8
     requires readable { S.failed_reads reader.old < 2 ^ 64 - 1 }
     requires writable { W.failed_writes writer.old < 2 ^ 64 - 1 }
     requires tellable { E.failed_writes errors.old < 2 ^ 64 - 1 }

@@ -26,5 +26,6 @@ pub fn replay<A: Allocator + Clone, S: Source, W: Sink>(
     ensures writes { W.failed_writes writer.new ≤ W.failed_writes writer.old + 1 }
 {
     let (sizes, piece) = (config.config(), config.piece());
-    trace_replay::replay(alloc, reader, writer, sizes, config.workers(), piece)
+    let (workers, seed) = (config.workers(), config.seed());
+    trace_replay::replay(alloc, reader, writer, sizes, workers, piece, seed)
 }

@@ -66,7 +66,7 @@ pub fn run_one<A: Allocator + Clone, S: Source, W: Sink>(
     let Ok(text_alloc) = alloc.clone() else {
         return Err(Fault::NoMemory(None));
     };
-    let mut session = match Session::new(alloc, config.config()) {
+    let mut session = match Session::new(alloc, config.config(), config.seed()) {
         Ok(session) => session,
         Err(fault) => return Err(fault),
     };

@@ -12,9 +12,14 @@ use Rattle.trace_session.specs.Pieces.{Piece, pieces}
 use Rattle.trace_session.specs.Stepped.{AtEach}
 use Rattle.trace_session.specs.declared.session.Session.{Session}
 use Rattle.trace_session.specs.Session.{Stands}
-use Rattle.trace_replay.specs.Replays.{State, state_of, ReplaysAll, IsReplayed}
+use Rattle.trace_replay.specs.Replays.{State, state_of, ReplaysAll, IsFirst, IsReplayed}
 use Rattle.trace_replay.specs.ReplayStops.{HasTraceFault, HasScheduleFault, WantsBlocks, IsSoundAt, Quietly, StopsIn, Stops, ReplaysWholeIn, ReplaysWhole, IsReplayDone, IsReplayStopped}
 use Rattle.trace_session.proofs.LineLemmas.{OfInput-map, OfGiven-map}
+use Rattle.steps.specs.HeapValue.{empty_heap}
+
+-- a session as it is made
+pub first_state : {A : Type 0} (session : Session A) (config : Config) → (session.heap ≡ empty_heap config) × (session.names ≡ []) → IsFirst config (state_of session (empty_store config))
+first_state session config is = record { heap_is = is.0; names_are = is.1; store_is = refl }
 
 -- before the first read
 abbrev pub IsFresh : LinesValue → Type 0
@@ -23,25 +28,25 @@ IsFresh lines = lines ≡ record { pending = []; line = []; reads = 2 ^ 64 - 1 }
 pub little_left : (lines : LinesValue) → IsFresh lines → most_left lines < 2 ^ 81
 little_left lines fresh = subst (λ (v : LinesValue). most_left v < 2 ^ 81) (sym fresh) (omega arith)
 
-module _ {A : Type 0} (session : Session A) (config : Config) (stands : Stands session config (empty_store config)) (n : ℕ) (lines : LinesValue) (fresh : IsFresh lines) (i j : Input) (printed printed' : Output) where
+module _ {A : Type 0} (session : Session A) (config : Config) (stands : Stands session config (empty_store config)) (is_first : IsFirst config (state_of session (empty_store config))) (n : ℕ) (lines : LinesValue) (fresh : IsFresh lines) (i j : Input) (printed printed' : Output) where
   nothing_pending : lines.pending ≡ []
   nothing_pending = ap (λ (v : LinesValue). v.pending) fresh
 
   whole_trace : OfGiven lines.pending i j (λ text. AtEach (Stands session) (λ config store. ReplaysAll config n (state_of session store) (pieces text) printed printed'))
       → OfGiven [] i j (IsReplayed config n printed printed')
   whole_trace all = subst (λ front. OfGiven front i j (IsReplayed config n printed printed')) nothing_pending
-      (OfGiven-map lines.pending i j all (λ text h. record { first = state_of session (empty_store config); begins = refl; holds = stands; replays = h config (empty_store config) stands }))
+      (OfGiven-map lines.pending i j all (λ text h. record { first = state_of session (empty_store config); begins = is_first; holds = stands; replays = h config (empty_store config) stands }))
 
   whole_so_far : OfGiven lines.pending i j (λ text. AtEach (Stands session) (λ config store. ReplaysWholeIn config n (state_of session store) (pieces text) printed printed'))
       → OfGiven [] i j (ReplaysWhole config n printed printed')
   whole_so_far all = subst (λ front. OfGiven front i j (ReplaysWhole config n printed printed')) nothing_pending
-      (OfGiven-map lines.pending i j all (λ text h. record { first = state_of session (empty_store config); begins = refl; holds = stands; replays = h config (empty_store config) stands }))
+      (OfGiven-map lines.pending i j all (λ text h. record { first = state_of session (empty_store config); begins = is_first; holds = stands; replays = h config (empty_store config) stands }))
 
   stops_somewhere : (P : Config → State → ℕ → List Piece → ℕ → List ℕ → Type 0) (at : ℕ)
       → OfInput lines.pending i j (λ text. AtEach (Stands session) (λ config store. StopsIn (P config) config n (state_of session store) 1 (pieces text) at printed printed'))
       → OfInput [] i j (Stops (P config) config n at printed printed')
   stops_somewhere P at stops = subst (λ front. OfInput front i j (Stops (P config) config n at printed printed')) nothing_pending
-      (OfInput-map lines.pending i j stops (λ text h. record { first = state_of session (empty_store config); begins = refl; holds = stands; stops = h config (empty_store config) stands }))
+      (OfInput-map lines.pending i j stops (λ text h. record { first = state_of session (empty_store config); begins = is_first; holds = stands; stops = h config (empty_store config) stands }))
 
   no_reads_left : {F : Type 0} → F ⊎ IsOutOfReads lines.reads i j → F ⊎ IsOutOfReads (2 ^ 64 - 1) i j
   no_reads_left {F} failed = subst (λ reads. F ⊎ IsOutOfReads reads i j) (ap (λ (v : LinesValue). v.reads) fresh) failed

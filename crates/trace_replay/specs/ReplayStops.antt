@@ -2,7 +2,6 @@
 use Rattle.std.specs.Prelude.{◌≡◌, ℕ, ◌+◌, ◌-◌, ◌*◌, ◌^◌, ◌<◌, ◌⊎◌, MatchOption, IsTrue, List, [], ◌∷◌, ◌++◌, length, Some, Ok, Err}
 use Rattle.heap_text.specs.Streams.{Input, Output, Appends, OfGiven, OfInput}
 use Rattle.model.specs.Config.{Config}
-use Rattle.model.specs.Store.{empty_store}
 use Rattle.model.specs.Commands.{Collect}
 use Rattle.model.specs.declared.kind.Kind.{Kind}
 use Rattle.settling.specs.Collects.{setting_at, opening_at}
@@ -19,7 +18,7 @@ use Rattle.trace_session.specs.CollectsFirst.{LineCollectsFirst}
 use Rattle.trace_session.specs.Refusals.{IsFullFor}
 use Rattle.trace_session.specs.Commands.{IsNoCollection}
 use Rattle.trace_replay.specs.Stops.{IsUnreadable, IsRefusedBlocks, IsFullInTurn, IsSoundLine, OfLine, StopsAt, StopsWith, IsUsedUp}
-use Rattle.trace_replay.specs.Replays.{State, Holds, HasMadeRoom, Replays, IsReplayed}
+use Rattle.trace_replay.specs.Replays.{State, Holds, HasMadeRoom, Replays, IsFirst, IsReplayed}
 
 -- a `collect` line without a fault, and the text after it
 pub record OpensSchedule (config : Config) (s : State) (left : List Piece) : Type 0 where
@@ -83,7 +82,7 @@ pub record StopsIn (P : State → ℕ → List Piece → ℕ → List ℕ → Ty
 -- the same of a whole text, from a heap without objects on
 pub record Stops (P : State → ℕ → List Piece → ℕ → List ℕ → Type 0) (config : Config) (n : ℕ) (at : ℕ) (printed printed' : Output) (text : List ℕ) : Type 0 where
   pub first : State
-  pub begins : first.store ≡ empty_store config
+  pub begins : IsFirst config first
   pub holds : Holds config first
   pub stops : StopsIn P config n first 1 (pieces text) at printed printed'
 
@@ -106,7 +105,7 @@ pub record ReplaysWholeIn (config : Config) (n : ℕ) (old : State) (all : List 
 -- the same of a text, from a heap without objects on
 pub record ReplaysWhole (config : Config) (n : ℕ) (printed printed' : Output) (text : List ℕ) : Type 0 where
   pub first : State
-  pub begins : first.store ≡ empty_store config
+  pub begins : IsFirst config first
   pub holds : Holds config first
   pub replays : ReplaysWholeIn config n first (pieces text) printed printed'
 

@@ -4,7 +4,7 @@ use Rattle.heap_text.specs.Streams.{Output, Appends}
 use Rattle.model.specs.Config.{Config}
 use Rattle.model.specs.Store.{Store, empty_store}
 use Rattle.model.specs.Commands.{Collect}
-use Rattle.steps.specs.HeapValue.{HeapValue}
+use Rattle.steps.specs.HeapValue.{HeapValue, empty_heap}
 use Rattle.steps.specs.ReportValue.{WorkerLists}
 use Rattle.steps.specs.declared.heap_values.report.Delivery.{Delivery}
 use Rattle.workers.specs.System.{System}
@@ -18,6 +18,7 @@ use Rattle.trace_session.specs.Pieces.{Piece, finished, pieces}
 use Rattle.trace_session.specs.CollectsFirst.{LineCollectsFirst, auto_line}
 use Rattle.trace_session.specs.Outcome.{line_step, command_step}
 use Rattle.trace_session.specs.Commands.{IsNoCollection}
+use Rattle.trace_session.specs.Does.{LineDoes}
 use Rattle.trace_session.specs.Stands.{StandsFor}
 use Rattle.trace_session.specs.declared.session.Session.{Session}
 use Rattle.trace_replay.specs.Runs.{Finishes, LinesRun}
@@ -34,11 +35,12 @@ state_of session store = record { heap = session.heap; names = session.names; st
 abbrev pub Holds : Config → State → Type 0
 Holds config s = StandsFor s.heap s.names config s.store
 
--- a line outside schedules that needs no collection does what it does in any run
+-- a line outside schedules that needs no collection does what it does in any run, and to this heap what its command does
 pub record Steps (config : Config) (old : State) (line out : List ℕ) (new : State) : Type 0 where
   pub plain : IsNoCollection (entry_of line)
   pub has_room : ¬ LineCollectsFirst config old.store line
   pub steps : line_step config old.store line ≡ Ok (new.store, out)
+  pub does : LineDoes old.heap old.names (entry_of line) new.heap new.names
   pub holds : Holds config new
 
 -- n workers collect generation 0 for a new object, each event the one that comes next by itself, and leave this heap; what is written tells of the collection, and then of what they did in the heap as it then was
@@ -56,10 +58,12 @@ pub record MakesRoom (n : ℕ) (old : State) (written : List ℕ) (new : HeapVal
 abbrev pub HasMadeRoom : ℕ → State → (written : List ℕ) → Type 0
 HasMadeRoom n old written = (between : HeapValue) × MakesRoom n old written between
 
--- a new object for which there is no room: the store is that of any run
+-- a new object for which there is no room: the store is that of any run, and it is made in the heap that the collection leaves
 pub record StepsWithRoom (config : Config) (n : ℕ) (old : State) (line out : List ℕ) (new : State) : Type 0 where
   pub first : LineCollectsFirst config old.store line
-  pub makes_room : HasMadeRoom n old out
+  pub between : HeapValue
+  pub makes_room : MakesRoom n old out between
+  pub does : LineDoes between old.names (entry_of line) new.heap new.names
   pub steps : line_step config old.store line ≡ Ok (new.store, auto_line old.store)
   pub holds : Holds config new
 
@@ -128,9 +132,15 @@ pub record ReplaysAll (config : Config) (n : ℕ) (old : State) (all : List Piec
   pub replays : Replays config n old all out last
   pub held : Appends printed printed' out
 
+-- a heap without objects, and no names
+pub record IsFirst (config : Config) (s : State) : Type 0 where
+  pub heap_is : s.heap ≡ empty_heap config
+  pub names_are : s.names ≡ []
+  pub store_is : s.store ≡ empty_store config
+
 -- a whole text, from a heap without objects on
 pub record IsReplayed (config : Config) (n : ℕ) (printed printed' : Output) (text : List ℕ) : Type 0 where
   pub first : State
-  pub begins : first.store ≡ empty_store config
+  pub begins : IsFirst config first
   pub holds : Holds config first
   pub replays : ReplaysAll config n first (pieces text) printed printed'

@@ -122,6 +122,7 @@ pub(crate) fn make_room<A: Allocator + Clone, W: Sink>(
     requires countable { W.failed_writes writer.old < 2 ^ 64 - 1 }
     ensures ok { OnOk result (AtEach (Stands session.old) (λ config store. Stands session.new config (collected config 0 store)
         × Writes (λ written. MakesRoom workers (state_of session.old store) written session.new.heap) (W.output writer.old) (W.output writer.new))) }
+    ensures names { OnOk result (session.new.names ≡ session.old.names) }
     ensures counts { OnOk result (W.failed_writes writer.new ≡ W.failed_writes writer.old) }
     ensures rises { W.failed_writes writer.new ≤ W.failed_writes writer.old + 1 }
     ensures err { IfErr result (λ e. MatchFault e (λ _ _. ⊥)

@@ -171,7 +171,8 @@ fn carry_out_lines<A: Allocator + Clone, S: Source, W: Sink>(
 }
 
 /// Reads a trace whose collections have schedules, `piece` bytes at a time, 1 to 65,536, carries out each line as it
-/// comes with so many workers, 1 to 16, on one thread, and writes what it prints. It makes the heap first.
+/// comes with so many workers, 1 to 16, on one thread, and writes what it prints. It makes the heap first. The seed is that of
+/// the hash by which names are found.
 pub fn replay<A: Allocator + Clone, S: Source, W: Sink>(
     alloc: A,
     reader: &mut S,
@@ -179,6 +180,7 @@ pub fn replay<A: Allocator + Clone, S: Source, W: Sink>(
     config: Config,
     workers: u32,
     piece: usize,
+    seed: u128,
 ) -> Result<(), Fault>
     requires some { 0 < workers }
     requires most { workers ≤ 16 }
@@ -198,7 +200,7 @@ pub fn replay<A: Allocator + Clone, S: Source, W: Sink>(
     let Ok(text_alloc) = alloc.clone() else {
         return Err(Fault::NoMemory(None));
     };
-    let mut session = match Session::new(alloc, config) {
+    let mut session = match Session::new(alloc, config, seed) {
         Ok(session) => session,
         Err(fault) => return Err(fault),
     };

@@ -1,5 +1,5 @@
 -- A line that is a command does what the command does.
-use Rattle.std.proofs.Common.{◌≡◌, ℕ, List, [], Option, Some, Result, Ok, Err, refl, sym, subst, ap, ◌∙◌}
+use Rattle.std.proofs.Common.{◌≡◌, ℕ, List, [], Option, Some, None, Result, Ok, Err, refl, sym, subst, ap, ◌∙◌}
 use Rattle.std.specs.Prelude.{IfOk, IfErr, is_ok}
 use Rattle.heap_text.specs.Streams.{Output}
 use Rattle.heap_text.proofs.Streams.{Appends-nil}
@@ -20,7 +20,9 @@ use Rattle.trace_session.specs.Sound.{IsSoundTraceLine, IsSoundCommand}
 use Rattle.trace_session.specs.Stepped.{AtEach, StepsTo, StepsQuietly}
 use Rattle.trace_session.specs.Refusals.{MayBeFull, CommandMayBeFull, ReadWantsBlocks, LacksBlocks, IsFullFor}
 use Rattle.trace_session.specs.SessionType.{Session}
-use Rattle.trace_session.specs.Commands.{MakesNone}
+use Rattle.trace_session.specs.Commands.{MakesNone, IsNoCollection}
+use Rattle.heap.specs.HeapValue.{HeapValue}
+use Rattle.trace_session.specs.Does.{Rooted, Does, LineDoes}
 
 pub line_is : (config : Config) (store : Store) (line : List ℕ) (command : Command) → entry_of line ≡ Ok (Some command) → line_step config store line ≡ command_step config store command
 unfolding line_step
@@ -45,6 +47,25 @@ makes_none config store (Drop text) none = λ first. first
 makes_none config store (Collect g) none = λ first. first
 makes_none config store Census none = λ first. first
 makes_none config store Heap none = λ first. first
+
+-- a line that is a command does to the heap what that does
+module _ (heap : HeapValue) (names : Rooted) (after : HeapValue) (names' : Rooted) (line : List ℕ) where
+  pub command_does : (command : Command) → entry_of line ≡ Ok (Some command) → (IsNoCollection (Ok (Some command)) → Does heap names command after names') → IsNoCollection (entry_of line) → LineDoes heap names (entry_of line) after names'
+  command_does command says does = subst (λ read. IsNoCollection read → LineDoes heap names read after names') (sym says) does
+
+  pub new_does : (command : Command) → entry_of line ≡ Ok (Some command) → (r : Result Attempt Fault) → IfOk r (λ a. MatchAttempt a (Does heap names command after names') (Unit {0}))
+      → IfOk r (λ a. MatchAttempt a (IsNoCollection (entry_of line) → LineDoes heap names (entry_of line) after names') (Unit {0}))
+  new_does command says (Ok Done) does = command_does command says (λ plain. does)
+  new_does command says (Ok NurseryFull) does = tt
+  new_does command says (Err e) does = tt
+
+-- a command that shows what is there
+pub shows_unchanged : {A : Type 0} (before after : Session A) (command : Command) → after ≡ before → Does before.heap before.names command before.heap before.names → Does before.heap before.names command after.heap after.names
+shows_unchanged before after command same does = subst (λ s. Does before.heap before.names command s.heap s.names) (sym same) does
+
+-- a line that is nothing changes nothing
+pub nothing_does : (heap : HeapValue) (names : Rooted) (line : List ℕ) → entry_of line ≡ Ok None → LineDoes heap names (entry_of line) heap names
+nothing_does heap names line says = subst (λ read. LineDoes heap names read heap names) (sym says) (refl, refl)
 
 -- a line that is a new object
 pub new_line : (stands stands' : Config → Store → Type 0) (line : List ℕ) (command : Command) → entry_of line ≡ Ok (Some command) → (held : Output) (r : Result Attempt Fault)

@@ -23,3 +23,4 @@ pub mod Refusals
 pub use Rattle.trace_session.specs.declared.session.Session as SessionType
 -- What a line does to a session, and where it may be refused.
 pub mod Commands
+pub mod Does

@@ -3,6 +3,7 @@ ghost use Rattle.std.specs.Prelude.{◌≡◌, ◌↔◌, Some, Err, OnOk, OnErr
 ghost use Rattle.std.specs.Option.{option_map};
 ghost use Rattle.model.specs.Commands.{Set, Put, Get, target_of};
 ghost use Rattle.heap.specs.Commands.{HasPointer};
+ghost use Rattle.trace_session.specs.Does.{Does};
 ghost use Rattle.trace_session.specs.Faults.{MatchFault};
 ghost use Rattle.trace_session.specs.Outcome.{command_step};
 ghost use Rattle.trace_session.specs.Sound.{IsSoundCommand};
@@ -54,6 +55,7 @@ impl<A: Allocator + Clone> Session<A> {
     ) -> Result<(), Fault>
         ensures ok { OnOk result (AtEach (Stands self.old) (λ config store.
             StepsQuietly (Stands self.new) config (command_step config store (Set name.now field (target_of (λ x. x.now) target.entry))))) }
+        ensures own { OnOk result (Does self.old.heap self.old.names (Set name.now field (target_of (λ x. x.now) target.entry)) self.new.heap self.new.names) }
         ensures err { IfErr result (λ e. MatchFault e
             (λ at kind. (at ≡ number) × AtEach (Stands self.old) (λ config store. command_step config store (Set name.now field (target_of (λ x. x.now) target.entry)) ≡ Err kind))
             (λ _. ⊥)
@@ -85,6 +87,7 @@ impl<A: Allocator + Clone> Session<A> {
     pub fn put(&mut self, number: u128, name: &[u8], field: u64, value: u64) -> Result<(), Fault>
         ensures ok { OnOk result (AtEach (Stands self.old) (λ config store.
             StepsQuietly (Stands self.new) config (command_step config store (Put name.now field value)))) }
+        ensures own { OnOk result (Does self.old.heap self.old.names (Put name.now field value) self.new.heap self.new.names) }
         ensures err { IfErr result (λ e. MatchFault e
             (λ at kind. (at ≡ number) × AtEach (Stands self.old) (λ config store. command_step config store (Put name.now field value) ≡ Err kind))
             (λ _. ⊥) (λ _. ⊥) ⊥ ⊥) }
@@ -111,6 +114,7 @@ impl<A: Allocator + Clone> Session<A> {
     ) -> Result<(), Fault>
         ensures ok { OnOk result (AtEach (Stands self.old) (λ config store.
             StepsQuietly (Stands self.new) config (command_step config store (Get new_name.now name.now field)))) }
+        ensures own { OnOk result (Does self.old.heap self.old.names (Get new_name.now name.now field) self.new.heap self.new.names) }
         ensures err { IfErr result (λ e. MatchFault e
             (λ at kind. (at ≡ number) × AtEach (Stands self.old) (λ config store. command_step config store (Get new_name.now name.now field) ≡ Err kind))
             (λ _. ⊥)

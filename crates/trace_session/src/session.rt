@@ -1,9 +1,11 @@
 //! What a run keeps between lines.
-ghost use Rattle.std.specs.Prelude.{◌≡◌, ◌+◌, ◌*◌, ◌<◌, ◌≤◌, ◌++◌, [], Some, None, Ok, Err, IfOk, OnOk, IfErr};
+ghost use Rattle.std.specs.Prelude.{◌≡◌, ◌+◌, ◌*◌, ◌<◌, ◌≤◌, ◌++◌, [], Some, None, Ok, Err, IfOk, OnOk, IfErr, OnErr};
 ghost use Rattle.model.specs.Store.{empty_store};
 ghost use Rattle.model.specs.Commands.{New, Drop};
+ghost use Rattle.heap.specs.HeapValue.{empty_heap};
 ghost use Rattle.trace_session.specs.Attempts.{MatchAttempt};
 ghost use Rattle.trace_session.specs.CollectsFirst.{CollectsFirst};
+ghost use Rattle.trace_session.specs.Does.{Does};
 ghost use Rattle.trace_session.specs.Faults.{MatchFault};
 ghost use Rattle.trace_session.specs.Outcome.{command_step};
 ghost use Rattle.trace_session.specs.Sound.{IsSoundCommand};
@@ -11,7 +13,7 @@ ghost use Rattle.trace_session.specs.Stepped.{AtEach, StepsQuietly};
 
 use crate::trace_lines::{Attempt, Fault};
 use crate::trace_names::Names;
-use heap::{AllocateError, Config, Heap, MakeError};
+use heap::{AllocateError, Config, Heap, MakeError, NoRoot};
 use model::Kind;
 use std::alloc::{Allocator, Global};
 
@@ -30,9 +32,11 @@ impl<A: Allocator + Clone> Session<A> {
     ghost use Rattle.trace_session.specs.Session.{Stands};
     ghost use Rattle.trace_session.specs.Refusals.{CommandMayBeFull, LacksBlocks};
 
-    /// A heap without objects, and no names.
-    pub fn new(alloc: A, config: Config) -> Result<Session<A>, Fault>
+    /// A heap without objects, and no names. The seed is that of the hash by which names are found: where it is drawn at random,
+    /// nobody can choose names that make a run slow.
+    pub fn new(alloc: A, config: Config, seed: u128) -> Result<Session<A>, Fault>
         ensures ok { IfOk result (λ session. Stands session config (empty_store config)) }
+        ensures first { IfOk result (λ session. (session.heap ≡ empty_heap config) × (session.names ≡ [])) }
         ensures err { IfErr result (λ e. MatchFault e (λ _ _. ⊥)
             (λ at. (at ≡ None) × (config.blocks < config.mutators * config.nursery_blocks))
             (λ at. at ≡ None) ⊥ ⊥) }
@@ -48,7 +52,7 @@ impl<A: Allocator + Clone> Session<A> {
             Err(MakeError::HeapFull) => return Err(Fault::HeapFull(None)),
             Err(MakeError::NoMemory) => return Err(Fault::NoMemory(None)),
         };
-        let names = Names::new(names_alloc);
+        let names = Names::new(names_alloc, seed);
         Ok(Session { heap, names, alloc })
     }
 
@@ -66,6 +70,8 @@ impl<A: Allocator + Clone> Session<A> {
         ensures ok { IfOk result (λ attempt. AtEach (Stands self.old) (λ config store. MatchAttempt attempt
             (StepsQuietly (Stands self.new) config (command_step config store (New name.now mutator pointers plain)) × ¬ CollectsFirst config store (New name.now mutator pointers plain))
             (IsSoundCommand config store (New name.now mutator pointers plain) × CollectsFirst config store (New name.now mutator pointers plain)))) }
+        ensures own { IfOk result (λ attempt. MatchAttempt attempt
+            (Does self.old.heap self.old.names (New name.now mutator pointers plain) self.new.heap self.new.names) (Unit {0})) }
         ensures full { result ≡ Ok Attempt.NurseryFull → self.new ≡ self.old }
         ensures err { IfErr result (λ e. MatchFault e
             (λ at kind. (at ≡ number) × AtEach (Stands self.old) (λ config store. command_step config store (New name.now mutator pointers plain) ≡ Err kind))
@@ -94,20 +100,26 @@ impl<A: Allocator + Clone> Session<A> {
         }
     }
 
-    /// The name leads to nothing any more.
+    /// The name leads to nothing any more. At a fault the session is as before.
     pub fn remove(&mut self, number: u128, name: &[u8]) -> Result<(), Fault>
         ensures ok { OnOk result (AtEach (Stands self.old) (λ config store.
             StepsQuietly (Stands self.new) config (command_step config store (Drop name.now)))) }
+        ensures own { OnOk result (Does self.old.heap self.old.names (Drop name.now) self.new.heap self.new.names) }
         ensures err { IfErr result (λ e. MatchFault e
             (λ at kind. (at ≡ number) × AtEach (Stands self.old) (λ config store. command_step config store (Drop name.now) ≡ Err kind))
             (λ _. ⊥) (λ _. ⊥) ⊥ ⊥) }
+        ensures before { OnErr result (self.new ≡ self.old) }
     {
-        let Some(root) = self.names.remove(name) else {
+        let Some(root) = self.names.get(name) else {
             return Err(Fault::BadTrace(number, Kind::UnknownName));
         };
         match self.heap.release(root) {
-            Ok(()) => Ok(()),
-            Err(_) => Err(Fault::BadTrace(number, Kind::UnknownName)),
+            Ok(()) => {
+                let _root = self.names.remove(name);
+                Ok(())
+            }
+            // No name leads to such a root.
+            Err(NoRoot) => Err(Fault::BadTrace(number, Kind::UnknownName)),
         }
     }
 }

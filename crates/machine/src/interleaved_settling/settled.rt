@@ -3,17 +3,17 @@ ghost use Rattle.std.specs.Prelude.{◌≡◌, ◌↔◌, Err, IfOk, OnOk, map};
 ghost use Rattle.steps.specs.ReportValue.{all_won};
 ghost use Rattle.steps.specs.SettledValue.{IsSettled};
 ghost use Rattle.workers.specs.Lawful.{AllEnded};
-ghost use Rattle.workers_in_turn.specs.InterleavedValue.{system_of};
-ghost use Rattle.workers_in_turn.specs.IsInterleaved.{HasReached};
+ghost use Rattle.machine.specs.InterleavedValue.{system_of};
+ghost use Rattle.machine.specs.IsInterleaved.{HasReached};
 ghost use Rattle.settling.specs.Collects.{ScansOnce};
 ghost use Rattle.settling.specs.Together.{Reports};
 
 use crate::interleaved_settling::settle_error::SettleError;
+use crate::workers_in_turn::{InterleavedCollection, InterleavedParts, Member};
 use heap::{Collection, Heap, Settled};
 use scavenge::Workspace;
 use settling::{all_delivered, brought, show_all};
 use std::alloc::{AllocError, Allocator};
-use workers_in_turn::{InterleavedCollection, InterleavedParts, Member};
 
 /// The members' own parts, in order.
 fn workspaces_of<A: Allocator>(

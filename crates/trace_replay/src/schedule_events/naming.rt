@@ -1,10 +1,10 @@
 //! From the numbers of a schedule to those of a collection.
 ghost use Rattle.std.specs.Prelude.{◌≡◌, ◌^◌, ◌≤◌, IfSome, IfNone};
-ghost use Rattle.workers_in_turn.specs.Events.{event_of};
+ghost use Rattle.machine.specs.SystemEvents.{event_of};
 ghost use Rattle.trace_replay.specs.Naming.{meant, IsNeverLawful};
 
+use machine::Event;
 use trace_text::ScheduleEvent;
-use workers_in_turn::Event;
 
 /// A worker's number, if there may be such a worker.
 fn worker(number: u64) -> Option<u32>

@@ -1,4 +1,5 @@
 //! The names in use, and what each leads to.
+mod hash;
 mod names;
 
 pub use names::Names;

@@ -7,17 +7,17 @@ ghost use Rattle.std.specs.FinMap.{find, put};
 ghost use Rattle.std.specs.FinMap.Entries.{is_sorted};
 ghost use Rattle.heap_text.specs.HeapLines.{name_value};
 
+use super::hash::SeededHash;
 use heap::RootId;
 use heap_text::Name;
 use std::alloc::{AllocError, Allocator, Global};
 use std::collections::HashMap;
-use std::hash::{BuildHasherDefault, FoldHasher};
 use std::marker::Model;
 
 /// What each name in use leads to. A look-up or change finds it by its hash.
 #[derive(Drop)]
 pub struct Names<A: Allocator = Global> {
-    roots: HashMap<Vec<u8, A>, RootId, BuildHasherDefault<FoldHasher>, A>,
+    roots: HashMap<Vec<u8, A>, RootId, SeededHash, A>,
 }
 
 impl<A: Allocator> Model for Names<A> {
@@ -32,12 +32,12 @@ impl<A: Allocator> Model for Names<A> {
 }
 
 impl<A: Allocator + Clone> Names<A> {
-    /// No names.
-    pub fn new(alloc: A) -> Names<A>
+    /// No names. The seed is that of the hash by which they are found.
+    pub fn new(alloc: A, seed: u128) -> Names<A>
         ensures { result ≡ [] }
     {
         Names {
-            roots: HashMap::new(alloc),
+            roots: HashMap::with_hasher(alloc, SeededHash::new(seed)),
         }
     }
 

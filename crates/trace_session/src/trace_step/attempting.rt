@@ -10,7 +10,8 @@ ghost use Rattle.trace_session.specs.Sound.{IsSoundTraceLine, IsSoundCommand};
 ghost use Rattle.trace_session.specs.Stepped.{AtEach, StepsTo};
 ghost use Rattle.trace_session.specs.Refusals.{MayBeFull, CommandMayBeFull, IsFullFor};
 ghost use Rattle.trace_session.specs.Session.{Stands};
-ghost use Rattle.trace_session.specs.Commands.{MakesNone};
+ghost use Rattle.trace_session.specs.Commands.{MakesNone, IsNoCollection};
+ghost use Rattle.trace_session.specs.Does.{Does, LineDoes};
 
 use crate::session::Session;
 use crate::trace_lines::{Attempt, Fault};
@@ -30,6 +31,8 @@ fn carry_out_command<A: Allocator + Clone, W: Sink>(
     requires countable { W.failed_writes writer.old < 2 ^ 64 - 1 }
     ensures ok { OnOk result (AtEach (Stands session.old)
         (λ config store. StepsTo (Stands session.new) config (command_step config store (command_of command.entry)) (W.output writer.old) (W.output writer.new))) }
+    ensures own { OnOk result (IsNoCollection (Ok (Some (command_of command.entry)))
+        → Does session.old.heap session.old.names (command_of command.entry) session.new.heap session.new.names) }
     ensures counts { OnOk result (W.failed_writes writer.new ≡ W.failed_writes writer.old) }
     ensures rises { W.failed_writes writer.new ≤ W.failed_writes writer.old + 1 }
     ensures err { IfErr result (λ e. MatchFault e
@@ -71,6 +74,8 @@ pub fn attempt_line<A: Allocator + Clone, W: Sink>(
     ensures ok { IfOk result (λ attempt. AtEach (Stands session.old) (λ config store. MatchAttempt attempt
         (StepsTo (Stands session.new) config (line_step config store line.now) (W.output writer.old) (W.output writer.new) × ¬ LineCollectsFirst config store line.now)
         (IsSoundTraceLine config store line.now × LineCollectsFirst config store line.now))) }
+    ensures own { IfOk result (λ attempt. MatchAttempt attempt (IsNoCollection (entry_of line.now)
+        → LineDoes session.old.heap session.old.names (entry_of line.now) session.new.heap session.new.names) (Unit {0})) }
     ensures full { result ≡ Ok Attempt.NurseryFull → (session.new ≡ session.old) × (writer.new ≡ writer.old) }
     ensures counts { OnOk result (W.failed_writes writer.new ≡ W.failed_writes writer.old) }
     ensures rises { W.failed_writes writer.new ≤ W.failed_writes writer.old + 1 }

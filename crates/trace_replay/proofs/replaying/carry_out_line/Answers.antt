@@ -3,15 +3,17 @@ use Rattle.trace_session.specs.declared.trace_lines.attempt.Attempt.TheVariants.
 use Rattle.trace_replay.specs.Stops.{IsFullInTurn}
 use Rattle.trace_session.specs.Session.{Stands}
 use Rattle.trace_session.proofs.Twice.{told, first_fault, room_fault, done_twice, no_full_twice, second_fault}
-use Rattle.trace_replay.specs.Replays.{state_of, HasMadeRoom}
+use Rattle.trace_text.specs.Grammar.{entry_of}
+use Rattle.trace_session.specs.Does.{LineDoes}
+use Rattle.trace_replay.specs.Replays.{state_of, HasMadeRoom, MakesRoom}
 use Rattle.trace_replay.specs.ReplayStops.{WantsRoom, for_collection, for_large}
-use Rattle.trace_replay.proofs.RoomSteps.{plain_steps, with_room_steps, made_at_first}
+use Rattle.trace_replay.proofs.RoomSteps.{same_names, plain_steps, with_room_steps, made_between, made_at_first}
 use Rattle.trace_replay.proofs.replaying.carry_out_line.Goals as goal
 
 pub returns-in-Ok-Done-clause-ok : goal.returns-in-Ok-Done-clause-ok
 returns-in-Ok-Done-clause-ok g c = λ config store stands.
     let done = told _ _ c.in-Ok-Done.field-0 Done c.in-Ok-Done.field-0-is (c.in-Ok-Done.ensures.ok config store stands) in
-    plain_steps c.args.session.now c.attempt_line.new.session config c.args.workers store c.args.line.now _ _ c.requires.plain done.1 done.0
+    plain_steps c.args.session.now c.attempt_line.new.session config c.args.workers store c.args.line.now _ _ c.requires.plain (told _ _ c.in-Ok-Done.field-0 Done c.in-Ok-Done.field-0-is c.in-Ok-Done.ensures.own c.requires.plain) done.1 done.0
 
 pub returns-in-Err-clause-err : goal.returns-in-Err-clause-err
 returns-in-Err-clause-err g c =
@@ -30,11 +32,15 @@ pub returns-in-Ok-Done-attempt_line-clause-ok : goal.returns-in-Ok-Done-attempt_
 returns-in-Ok-Done-attempt_line-clause-ok g c = λ config store stands.
     let same = c.in-Ok-NurseryFull.ensures.full (ap (λ a. Ok a) c.in-Ok-NurseryFull.field-0-is) in
     let first = (told _ _ c.in-Ok-NurseryFull.field-0 NurseryFull c.in-Ok-NurseryFull.field-0-is (c.in-Ok-NurseryFull.ensures.ok config store stands)).1 in
-    with_room_steps c.args.session.now c.attempt_line-2.new.session config c.args.workers store c.args.line.now _ _ first
-    (done_twice (Stands c.args.session.now) c.args.number c.args.line.now (λ config store. WantsRoom config c.args.workers (state_of c.args.session.now store) c.args.line.now) (λ config store. HasMadeRoom c.args.workers (state_of c.args.session.now store)) g.W.Sink.output c.args.writer.now
-    (λ config store there. told _ _ c.in-Ok-NurseryFull.field-0 NurseryFull c.in-Ok-NurseryFull.field-0-is (c.in-Ok-NurseryFull.ensures.ok config store there)) (Stands c.make_room.new.session) (g.W.Sink.output c.make_room.new.writer)
-    (made_at_first c.args.workers c.args.session.now c.attempt_line.new.session c.make_room.new.session same.0 g.W.Sink.output c.args.writer.now c.attempt_line.new.writer c.make_room.new.writer same.1 c.in-Ok.ensures.ok)
-    (Stands c.attempt_line-2.new.session) (g.W.Sink.output c.attempt_line-2.new.writer) (λ config store there. (told _ _ c.in-Ok-Done-attempt_line.field-0 Done c.in-Ok-Done-attempt_line.field-0-is (c.in-Ok-Done-attempt_line.ensures.ok config store there)).0) config store stands)
+    let room = c.make_room.new.session in
+    let last = c.attempt_line-2.new.session in
+    let does = told _ _ c.in-Ok-Done-attempt_line.field-0 Done c.in-Ok-Done-attempt_line.field-0-is c.in-Ok-Done-attempt_line.ensures.own c.requires.plain in
+    let names_are = c.in-Ok.ensures.names ∙ same_names c.attempt_line.new.session c.args.session.now same.0 in
+    with_room_steps c.args.session.now last room.heap config c.args.workers store c.args.line.now _ _ first (subst (λ names. LineDoes room.heap names (entry_of c.args.line.now) last.heap last.names) names_are does)
+    (done_twice (Stands c.args.session.now) c.args.number c.args.line.now (λ config store. WantsRoom config c.args.workers (state_of c.args.session.now store) c.args.line.now) (λ config store written. MakesRoom c.args.workers (state_of c.args.session.now store) written room.heap) g.W.Sink.output c.args.writer.now
+    (λ config store there. told _ _ c.in-Ok-NurseryFull.field-0 NurseryFull c.in-Ok-NurseryFull.field-0-is (c.in-Ok-NurseryFull.ensures.ok config store there)) (Stands room) (g.W.Sink.output c.make_room.new.writer)
+    (made_between c.args.workers c.args.session.now c.attempt_line.new.session room same.0 g.W.Sink.output c.args.writer.now c.attempt_line.new.writer c.make_room.new.writer same.1 c.in-Ok.ensures.ok)
+    (Stands last) (g.W.Sink.output c.attempt_line-2.new.writer) (λ config store there. (told _ _ c.in-Ok-Done-attempt_line.field-0 Done c.in-Ok-Done-attempt_line.field-0-is (c.in-Ok-Done-attempt_line.ensures.ok config store there)).0) config store stands)
 
 pub returns-in-Ok-NurseryFull-attempt_line-clause-err : goal.returns-in-Ok-NurseryFull-attempt_line-clause-err
 returns-in-Ok-NurseryFull-attempt_line-clause-err g c =

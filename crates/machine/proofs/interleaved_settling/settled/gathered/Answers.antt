@@ -8,7 +8,7 @@ use Rattle.forwarding.specs.Plain.{place_of}
 use Rattle.forwarding.specs.Plain.{PlainValue as PlainCellsValue}
 use Rattle.pending_queues.specs.PlainValue.{outcomes_of}
 use Rattle.pending_queues.specs.PlainValue.{PlainValue as PlainQueuesValue}
-use Rattle.workers_in_turn.specs.InterleavedValue.{system_of}
+use Rattle.machine.specs.InterleavedValue.{system_of}
 use Rattle.settling.specs.Together.{AreDelivered}
 use Rattle.settling.specs.Telling.{all_deliveries}
 use Rattle.machine.proofs.Ended.{at_rest_in, brought_in, held_count, settles, scans_once, nothing_left}

@@ -1,5 +1,5 @@
 use Rattle.std.proofs.Common.{sym}
-use Rattle.workers_in_turn.specs.Events.{event_of}
+use Rattle.machine.specs.SystemEvents.{event_of}
 use Rattle.machine.proofs.OneByOne.{went_none, went_on, less_left}
 use Rattle.machine.proofs.machine.Machine.finish.Goals as goal
 

@@ -1,5 +1,5 @@
 use Rattle.std.proofs.Common.{subst}
-use Rattle.workers_in_turn.specs.Events.{event_of}
+use Rattle.machine.specs.SystemEvents.{event_of}
 use Rattle.machine.specs.MachineValue.{MachineValue}
 use Rattle.machine.specs.Events.{IsFullForEvent}
 use Rattle.machine.proofs.Going.{lasts, is_full}

@@ -1,7 +1,7 @@
 use Rattle.std.proofs.Common.{◌≡◌, subst}
 use Rattle.std.specs.Option.{option_map}
 use Rattle.workers.specs.Lawful.{next_lawful}
-use Rattle.workers_in_turn.specs.Events.{event_of}
+use Rattle.machine.specs.SystemEvents.{event_of}
 use Rattle.machine.specs.MachineValue.{MachineValue, HasReached, setting_in}
 use Rattle.machine.proofs.Going.{next_is_lawful, none_is_end}
 use Rattle.machine.proofs.machine.Machine.next_lawful.Given as given

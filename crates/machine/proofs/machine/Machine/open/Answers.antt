@@ -1,7 +1,7 @@
 use Rattle.std.proofs.Common.{◌≡◌, ◌<◌, ◌≤◌, inl, inr, refl, sym, ap, subst, ◌∙◌, ⊎_elim, arith}
 use Rattle.steps.specs.CollectionValue.{IsOpened}
 use Rattle.scavenge.specs.ReadyToCollect.{IsReadyToCollect}
-use Rattle.workers_in_turn.specs.InterleavedValue.{destinations_in, targets_in}
+use Rattle.machine.specs.InterleavedValue.{destinations_in, targets_in}
 use Rattle.workers.specs.System.{opening}
 use Rattle.machine.proofs.Going.{begins, opens}
 use Rattle.machine.proofs.machine.Machine.open.Given as given

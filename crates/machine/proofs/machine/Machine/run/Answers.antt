@@ -1,5 +1,5 @@
 use Rattle.std.proofs.Common.{Err, map, ap}
-use Rattle.workers_in_turn.specs.Events.{event_of}
+use Rattle.machine.specs.SystemEvents.{event_of}
 use Rattle.machine.proofs.OneByOne.{ran_none, ran_on, stopped_on, event_at}
 use Rattle.machine.proofs.machine.Machine.run.Goals as goal
 

@@ -1,5 +1,5 @@
 use Rattle.std.proofs.Common.{map, take}
-use Rattle.workers_in_turn.specs.Events.{event_of}
+use Rattle.machine.specs.SystemEvents.{event_of}
 use Rattle.machine.specs.Events.{Ran}
 use Rattle.machine.proofs.machine.Machine.run.Given as goal
 

@@ -1,7 +1,7 @@
 use Rattle.std.proofs.Common.{◌∙◌, refl, sym, rules}
 use Rattle.std.proofs.lemmas.Bool.{false≢true}
 use Rattle.workers.specs.Lawful.{IsLawful}
-use Rattle.workers_in_turn.specs.Events.{event_of}
+use Rattle.machine.specs.SystemEvents.{event_of}
 use Rattle.machine.specs.MachineValue.{setting_in}
 use Rattle.machine.proofs.machine.Machine.step.Goals as goal
 

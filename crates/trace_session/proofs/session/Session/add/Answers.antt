@@ -3,6 +3,7 @@ use Rattle.std.proofs.lemmas.Bool.{cases_Bool}
 use Rattle.std.proofs.str.Laws.{order}
 use Rattle.model.specs.Commands.{is_too_big}
 use Rattle.trace_session.specs.Refusals.{LacksBlocks}
+use Rattle.trace_session.specs.Does.{allocates}
 use Rattle.trace_session.proofs.SessionSteps.{name_in_use, root_known, root_unknown, steps_new, had_room, new_sound, large_full}
 use Rattle.trace_session.proofs.session.Session.add.Goals as goal
 
@@ -50,3 +51,8 @@ returns-in-Err-HeapFull-clause-err g c =
     let free = root_unknown c.get.result c.args.self.now.names c.args.name.now c.get.ensures (sym c.is_some.ensures ∙ c.if-is_some.false) in
     let lacks : LacksBlocks heap c.args.pointers c.args.plain = record { large = why.2; few = why.3 } in
     (refl, lacks, λ config store stands. large_full _ _ config store stands c.args.name.now c.args.mutator c.args.pointers c.args.plain free why.0 why.1 lacks)
+
+pub returns-in-Ok-insert-clause-own : goal.returns-in-Ok-insert-clause-own
+returns-in-Ok-insert-clause-own g c =
+    rw c.in-Ok-insert.ensures.ok
+    (allocates (root_unknown c.get.result c.args.self.now.names c.args.name.now c.get.ensures (sym c.is_some.ensures ∙ c.if-is_some.false)) c.in-Ok.ensures.ok)

@@ -1,6 +1,8 @@
-use Rattle.std.proofs.Common.{Err, refl, sym, ap, ◌∙◌}
+use Rattle.std.proofs.Common.{◌≡◌, Some, Err, refl, sym, ap, subst, ◌∙◌}
 use Rattle.std.specs.Option.{option_map}
 use Rattle.steps.specs.declared.heap_values.root_id.RootId.{RootId}
+use Rattle.heap.specs.Commands.{Loads}
+use Rattle.trace_session.specs.Does.{loads}
 use Rattle.trace_session.proofs.FieldSteps.{never_unrooted}
 use Rattle.trace_session.proofs.GetSteps.{get_in_use, get_no_field, get_nil, get_sound, loaded_sound, steps_get}
 use Rattle.trace_session.proofs.SessionSteps.{root_known, root_unknown}
@@ -44,3 +46,11 @@ pub returns-in-Err-clause-err : goal.returns-in-Err-clause-err
 returns-in-Err-clause-err g c =
     let free = root_unknown c.get.result c.args.self.now.names c.args.new_name.now c.get.ensures (sym c.is_some.ensures ∙ c.if-is_some.false) in
     (refl, λ config store stands. loaded_sound _ _ config store stands c.args.new_name.now c.args.name.now c.args.field free c.in-Some.holder.number (sym c.in-Some.ensures) _ (option_map (λ (r : RootId). r.number) c.in-Ok.loaded) c.in-Ok.ensures.ok c.in-Some-loaded.root.number (ap (option_map (λ (r : RootId). r.number)) c.in-Some-loaded.is))
+
+pub returns-in-Ok-insert-clause-own : goal.returns-in-Ok-insert-clause-own
+returns-in-Ok-insert-clause-own g c =
+    let free = root_unknown c.get.result c.args.self.now.names c.args.new_name.now c.get.ensures (sym c.is_some.ensures ∙ c.if-is_some.false) in
+    let is : option_map (λ (r : RootId). r.number) c.in-Ok.loaded ≡ Some c.in-Some-loaded.root.number = ap (option_map (λ (r : RootId). r.number)) c.in-Some-loaded.is in
+    let heap = c.args.self.now.heap in
+    let loaded = subst (λ r. Loads heap c.in-Some.holder.number c.args.field r c.load.new.self) is c.in-Ok.ensures.ok in
+    rw c.in-Ok-insert.ensures.ok (loads free (sym c.in-Some.ensures) loaded)

@@ -1,4 +1,5 @@
 use Rattle.std.proofs.Common.{Err, refl, sym, ap}
+use Rattle.trace_session.specs.Does.{writes}
 use Rattle.trace_session.proofs.FieldSteps.{never_unrooted, put_no_field, steps_put}
 use Rattle.trace_session.proofs.session.Session.put.Goals as goal
 
@@ -13,3 +14,6 @@ returns-in-Err-NoRoot-clause-err g c =
 pub returns-in-Err-BadField-clause-err : goal.returns-in-Err-BadField-clause-err
 returns-in-Err-BadField-clause-err g c =
     (refl, λ config store stands. put_no_field _ _ config store stands c.args.name.now c.in-Some.root.number (sym c.in-Some.ensures) c.args.field c.args.value (c.in-Err-BadField.ensures.bad_field.0 (ap (λ e. Err e) c.in-Err-BadField.field-0-is)).1)
+
+pub returns-in-Ok-clause-own : goal.returns-in-Ok-clause-own
+returns-in-Ok-clause-own g c = writes (sym c.in-Some.ensures) c.in-Ok.ensures.ok

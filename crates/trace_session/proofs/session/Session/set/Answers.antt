@@ -3,6 +3,7 @@ use Rattle.std.specs.Option.{option_map}
 use Rattle.std.proofs.lemmas.Bool.{true≢false}
 use Rattle.model.specs.Commands.{target_of}
 use Rattle.steps.specs.declared.heap_values.root_id.RootId.{RootId}
+use Rattle.trace_session.specs.Does.{stores}
 use Rattle.trace_session.proofs.FieldSteps.{never_unrooted, pointer_there, value_of, set_no_field, set_sound, steps_set, unknown_target}
 use Rattle.trace_session.proofs.session.Session.set.Goals as goal
 
@@ -50,3 +51,6 @@ returns-in-Err-NoMemory-clause-err g c = (
       (pointer_there _ _ config store stands c.args.name.now c.in-Some.holder.number (sym c.in-Some.ensures) c.args.field
       (λ missing. let other = c.in-Err-NoMemory.ensures.bad_field.1 missing in let is = c.in-Err-NoMemory.field-0-is in cc (other, is))),
 )
+
+pub returns-in-Ok-store-clause-own : goal.returns-in-Ok-store-clause-own
+returns-in-Ok-store-clause-own g c = stores (sym c.in-Some.ensures) c.in-Ok.ensures.ok c.in-Ok-store.ensures.ok

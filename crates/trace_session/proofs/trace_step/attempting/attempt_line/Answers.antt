@@ -3,7 +3,7 @@ use Rattle.model.specs.Commands.{command_of}
 use Rattle.trace_text.specs.Answer.{view}
 use Rattle.trace_text.specs.Grammar.{entry_of}
 use Rattle.trace_session.specs.Session.{Stands}
-use Rattle.trace_session.proofs.CommandLine.{line_fault, new_line, new_fault}
+use Rattle.trace_session.proofs.CommandLine.{command_does, nothing_does, new_does, line_fault, new_line, new_fault}
 use Rattle.trace_session.proofs.trace_step.attempting.attempt_line.Goals as goal
 
 pub returns-in-Ok-Command-New-clause-ok : goal.returns-in-Ok-Command-New-clause-ok
@@ -17,6 +17,7 @@ returns-in-Err-carry_out_command g c =
     let says = subst (λ l. entry_of c.args.line.now ≡ Ok (view l)) c.in-Ok-Command.field-0-is c.in-Ok-Command.ensures in
     record {
       ok = tt;
+      own = tt;
       full = λ is. absurd (cc);
       counts = tt;
       rises = c.in-Err-carry_out_command.ensures.rises;
@@ -30,3 +31,18 @@ returns-in-Ok-Command-New-clause-err g c =
     let line_says = subst (λ l. entry_of c.args.line.now ≡ Ok (view l)) c.in-Ok-Command-New.field-0-is c.in-Ok-Command-New.ensures in
     let says = subst (λ k. entry_of c.args.line.now ≡ Ok (Some (command_of k))) c.in-Ok-Command-New.field-0-0-is line_says in
     new_fault c.args.session.now (Stands c.args.session.now) c.args.number c.args.line.now _ _ _ _ says c.args.writer.now _ c.add.result c.add.ensures.err
+
+pub returns-in-Ok-Command-New-clause-own : goal.returns-in-Ok-Command-New-clause-own
+returns-in-Ok-Command-New-clause-own g c =
+    let line_says = subst (λ l. entry_of c.args.line.now ≡ Ok (view l)) c.in-Ok-Command-New.field-0-is c.in-Ok-Command-New.ensures in
+    let says = subst (λ k. entry_of c.args.line.now ≡ Ok (Some (command_of k))) c.in-Ok-Command-New.field-0-0-is line_says in
+    new_does c.args.session.now.heap c.args.session.now.names _ _ c.args.line.now _ says c.add.result c.add.ensures.own
+
+pub returns-in-Ok-Nothing-clause-own : goal.returns-in-Ok-Nothing-clause-own
+returns-in-Ok-Nothing-clause-own g c = λ plain.
+    nothing_does c.args.session.now.heap c.args.session.now.names c.args.line.now (subst (λ l. entry_of c.args.line.now ≡ Ok (view l)) c.in-Ok-Nothing.field-0-is c.in-Ok-Nothing.ensures)
+
+pub returns-in-Ok-clause-own : goal.returns-in-Ok-clause-own
+returns-in-Ok-clause-own g c =
+    let says = subst (λ l. entry_of c.args.line.now ≡ Ok (view l)) c.in-Ok-Command.field-0-is c.in-Ok-Command.ensures in
+    command_does c.args.session.now.heap c.args.session.now.names _ _ c.args.line.now (command_of c.in-Ok-Command.command) says c.in-Ok.ensures.own

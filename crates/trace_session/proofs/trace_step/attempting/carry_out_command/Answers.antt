@@ -1,7 +1,11 @@
-use Rattle.std.proofs.Common.{refl}
-use Rattle.model.specs.Commands.{Set, Put, Get, Drop, target_of}
+use Rattle.std.proofs.Common.{Result, Ok, Err, refl}
+use Rattle.std.specs.Prelude.{OnOk}
+use Rattle.std.proofs.lemmas.Result.{on_ok_weaker}
+use Rattle.model.specs.Commands.{Set, Put, Get, Drop, Census, Heap, target_of}
+use Rattle.trace_session.specs.Does.{counts, shows}
 use Rattle.trace_session.specs.Outcome.{command_step}
 use Rattle.trace_session.proofs.CommandFaults.{quiet_steps, quiet_faults, never_full}
+use Rattle.trace_session.proofs.CommandLine.{shows_unchanged}
 use Rattle.trace_session.proofs.NoMemory.{never_wanting}
 use Rattle.trace_session.proofs.trace_step.attempting.carry_out_command.Goals as goal
 
@@ -53,3 +57,28 @@ pub returns-in-Drop-clause-err : goal.returns-in-Drop-clause-err
 returns-in-Drop-clause-err g c =
     rw c.in-Drop.is
     (quiet_faults c.args.number c.args.writer.now c.args.writer.now refl _ (λ config store. command_step config store (Drop c.in-Drop.name.now)) _ _ c.remove.result (never_wanting c.remove.result _ _ _ _ c.remove.ensures.err))
+
+pub returns-in-Set-clause-own : goal.returns-in-Set-clause-own
+returns-in-Set-clause-own g c = rw c.in-Set.is (on_ok_weaker c.set.result (λ own plain. own) c.set.ensures.own)
+
+pub returns-in-Put-clause-own : goal.returns-in-Put-clause-own
+returns-in-Put-clause-own g c = rw c.in-Put.is (on_ok_weaker c.put.result (λ own plain. own) c.put.ensures.own)
+
+pub returns-in-Get-clause-own : goal.returns-in-Get-clause-own
+returns-in-Get-clause-own g c = rw c.in-Get.is (on_ok_weaker c.get.result (λ own plain. own) c.get.ensures.own)
+
+pub returns-in-Drop-clause-own : goal.returns-in-Drop-clause-own
+returns-in-Drop-clause-own g c = rw c.in-Drop.is (on_ok_weaker c.remove.result (λ own plain. own) c.remove.ensures.own)
+
+always : {T E P : Type 0} (r : Result T E) → P → OnOk r P
+always (Ok x) p = p
+always (Err e) p = tt
+
+pub returns-in-Census-clause-own : goal.returns-in-Census-clause-own
+returns-in-Census-clause-own g c = rw c.in-Census.is (always c.census.result (λ plain. shows_unchanged c.args.session.now _ Census c.census.ensures.kept counts))
+
+pub returns-in-Heap-clause-own : goal.returns-in-Heap-clause-own
+returns-in-Heap-clause-own g c = rw c.in-Heap.is (always c.show_heap.result (λ plain. shows_unchanged c.args.session.now _ Heap c.show_heap.ensures.kept shows))
+
+pub returns-in-Collect-clause-own : goal.returns-in-Collect-clause-own
+returns-in-Collect-clause-own g c = rw c.in-Collect.is (always c.collect.result (λ plain. absurd plain))

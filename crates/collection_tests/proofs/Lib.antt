@@ -1,0 +1,4 @@
+-- CollectionTests.
+
+-- What the proofs of these tests share.
+mod Unscanned

@@ -1,0 +1,178 @@
+//! Heaps with graphs that workers share, and what they hold.
+ghost use Rattle.std.specs.Prelude.{◌≡◌, is_some};
+ghost use Rattle.std.specs.List.{list_all};
+ghost use Rattle.model.specs.Graph.{root_at};
+
+use collector::collect_one;
+use heap::{Config, Heap, RootId, Sizes};
+use heap_text::{Counted, Name, write_census, write_heap};
+use std::alloc::{AllocError, Allocator, Global};
+use std::test::Fail;
+
+/// A heap of these sizes.
+pub(crate) fn heap_of<A: Allocator + Clone>(alloc: A, sizes: Sizes) -> Result<Heap<A>, Fail> {
+    let Ok(config) = Config::new(sizes) else {
+        return Err(Fail::from("bad sizes"));
+    };
+    Ok(Heap::new(alloc, config)?)
+}
+
+/// So many objects of three fields and a word, which has its number.
+fn add_objects<A: Allocator + Clone>(
+    alloc: A,
+    heap: &mut Heap<A>,
+    objects: u32,
+) -> Result<Vec<RootId, A>, Fail> {
+    let mut roots = Vec::new(alloc);
+    for number in 0..objects {
+        let root = heap.allocate(0, 3, 1)?;
+        heap.put(root, 0, number as u64)?;
+        roots.push(root)?;
+    }
+    Ok(roots)
+}
+
+/// Lets a field of one object lead to another, where both are there.
+fn link<A: Allocator + Clone>(
+    heap: &mut Heap<A>,
+    roots: &[RootId],
+    from: u32,
+    field: u64,
+    to: u32,
+) -> Result<(), Fail> {
+    if let (Some(object), Some(target)) = (roots.get(from as usize), roots.get(to as usize)) {
+        heap.store(*object, field, Some(*target))?;
+    }
+    Ok(())
+}
+
+/// Makes a tree of so many objects, whose nodes lead to others across it too.
+fn link_all<A: Allocator + Clone>(
+    heap: &mut Heap<A>,
+    roots: &[RootId],
+    objects: u32,
+) -> Result<(), Fail> {
+    for number in 1..objects {
+        let above = number.wrapping_sub(1);
+        link(heap, roots, above / 2, (above % 2) as u64, number)?;
+        let across = number.wrapping_mul(7) % objects;
+        link(heap, roots, number, 2, across)?;
+    }
+    Ok(())
+}
+
+/// Releases all of these roots but the first.
+fn keep_first<A: Allocator + Clone>(heap: &mut Heap<A>, roots: &[RootId]) -> Result<RootId, Fail> {
+    let Some((top, others)) = roots.split_first() else {
+        return Err(Fail::from("no objects"));
+    };
+    for other in others {
+        heap.release(*other)?;
+    }
+    Ok(*top)
+}
+
+/// A tree of so many objects, whose nodes lead to others across it too. Its root alone stays one of the heap.
+pub(crate) fn add_tree<A: Allocator + Clone>(
+    alloc: A,
+    heap: &mut Heap<A>,
+    objects: u32,
+) -> Result<RootId, Fail> {
+    let roots = add_objects(alloc, heap, objects)?;
+    link_all(heap, &roots, objects)?;
+    keep_first(heap, &roots)
+}
+
+/// The sizes of a heap of one generation with blocks of 64 words, `spare` of them beside a nursery for so many objects.
+fn sizes_for(objects: u32, spare: u64) -> Sizes {
+    let nursery = (objects as u64) / 12 + 1;
+    Sizes {
+        block_words: 64,
+        blocks: nursery.saturating_add(spare),
+        mutators: 1,
+        nursery_blocks: nursery,
+        generations: 1,
+        steps: 1,
+    }
+}
+
+/// A heap with such a tree, and its root.
+pub(crate) fn wide_heap(alloc: Global, objects: u32, spare: u64) -> Result<(Heap, RootId), Fail> {
+    let mut heap = heap_of(alloc, sizes_for(objects, spare))?;
+    let top = add_tree(alloc, &mut heap, objects)?;
+    Ok((heap, top))
+}
+
+/// Sizes with two generations.
+pub(crate) const TWO_GENERATIONS: Sizes = Sizes {
+    block_words: 64,
+    blocks: 60,
+    mutators: 1,
+    nursery_blocks: 6,
+    generations: 2,
+    steps: 1,
+};
+
+/// A young tree, below a large object to which an old one leads, and a dead object.
+fn add_young<A: Allocator + Clone>(alloc: A, heap: &mut Heap<A>, old: RootId) -> Result<(), Fail> {
+    let young = add_tree(alloc, heap, 40)?;
+    let large = heap.allocate(0, 1, 60)?;
+    heap.store(large, 0, Some(young))?;
+    heap.store(old, 2, Some(large))?;
+    let dead = heap.allocate(0, 0, 1)?;
+    for root in [young, large, dead] {
+        heap.release(root)?;
+    }
+    Ok(())
+}
+
+/// A tree that is moved to the older generation by a collection, and young objects. Gives the root of the tree.
+fn add_both<A: Allocator + Clone>(alloc: A, heap: &mut Heap<A>) -> Result<RootId, Fail> {
+    let old = add_tree(alloc.clone()?, heap, 20)?;
+    let _report = collect_one(alloc.clone()?, heap, 0)?;
+    add_young(alloc, heap, old)?;
+    Ok(old)
+}
+
+/// A heap with 20 old objects, one of which is remembered, 41 young ones that live and a dead one; and the one root.
+pub(crate) fn old_heap<A: Allocator + Clone>(alloc: A) -> Result<(Heap<A>, RootId), Fail> {
+    let mut heap = heap_of(alloc.clone()?, TWO_GENERATIONS)?;
+    let old = add_both(alloc, &mut heap)?;
+    Ok((heap, old))
+}
+
+/// Names for these roots, all of one text.
+fn named(alloc: Global, roots: &[RootId]) -> Result<Vec<Name<'static>>, AllocError> {
+    let mut names = Vec::new(alloc);
+    for root in roots {
+        names.push(Name {
+            text: b"root",
+            root: *root,
+        })?;
+    }
+    Ok(names)
+}
+
+/// Whether each name's root is one of the heap.
+fn are_rooted<A: Allocator + Clone>(heap: &Heap<A>, names: &[Name<'_>]) -> bool
+    ensures { result ≡ list_all (λ name. is_some (root_at heap.now.graph name.root.number)) names.now }
+{
+    names.iter().all(|name| heap.target(name.root).is_some())
+}
+
+/// The census, and the text of all that these roots lead to. `of_heap` is the heap's allocator.
+pub(crate) fn seen<A: Allocator + Clone>(
+    alloc: Global,
+    of_heap: A,
+    heap: &Heap<A>,
+    roots: &[RootId],
+) -> Result<Vec<u8>, Fail> {
+    let names = named(alloc, roots)?;
+    if !are_rooted(heap, &names) {
+        return Err(Fail::from("no such root"));
+    }
+    let mut writer = Counted::new(Vec::new(alloc));
+    write_census(alloc, &heap.census(), &mut writer)?;
+    write_heap(of_heap, heap, &names, &mut writer)?;
+    Ok(writer.inner)
+}

@@ -1,0 +1,17 @@
+//! Tests of collections by workers on threads of their own, by public calls.
+#[cfg(test)]
+mod apart;
+#[cfg(test)]
+mod drawn;
+#[cfg(test)]
+mod gates;
+#[cfg(test)]
+pub(crate) mod heaps;
+#[cfg(test)]
+mod in_a_row;
+#[cfg(test)]
+mod runs;
+#[cfg(test)]
+mod sharing;
+#[cfg(test)]
+mod texts;

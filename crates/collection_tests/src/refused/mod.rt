@@ -1,0 +1,11 @@
+//! Every way to collect and every command that grows a heap, where each request for memory, or each block, is refused in turn.
+#[cfg(test)]
+mod blocks;
+#[cfg(test)]
+mod commands;
+#[cfg(test)]
+mod memory;
+#[cfg(test)]
+mod shared_tree;
+#[cfg(test)]
+mod ways;

@@ -1,3 +1,0 @@
--- What the proofs of these tests share.
-
-mod Unscanned

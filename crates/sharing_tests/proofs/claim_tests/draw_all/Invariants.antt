@@ -1,5 +1,0 @@
-use Rattle.block_pool.specs.ClaimsValue.{IsSeatOf}
-use Rattle.sharing_tests.proofs.claim_tests.draw_all.Given as goal
-
-abbrev pub invariant-loop : goal.invariant-loop
-invariant-loop l = IsSeatOf l.claims.source l.seat

@@ -1,5 +1,0 @@
-use Rattle.pending_queues.specs.PendingValue.{IsSeatOf}
-use Rattle.sharing_tests.proofs.queue_tests.thread_tests.export_all.Given as goal
-
-abbrev pub invariant-loop : goal.invariant-loop
-invariant-loop g l = IsSeatOf l.fn.pending l.seat

@@ -1,7 +1,0 @@
-use Rattle.std.proofs.Common.{◌≡◌, ℕ, ◌<◌, true, Some}
-use Rattle.std.specs.Prelude.{slice_get}
-use Rattle.workers_in_turn.specs.InterleavedValue.{system_of}
-use Rattle.workers_in_turn.proofs.interleaved.InterleavedCollection.lowest_awake.Given as goal
-
-abbrev pub invariant-loop-t : goal.invariant-loop-t
-invariant-loop-t g l = record { set : (e : ℕ) → e < l.t → slice_get (system_of l.self).idle e ≡ Some true }
