@@ -1,6 +1,5 @@
 //! Events by number, and each list of at most three of them.
-use crate::in_turn::graphs::heap_of;
-use crate::in_turn::together::census_of;
+use crate::heaps::{heap_of, seen};
 use heap::{Heap, Sizes};
 use machine::{Event, Machine, StepError};
 use std::alloc::Global;
@@ -123,11 +122,11 @@ fn ends_so(alloc: Global, heap: &Heap, events: &[Event]) -> Result<bool, Fail> {
 
 /// The first list of so many events, at most three, that ends otherwise, or after which the census is another.
 fn first_other(alloc: Global, heap: &Heap, len: usize) -> Result<Option<usize>, Fail> {
-    let before = census_of(alloc, heap)?;
+    let before = seen(alloc, alloc, heap, &[])?;
     for number in 0..1000 {
         let events = three_events(number);
         let (events, _rest) = events.split_at(len.min(3));
-        if !ends_so(alloc, heap, events)? || census_of(alloc, heap)? != before {
+        if !ends_so(alloc, heap, events)? || seen(alloc, alloc, heap, &[])? != before {
             return Ok(Some(number));
         }
     }
@@ -135,7 +134,7 @@ fn first_other(alloc: Global, heap: &Heap, len: usize) -> Result<Option<usize>, 
 }
 
 #[test]
-fn each_list_of_three_events(rt: HostRuntime) -> Result<(), Fail> {
+fn each_list_of_at_most_three_events(rt: HostRuntime) -> Result<(), Fail> {
     let heap = heap_of_one(rt.alloc())?;
     for len in 0..=3 {
         assert!(&rt; first_other(rt.alloc(), &heap, len)?.is_none());

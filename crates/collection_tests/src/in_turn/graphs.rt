@@ -1,29 +1,10 @@
-//! Heaps with a graph that a seed draws.
+//! Heaps with a graph that a seed draws, which has aged.
+use crate::drawing::{Draws, Graph, Growth, grow};
+use crate::heaps::heap_of;
 use collector::collect_one;
-use heap::{AllocateError, Config, Heap, RootId, Sizes};
-use rand_core::utils::NextWord;
-use rand_pcg::Pcg32;
+use heap::{AllocateError, Heap, Sizes};
 use std::alloc::Global;
 use std::test::Fail;
-
-/// Numbers that a seed draws, one after another.
-#[derive(Drop)]
-pub(crate) struct Draws {
-    words: Pcg32,
-}
-
-impl Draws {
-    pub(crate) fn new(seed: u64) -> Self {
-        Draws {
-            words: Pcg32::new(seed, 54),
-        }
-    }
-
-    /// The next number below `bound`, or 0 where that is 0.
-    pub(crate) fn below(&mut self, bound: u32) -> u32 {
-        self.words.next_word().checked_rem(bound).unwrap_or(0)
-    }
-}
 
 /// Which graph is drawn, and the heap for it.
 #[derive(Clone, Copy)]
@@ -37,20 +18,11 @@ pub(crate) struct Drawing {
     pub(crate) taken: u32,
 }
 
-/// A heap, the roots that lead into its graph, and which generation is the oldest to collect.
+/// A graph, and which generation is the oldest to collect.
 #[derive(Drop)]
-pub(crate) struct Graph {
-    pub(crate) heap: Heap,
-    pub(crate) roots: Vec<RootId>,
+pub(crate) struct Drawn {
+    pub(crate) graph: Graph,
     pub(crate) generation: u64,
-}
-
-/// A heap of these sizes.
-pub(crate) fn heap_of(alloc: Global, sizes: Sizes) -> Result<Heap, Fail> {
-    let Ok(config) = Config::new(sizes) else {
-        return Err(Fail::from("bad sizes"));
-    };
-    Ok(Heap::new(alloc, config)?)
 }
 
 /// The sizes of a heap of one to three generations, with a nursery of 8 blocks of 64 words.
@@ -65,79 +37,20 @@ fn drawn_sizes(generations: u32, steps: u32, blocks: u64) -> Sizes {
     }
 }
 
-/// How many plain words an object has: one in eight is large.
-fn plain_words(draws: &mut Draws) -> u32 {
-    if draws.below(8) == 0 {
-        return draws.below(100).saturating_add(20);
+/// So many objects of one mutator, of which few keep their roots.
+fn growth_of(count: u32) -> Growth {
+    Growth {
+        count,
+        mutators: 1,
+        one_in: 6,
     }
-    draws.below(4).saturating_add(1)
-}
-
-/// A new object of three pointers and some words, the first of which marks it.
-fn add_object(heap: &mut Heap, draws: &mut Draws) -> Result<RootId, Fail> {
-    let plain = plain_words(draws);
-    let root = heap.allocate(0, 3, plain as u64)?;
-    heap.put(root, 0, draws.below(1000) as u64)?;
-    Ok(root)
-}
-
-fn add_objects(graph: &mut Graph, draws: &mut Draws, count: u32) -> Result<(), Fail> {
-    for _object in 0..count {
-        let root = add_object(&mut graph.heap, draws)?;
-        graph.roots.push(root)?;
-    }
-    Ok(())
-}
-
-/// Lets fields of an object lead to some of these objects, itself among them.
-fn link(
-    heap: &mut Heap,
-    draws: &mut Draws,
-    object: RootId,
-    objects: &[RootId],
-) -> Result<(), Fail> {
-    for field in 0..3 {
-        let target = draws.below(u32::try_from(objects.len()).unwrap_or(0));
-        if draws.below(4) > 0 {
-            heap.store(object, field, objects.get(target as usize).copied())?;
-        }
-    }
-    Ok(())
-}
-
-fn link_all(heap: &mut Heap, draws: &mut Draws, objects: &[RootId]) -> Result<(), Fail> {
-    for object in objects {
-        link(heap, draws, *object, objects)?;
-    }
-    Ok(())
-}
-
-/// Releases all but some of the roots, the first among those that stay.
-fn release_most(alloc: Global, graph: &mut Graph, draws: &mut Draws) -> Result<(), Fail> {
-    let mut roots = Vec::new(alloc);
-    for object in graph.roots.iter() {
-        if roots.is_empty() || draws.below(6) == 0 {
-            roots.push(*object)?;
-        } else {
-            graph.heap.release(*object)?;
-        }
-    }
-    graph.roots = roots;
-    Ok(())
-}
-
-/// So many new objects, linked with those that have roots, of which most lose theirs then.
-fn grow(alloc: Global, graph: &mut Graph, draws: &mut Draws, count: u32) -> Result<(), Fail> {
-    add_objects(graph, draws, count)?;
-    link_all(&mut graph.heap, draws, &graph.roots)?;
-    release_most(alloc, graph, draws)
 }
 
 /// Up to three times objects are made, and some generations collected.
 fn age(alloc: Global, graph: &mut Graph, draws: &mut Draws, generations: u32) -> Result<(), Fail> {
     for _time in 0..draws.below(4) {
-        let count = draws.below(20);
-        grow(alloc, graph, draws, count)?;
+        let growth = growth_of(draws.below(20));
+        grow(alloc, graph, draws, growth)?;
         let _report = collect_one(alloc, &mut graph.heap, draws.below(generations) as u64)?;
     }
     Ok(())
@@ -152,26 +65,26 @@ fn take_blocks(heap: &mut Heap, count: u32) -> Result<(), Fail> {
 }
 
 /// The graph of that seed, with cycles and shared objects in it, large ones and old ones.
-pub(crate) fn drawn_graph(alloc: Global, drawing: Drawing) -> Result<Graph, Fail> {
+pub(crate) fn drawn_graph(alloc: Global, drawing: Drawing) -> Result<Drawn, Fail> {
     let mut draws = Draws::new(drawing.seed);
     let generations = draws.below(3).saturating_add(1);
     let steps = draws.below(2).saturating_add(1);
     let mut graph = Graph {
         heap: heap_of(alloc, drawn_sizes(generations, steps, drawing.blocks))?,
         roots: Vec::new(alloc),
-        generation: draws.below(generations) as u64,
     };
+    let generation = draws.below(generations) as u64;
     age(alloc, &mut graph, &mut draws, generations)?;
-    grow(alloc, &mut graph, &mut draws, drawing.count)?;
+    grow(alloc, &mut graph, &mut draws, growth_of(drawing.count))?;
     take_blocks(&mut graph.heap, drawing.taken)?;
-    Ok(graph)
+    Ok(Drawn { graph, generation })
 }
 
 /// How many blocks are free beside such a graph.
 pub(crate) fn free_beside(alloc: Global, drawing: Drawing) -> Result<u32, Fail> {
-    let mut graph = drawn_graph(alloc, drawing)?;
+    let mut drawn = drawn_graph(alloc, drawing)?;
     for count in 0..100_000 {
-        match graph.heap.allocate(0, 0, 60) {
+        match drawn.graph.heap.allocate(0, 0, 60) {
             Ok(_) => {}
             Err(AllocateError::HeapFull) => return Ok(count),
             Err(error) => return Err(Fail::from(error)),

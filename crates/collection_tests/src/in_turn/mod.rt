@@ -7,6 +7,4 @@ mod scavenge_tests;
 #[cfg(test)]
 mod schedules;
 #[cfg(test)]
-mod texts;
-#[cfg(test)]
 mod together;

@@ -8,8 +8,8 @@
 //! -- ends
 //! where they end, and whether something comes next
 //! ```
+use crate::heaps::heap_of;
 use crate::in_turn::events::event_of;
-use crate::in_turn::graphs::heap_of;
 use heap::{Heap, RootId, Sizes};
 use machine::{Event, Machine, StepError};
 use std::alloc::Global;

@@ -1,11 +1,11 @@
 //! Collections by several workers leave what a collection by one leaves.
 ghost use Rattle.std.specs.Prelude.{◌≡◌};
 
+use crate::drawing::Draws;
+use crate::heaps::seen;
 use crate::in_turn::events::{EVENTS, event_at};
-use crate::in_turn::graphs::{Drawing, Draws, Graph, drawn_graph, free_beside};
+use crate::in_turn::graphs::{Drawing, Drawn, drawn_graph, free_beside};
 use collector::collect_one;
-use heap::{Heap, RootId};
-use heap_text::{Counted, Name, write_census, write_heap};
 use machine::{Event, Machine, StepError};
 use std::alloc::Global;
 use std::process::Abort;
@@ -121,12 +121,12 @@ fn drive(machine: &mut Machine<'_>, n: u32, schedule: Schedule) -> Result<(), St
 /// Collects with so many workers, and tells how many objects were kept and freed, unless blocks ran out.
 fn collected(
     alloc: Global,
-    graph: &mut Graph,
+    drawn: &mut Drawn,
     n: u32,
     schedule: Schedule,
 ) -> Result<Option<(u64, u64)>, Fail> {
-    let heap = &mut graph.heap;
-    let mut machine = Machine::open(alloc, heap, graph.generation, n)?;
+    let heap = &mut drawn.graph.heap;
+    let mut machine = Machine::open(alloc, heap, drawn.generation, n)?;
     match drive(&mut machine, n, schedule) {
         Ok(()) => {}
         Err(StepError::HeapFull) => return Ok(None),
@@ -137,31 +137,9 @@ fn collected(
     Ok(Some((report.kept, report.freed)))
 }
 
-/// The text of all that a root leads to.
-fn text_of(alloc: Global, heap: &Heap, root: RootId) -> Result<Vec<u8>, Fail> {
-    if heap.target(root).is_none() {
-        return Err(Fail::from("no such root"));
-    }
-    let mut writer = Counted::new(Vec::new(alloc));
-    write_heap(alloc, heap, &[Name { text: b"top", root }], &mut writer)?;
-    Ok(writer.inner)
-}
-
-/// The lines of the census.
-pub(crate) fn census_of(alloc: Global, heap: &Heap) -> Result<Vec<u8>, Fail> {
-    let mut writer = Counted::new(Vec::new(alloc));
-    write_census(alloc, &heap.census(), &mut writer)?;
-    Ok(writer.inner)
-}
-
-/// The census, and the text of all that each root leads to.
-fn seen(alloc: Global, graph: &Graph) -> Result<Vec<u8>, Fail> {
-    let mut all = census_of(alloc, &graph.heap)?;
-    for root in graph.roots.iter() {
-        let mut text = text_of(alloc, &graph.heap, *root)?;
-        all.append(&mut text)?;
-    }
-    Ok(all)
+/// The census, and the text of all that the roots lead to.
+fn text_of(alloc: Global, drawn: &Drawn) -> Result<Vec<u8>, Fail> {
+    seen(alloc, alloc, &drawn.graph.heap, &drawn.graph.roots)
 }
 
 /// How many objects a collection kept and freed, unless blocks ran out, and what it left.
@@ -173,21 +151,21 @@ struct Left {
 
 /// What one worker leaves of such a graph.
 fn left_by_one(alloc: Global, drawing: Drawing) -> Result<Left, Fail> {
-    let mut graph = drawn_graph(alloc, drawing)?;
-    let report = collect_one(alloc, &mut graph.heap, graph.generation)?;
+    let mut drawn = drawn_graph(alloc, drawing)?;
+    let report = collect_one(alloc, &mut drawn.graph.heap, drawn.generation)?;
     Ok(Left {
         counts: Some((report.kept, report.freed)),
-        text: seen(alloc, &graph)?,
+        text: text_of(alloc, &drawn)?,
     })
 }
 
 /// What so many workers leave of it.
 fn left_by_many(alloc: Global, drawing: Drawing, n: u32, schedule: Schedule) -> Result<Left, Fail> {
-    let mut graph = drawn_graph(alloc, drawing)?;
-    let counts = collected(alloc, &mut graph, n, schedule)?;
+    let mut drawn = drawn_graph(alloc, drawing)?;
+    let counts = collected(alloc, &mut drawn, n, schedule)?;
     Ok(Left {
         counts,
-        text: seen(alloc, &graph)?,
+        text: text_of(alloc, &drawn)?,
     })
 }
 
@@ -253,8 +231,8 @@ fn agrees_as_drawn(alloc: Global, seed: u64, ends: &mut Ends) -> Result<bool, Fa
         return Ok(many == left_by_one(alloc, more)?);
     }
     ends.refused = ends.refused.saturating_add(1);
-    let graph = drawn_graph(alloc, few)?;
-    Ok(many.text == seen(alloc, &graph)?)
+    let drawn = drawn_graph(alloc, few)?;
+    Ok(many.text == text_of(alloc, &drawn)?)
 }
 
 #[test]

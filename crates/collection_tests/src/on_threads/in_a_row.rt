@@ -1,5 +1,6 @@
 //! Collections by threads of heaps that a seed draws, one after another: few of old heaps, and thousands by sixteen threads.
-use crate::on_threads::drawn::{Drawing, Told, Workers, told_of};
+use crate::on_threads::drawn::{Drawing, Told, told_of};
+use crate::ways::Way;
 use collector::CellKind;
 use std::alloc::AllocGlobal;
 use std::process::Abort;
@@ -29,8 +30,8 @@ fn sixteen_agree<R: Threads + Wait + Sync + AllocGlobal>(
     kind: CellKind,
 ) -> Result<bool, Fail> {
     let drawing = small_drawing(seed);
-    let one = told_of(rt, drawing, Workers::One)?;
-    let sixteen = told_of(rt, drawing, Workers::Threads(16, kind))?;
+    let one = told_of(rt, drawing, Way::Alone)?;
+    let sixteen = told_of(rt, drawing, Way::OnThreads(16, kind))?;
     Ok(sixteen == one)
 }
 
@@ -57,9 +58,9 @@ fn assert_agree<R: Threads + Wait + Sync + AllocGlobal + Abort>(
     n: u32,
     one: &Told,
 ) -> Result<(), Fail> {
-    let words = told_of(rt, drawing, Workers::Threads(n, CellKind::Word))?;
+    let words = told_of(rt, drawing, Way::OnThreads(n, CellKind::Word))?;
     assert!(rt; words == *one, "{n} over words, seed {}", drawing.seed);
-    let boxes = told_of(rt, drawing, Workers::Threads(n, CellKind::Box))?;
+    let boxes = told_of(rt, drawing, Way::OnThreads(n, CellKind::Box))?;
     assert!(rt; boxes == *one, "{n} over boxes, seed {}", drawing.seed);
     Ok(())
 }
@@ -69,7 +70,7 @@ fn assert_old_agree<R: Threads + Wait + Sync + AllocGlobal + Abort>(
     rt: &R,
     drawing: Drawing,
 ) -> Result<(), Fail> {
-    let one = told_of(rt, drawing, Workers::One)?;
+    let one = told_of(rt, drawing, Way::Alone)?;
     assert!(rt; one.has_remembered(), "seed {}", drawing.seed);
     for n in [1, 2, 4] {
         assert_agree(rt, drawing, n, &one)?;

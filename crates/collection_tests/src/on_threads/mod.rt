@@ -6,12 +6,8 @@ mod drawn;
 #[cfg(test)]
 mod gates;
 #[cfg(test)]
-pub(crate) mod heaps;
-#[cfg(test)]
 mod in_a_row;
 #[cfg(test)]
 mod runs;
 #[cfg(test)]
 mod sharing;
-#[cfg(test)]
-mod texts;

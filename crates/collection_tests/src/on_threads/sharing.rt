@@ -1,6 +1,6 @@
 //! Workers overlap, and share blocks: gates hold some of them until others have come.
+use crate::heaps::{heap_of, seen};
 use crate::on_threads::gates::{Handover, Meeting};
-use crate::on_threads::heaps::{heap_of, seen};
 use collector::{CellKind, collect, collect_one};
 use heap::{Heap, Report, RootId, Sizes};
 use std::alloc::{AllocGlobal, Global};

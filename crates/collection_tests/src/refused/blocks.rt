@@ -1,7 +1,9 @@
 //! Collections with each number of free blocks, from none to as many as suffice in any order.
-use crate::on_threads::heaps::seen;
+ghost use Rattle.std.specs.Prelude.{◌≤◌};
+
 use crate::refused::shared_tree::{live_of, shared_tree};
-use crate::refused::ways::{Answer, WAYS, Way, collected};
+use crate::refused::trials::WAYS;
+use crate::ways::{Answer, Ended, Way, end_of};
 use heap::{Heap, RootId};
 use scavenge::space_bound;
 use std::alloc::{AllocGlobal, Global};
@@ -12,6 +14,16 @@ use std::thread::Threads;
 
 /// Blocks for the heap and for its collections.
 const BLOCKS: u64 = 120;
+
+/// How many workers each way has that is tried.
+fn workers_of(way: Way) -> u32
+    ensures { result ≤ 2 }
+{
+    match way {
+        Way::Alone => 1,
+        Way::InTurn | Way::OnThreads(..) => 2,
+    }
+}
 
 /// How many blocks are free beside the heap.
 fn free_beside(alloc: Global) -> Result<u64, Fail> {
@@ -29,56 +41,16 @@ fn tree_beside(alloc: Global, blocks: u64, taken: u64) -> Result<(Heap, RootId),
     Ok((heap, top))
 }
 
-/// Which collection has so few blocks: all but so many are taken.
-#[derive(Clone, Copy)]
-struct Trial {
-    way: Way,
-    generation: u64,
-    taken: u64,
-}
-
-/// What a heap is before a collection and after it, and what that answers.
-#[derive(Drop)]
-struct Ended {
-    before: Vec<u8>,
-    answer: Answer,
-    after: Vec<u8>,
-}
-
-fn ended_in<R: Threads + Wait + Sync + AllocGlobal>(
-    rt: &R,
-    heap: &mut Heap,
-    top: RootId,
-    generation: u64,
-    way: Way,
-) -> Result<Ended, Fail> {
-    let before = seen(rt.alloc(), rt.alloc(), heap, &[top])?;
-    let answer = collected(rt, rt.alloc(), heap, generation, way)?;
-    let after = seen(rt.alloc(), rt.alloc(), heap, &[top])?;
-    Ok(Ended {
-        before,
-        answer,
-        after,
-    })
-}
-
-/// The same, of a heap of its own with so many blocks.
-fn end_of<R: Threads + Wait + Sync + AllocGlobal>(
+/// What comes of a collection of a heap of so many blocks, so many of which are taken.
+fn end_beside<R: Threads + Wait + Sync + AllocGlobal>(
     rt: &R,
     blocks: u64,
-    trial: Trial,
+    taken: u64,
+    generation: u64,
+    way: Way,
 ) -> Result<Ended, Fail> {
-    let (mut heap, top) = tree_beside(rt.alloc(), blocks, trial.taken)?;
-    ended_in(rt, &mut heap, top, trial.generation, trial.way)
-}
-
-/// What one worker makes of the heap where blocks are ample.
-fn wanted<R: Threads + Wait + Sync + AllocGlobal>(rt: &R, trial: Trial) -> Result<Ended, Fail> {
-    let alone = Trial {
-        way: Way::Alone,
-        ..trial
-    };
-    end_of(rt, BLOCKS * 2, alone)
+    let (mut heap, top) = tree_beside(rt.alloc(), blocks, taken)?;
+    end_of(rt, &mut heap, top, generation, way)
 }
 
 /// Whether a collection is carried out, or the heap is full and as before. It is full at most below the bound.
@@ -89,15 +61,16 @@ fn is_as_wanted(ended: &Ended, wanted: &Ended, suffices: bool) -> bool {
     }
 }
 
-/// Tries one number of free blocks. Says whether they were enough.
-fn assert_with_free<R: Threads + Wait + Sync + AllocGlobal + Abort>(
+/// Tries one number of free blocks, beside what one worker makes of the heap where blocks are ample. Says whether they were enough.
+fn assert_with_taken<R: Threads + Wait + Sync + AllocGlobal + Abort>(
     rt: &R,
-    trial: Trial,
+    taken: u64,
+    generation: u64,
+    way: Way,
     suffices: bool,
 ) -> Result<bool, Fail> {
-    let ended = end_of(rt, BLOCKS, trial)?;
-    let wanted = wanted(rt, trial)?;
-    let (way, taken) = (trial.way, trial.taken);
+    let ended = end_beside(rt, BLOCKS, taken, generation, way)?;
+    let wanted = end_beside(rt, BLOCKS * 2, taken, generation, Way::Alone)?;
     assert!(rt;
         is_as_wanted(&ended, &wanted, suffices),
         "{way:?}, {taken} blocks taken"
@@ -112,17 +85,12 @@ fn assert_with_each<R: Threads + Wait + Sync + AllocGlobal + Abort>(
     way: Way,
 ) -> Result<(), Fail> {
     let (live, words) = live_of(generation);
-    let bound = space_bound(words, 64, way.workers(), 1);
+    let bound = space_bound(words, 64, workers_of(way), 1);
     let all = free_beside(rt.alloc())?;
     for free in 0..=bound {
-        let trial = Trial {
-            way,
-            generation,
-            taken: all.saturating_sub(free),
-        };
-        let is_enough = assert_with_free(rt, trial, free == bound)?;
+        let taken = all.saturating_sub(free);
+        let is_enough = assert_with_taken(rt, taken, generation, way, free == bound)?;
         // 12 of the small objects fill a block.
-        assert!(rt; is_enough || free < bound);
         assert!(rt; !is_enough || free >= live / 12);
     }
     Ok(())

@@ -1,5 +1,6 @@
 //! The making of a heap, and commands that grow one, of which each request for memory is refused in turn.
-use crate::on_threads::heaps::{TWO_GENERATIONS, heap_of, seen};
+use crate::heaps::{heap_of, seen};
+use crate::refused::trials::{MANY, outstanding};
 use collector::collect_one;
 use heap::{AllocateError, Config, Heap, LoadError, MakeError, RootId, Sizes, StoreError};
 use refusing::Refusing;
@@ -10,8 +11,15 @@ use std::test::Fail;
 /// How often a command is carried out. A list that has grown for the first of them must grow again for some other.
 const TIMES: usize = 40;
 
-/// More requests than all of them make.
-const MANY: u64 = 100_000;
+/// Two generations, with blocks for so many large objects.
+const SIZES: Sizes = Sizes {
+    block_words: 64,
+    blocks: 100,
+    mutators: 1,
+    nursery_blocks: 6,
+    generations: 2,
+    steps: 1,
+};
 
 /// A command that is carried out many times.
 #[derive(Clone, Copy, Debug)]
@@ -42,13 +50,9 @@ fn add_old<A: Allocator + Clone>(alloc: A, heap: &mut Heap<A>) -> Result<Vec<Roo
     Ok(old)
 }
 
-/// Such a heap, with as many old objects as a command is carried out, and with blocks for so many large ones.
+/// Such a heap, with as many old objects as a command is carried out.
 fn aged_heap<A: Allocator + Clone>(alloc: A) -> Result<Aged<A>, Fail> {
-    let sizes = Sizes {
-        blocks: 100,
-        ..TWO_GENERATIONS
-    };
-    let mut heap = heap_of(alloc.clone()?, sizes)?;
+    let mut heap = heap_of(alloc.clone()?, SIZES)?;
     let old = add_old(alloc.clone()?, &mut heap)?;
     let _report = collect_one(alloc, &mut heap, 0)?;
     let young = heap.allocate(0, 1, 1)?;
@@ -100,7 +104,7 @@ fn is_carried_out<A: Allocator + Clone>(
     }
 }
 
-/// Carries a command out with these old objects in turn, and tells how many those are with whom it was, before memory was wanting.
+/// Carries a command out with these old objects in turn, and tells with how many it went well before memory was wanting.
 fn carried_out<A: Allocator + Clone>(
     heap: &mut Heap<A>,
     old: &[RootId],
@@ -192,12 +196,12 @@ fn refuse_each(rt: &impl Abort, alloc: Global, command: Command) -> Result<(), F
     for refused in first..MANY {
         let refusing = Refusing::new(alloc, refused);
         let times = times_with(rt, alloc, &refusing, command)?;
-        let kept_back = refusing.asked().saturating_sub(refusing.returned());
         if times == TIMES {
             assert!(rt; refused > first, "{command:?}");
+            assert_eq!(rt; outstanding(&refusing), 0);
             return Ok(());
         }
-        assert_eq!(rt; kept_back, 1);
+        assert_eq!(rt; outstanding(&refusing), 1);
     }
     Err(Fail::from("each was refused"))
 }
@@ -217,7 +221,7 @@ fn each_request_of_each_command(rt: HostRuntime) -> Result<(), Fail> {
 
 /// Why a heap with such blocks isn't made where one request is refused.
 fn refusal_of_making(refusing: &Refusing<Global>) -> Result<Option<MakeError>, Fail> {
-    let Ok(config) = Config::new(TWO_GENERATIONS) else {
+    let Ok(config) = Config::new(SIZES) else {
         return Err(Fail::from("bad sizes"));
     };
     Ok(Heap::new(refusing, config).err())
@@ -228,7 +232,7 @@ fn each_request_of_the_making_of_a_heap(rt: HostRuntime) -> Result<(), Fail> {
     for refused in 0..MANY {
         let refusing = Refusing::new(rt.alloc(), refused);
         let refusal = refusal_of_making(&refusing)?;
-        let kept_back = refusing.asked().saturating_sub(refusing.returned());
+        let kept_back = outstanding(&refusing);
         if refusal.is_none() {
             // At least one for each block of the nursery.
             assert!(rt; refused >= 6);

@@ -1,8 +1,8 @@
 //! Collections of which each request for memory is refused in turn.
-use crate::on_threads::heaps::seen;
+use crate::heaps::seen;
 use crate::refused::shared_tree::shared_tree;
-use crate::refused::ways::{Answer, WAYS, Way, collected};
-use collector::collect_one;
+use crate::refused::trials::{MANY, WAYS, outstanding};
+use crate::ways::{Answer, Ended, Way, collected, end_of};
 use heap::{Heap, RootId};
 use refusing::Refusing;
 use std::alloc::{AllocGlobal, Global};
@@ -14,32 +14,13 @@ use std::thread::Threads;
 /// Blocks for the heap and for its collections.
 const BLOCKS: u64 = 120;
 
-/// More requests than a heap and its collection make.
-const MANY: u64 = 100_000;
-
-/// What a heap is before a collection and after it, and what that answers.
-#[derive(Drop)]
-struct Wanted {
-    before: Vec<u8>,
-    answer: Answer,
-    after: Vec<u8>,
-}
-
-fn wanted_of(alloc: Global, heap: &mut Heap, top: RootId, generation: u64) -> Result<Wanted, Fail> {
-    let before = seen(alloc, alloc, heap, &[top])?;
-    let report = collect_one(alloc, heap, generation)?;
-    let after = seen(alloc, alloc, heap, &[top])?;
-    Ok(Wanted {
-        before,
-        answer: Answer::Counts(report.kept, report.freed),
-        after,
-    })
-}
-
 /// What one worker makes of the heap where nothing is refused.
-fn wanted_unrefused(alloc: Global, generation: u64) -> Result<Wanted, Fail> {
-    let (mut heap, top) = shared_tree(alloc, BLOCKS)?;
-    wanted_of(alloc, &mut heap, top, generation)
+fn end_unrefused<R: Threads + Wait + Sync + AllocGlobal>(
+    rt: &R,
+    generation: u64,
+) -> Result<Ended, Fail> {
+    let (mut heap, top) = shared_tree(rt.alloc(), BLOCKS)?;
+    end_of(rt, &mut heap, top, generation, Way::Alone)
 }
 
 /// Makes the heap, and drops it.
@@ -63,9 +44,9 @@ struct Trial {
     way: Way,
 }
 
-/// What comes of a collection.
+/// What comes of a collection where one request may be refused.
 #[derive(Clone, Copy)]
-struct Ended {
+struct Tried {
     answer: Answer,
     /// Whether it came to the request that is refused.
     was_refused: bool,
@@ -73,23 +54,18 @@ struct Ended {
     kept_back: u64,
 }
 
-/// How many requests are not returned.
-fn outstanding(refusing: &Refusing<Global>) -> u64 {
-    refusing.asked().saturating_sub(refusing.returned())
-}
-
 /// Collects where one request may be refused. What the heap keeps for its next collection isn't lost, and isn't counted.
-fn end_of<'a, R: Threads + Wait + Sync + AllocGlobal>(
+fn collected_once<'a, R: Threads + Wait + Sync + AllocGlobal>(
     rt: &R,
     refusing: &'a Refusing<Global>,
     heap: &mut Heap<&'a Refusing<Global>>,
     trial: Trial,
-) -> Result<Ended, Fail> {
+) -> Result<Tried, Fail> {
     drop(heap.take_spare());
     let before = outstanding(refusing);
     let answer = collected(rt, refusing, heap, trial.generation, trial.way)?;
     drop(heap.take_spare());
-    Ok(Ended {
+    Ok(Tried {
         answer,
         was_refused: refusing.asked() > trial.refused,
         kept_back: outstanding(refusing).saturating_sub(before),
@@ -106,10 +82,10 @@ fn spend(refusing: &Refusing<Global>, refused: u64) {
 
 /// Whether a collection that ran out of memory leaves the heap as before, and another is carried out. One by threads can be carried out
 /// though a request was refused: a worker who finds no memory for a race may race once more.
-fn is_as_wanted(ended: Ended, text: &[u8], wanted: &Wanted) -> bool {
-    match ended.answer {
+fn is_as_wanted(tried: Tried, text: &[u8], wanted: &Ended) -> bool {
+    match tried.answer {
         Answer::NoMemory => {
-            ended.was_refused && ended.kept_back == 1 && text == wanted.before.as_slice()
+            tried.was_refused && tried.kept_back == 1 && text == wanted.before.as_slice()
         }
         answer => answer == wanted.answer && text == wanted.after.as_slice(),
     }
@@ -122,7 +98,7 @@ fn is_carried_out<'a, R: Threads + Wait + Sync + AllocGlobal>(
     heap: &mut Heap<&'a Refusing<Global>>,
     top: RootId,
     trial: Trial,
-    wanted: &Wanted,
+    wanted: &Ended,
 ) -> Result<bool, Fail> {
     let answer = collected(rt, refusing, heap, trial.generation, trial.way)?;
     let text = seen(rt.alloc(), refusing, heap, &[top])?;
@@ -130,50 +106,50 @@ fn is_carried_out<'a, R: Threads + Wait + Sync + AllocGlobal>(
 }
 
 /// Asserts what comes of a collection, and of the next one where this ran out of memory.
-fn ended_in<'a, R: Threads + Wait + Sync + AllocGlobal + Abort>(
+fn assert_tried<'a, R: Threads + Wait + Sync + AllocGlobal + Abort>(
     rt: &R,
     refusing: &'a Refusing<Global>,
     heap: &mut Heap<&'a Refusing<Global>>,
     top: RootId,
     trial: Trial,
-    wanted: &Wanted,
-) -> Result<Ended, Fail> {
-    let ended = end_of(rt, refusing, heap, trial)?;
+    wanted: &Ended,
+) -> Result<Tried, Fail> {
+    let tried = collected_once(rt, refusing, heap, trial)?;
     spend(refusing, trial.refused);
     let text = seen(rt.alloc(), refusing, heap, &[top])?;
     let (way, refused) = (trial.way, trial.refused);
     assert!(rt;
-        is_as_wanted(ended, &text, wanted),
+        is_as_wanted(tried, &text, wanted),
         "{way:?}, request {refused}"
     );
-    if ended.answer == Answer::NoMemory {
+    if tried.answer == Answer::NoMemory {
         let is_carried_out = is_carried_out(rt, refusing, heap, top, trial, wanted)?;
         assert!(rt; is_carried_out, "{way:?}, after request {refused}");
     }
-    Ok(ended)
+    Ok(tried)
 }
 
 /// The same, of a heap of its own.
-fn ended_heap<R: Threads + Wait + Sync + AllocGlobal + Abort>(
+fn tried_heap<R: Threads + Wait + Sync + AllocGlobal + Abort>(
     rt: &R,
     refusing: &Refusing<Global>,
     trial: Trial,
-    wanted: &Wanted,
-) -> Result<Ended, Fail> {
+    wanted: &Ended,
+) -> Result<Tried, Fail> {
     let (mut heap, top) = shared_tree(refusing, BLOCKS)?;
-    ended_in(rt, refusing, &mut heap, top, trial, wanted)
+    assert_tried(rt, refusing, &mut heap, top, trial, wanted)
 }
 
 /// The same, and that all that was given is returned once the heap is dropped.
-fn ended_and_returned<R: Threads + Wait + Sync + AllocGlobal + Abort>(
+fn tried_and_returned<R: Threads + Wait + Sync + AllocGlobal + Abort>(
     rt: &R,
     trial: Trial,
-    wanted: &Wanted,
-) -> Result<Ended, Fail> {
+    wanted: &Ended,
+) -> Result<Tried, Fail> {
     let refusing = Refusing::new(rt.alloc(), trial.refused);
-    let ended = ended_heap(rt, &refusing, trial, wanted)?;
+    let tried = tried_heap(rt, &refusing, trial, wanted)?;
     assert_eq!(rt; outstanding(&refusing), 1);
-    Ok(ended)
+    Ok(tried)
 }
 
 /// Refuses each request of such a collection in turn, until none comes to the one that is refused.
@@ -182,7 +158,7 @@ fn refuse_each<R: Threads + Wait + Sync + AllocGlobal + Abort>(
     generation: u64,
     way: Way,
 ) -> Result<(), Fail> {
-    let wanted = wanted_unrefused(rt.alloc(), generation)?;
+    let wanted = end_unrefused(rt, generation)?;
     let mut refusals = 0_u32;
     for refused in requests_of_making(rt.alloc())?..MANY {
         let trial = Trial {
@@ -190,13 +166,13 @@ fn refuse_each<R: Threads + Wait + Sync + AllocGlobal + Abort>(
             generation,
             way,
         };
-        let ended = ended_and_returned(rt, trial, &wanted)?;
-        if !ended.was_refused {
+        let tried = tried_and_returned(rt, trial, &wanted)?;
+        if !tried.was_refused {
             // At least one for each block of copies, and some for each worker.
             assert!(rt; refusals >= 12);
             return Ok(());
         }
-        if ended.answer == Answer::NoMemory {
+        if tried.answer == Answer::NoMemory {
             refusals = refusals.saturating_add(1);
         }
     }

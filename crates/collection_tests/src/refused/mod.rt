@@ -6,6 +6,6 @@ mod commands;
 #[cfg(test)]
 mod memory;
 #[cfg(test)]
-mod shared_tree;
+pub(crate) mod shared_tree;
 #[cfg(test)]
-mod ways;
+mod trials;

@@ -1,5 +1,5 @@
 //! The heap that is collected: a tree of 200 objects in two generations, whose nodes lead to others across it too.
-use crate::on_threads::heaps::{add_tree, heap_of};
+use crate::heaps::{add_tree, heap_of};
 use collector::collect_one;
 use heap::{Heap, RootId, Sizes};
 use std::alloc::Allocator;

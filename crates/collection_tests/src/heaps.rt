@@ -1,9 +1,8 @@
-//! Heaps with graphs that workers share, and what they hold.
+//! Heaps of any size, trees that workers share, and what a heap holds.
 ghost use Rattle.std.specs.Prelude.{◌≡◌, is_some};
 ghost use Rattle.std.specs.List.{list_all};
 ghost use Rattle.model.specs.Graph.{root_at};
 
-use collector::collect_one;
 use heap::{Config, Heap, RootId, Sizes};
 use heap_text::{Counted, Name, write_census, write_heap};
 use std::alloc::{AllocError, Allocator, Global};
@@ -101,44 +100,6 @@ pub(crate) fn wide_heap(alloc: Global, objects: u32, spare: u64) -> Result<(Heap
     let mut heap = heap_of(alloc, sizes_for(objects, spare))?;
     let top = add_tree(alloc, &mut heap, objects)?;
     Ok((heap, top))
-}
-
-/// Sizes with two generations.
-pub(crate) const TWO_GENERATIONS: Sizes = Sizes {
-    block_words: 64,
-    blocks: 60,
-    mutators: 1,
-    nursery_blocks: 6,
-    generations: 2,
-    steps: 1,
-};
-
-/// A young tree, below a large object to which an old one leads, and a dead object.
-fn add_young<A: Allocator + Clone>(alloc: A, heap: &mut Heap<A>, old: RootId) -> Result<(), Fail> {
-    let young = add_tree(alloc, heap, 40)?;
-    let large = heap.allocate(0, 1, 60)?;
-    heap.store(large, 0, Some(young))?;
-    heap.store(old, 2, Some(large))?;
-    let dead = heap.allocate(0, 0, 1)?;
-    for root in [young, large, dead] {
-        heap.release(root)?;
-    }
-    Ok(())
-}
-
-/// A tree that is moved to the older generation by a collection, and young objects. Gives the root of the tree.
-fn add_both<A: Allocator + Clone>(alloc: A, heap: &mut Heap<A>) -> Result<RootId, Fail> {
-    let old = add_tree(alloc.clone()?, heap, 20)?;
-    let _report = collect_one(alloc.clone()?, heap, 0)?;
-    add_young(alloc, heap, old)?;
-    Ok(old)
-}
-
-/// A heap with 20 old objects, one of which is remembered, 41 young ones that live and a dead one; and the one root.
-pub(crate) fn old_heap<A: Allocator + Clone>(alloc: A) -> Result<(Heap<A>, RootId), Fail> {
-    let mut heap = heap_of(alloc.clone()?, TWO_GENERATIONS)?;
-    let old = add_both(alloc, &mut heap)?;
-    Ok((heap, old))
 }
 
 /// Names for these roots, all of one text.

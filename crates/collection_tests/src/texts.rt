@@ -1,4 +1,5 @@
 //! The texts of errors.
+use collector::ThreadsError;
 use machine::{MachineError, StepError};
 use std::alloc::Global;
 use std::fmt::{Display, Write};
@@ -35,6 +36,13 @@ heap full
 no memory
 ";
 
+const ON_THREADS: &str = "bad configuration
+no such generation
+heap full
+no memory
+cells unsettled
+";
+
 #[test]
 fn errors_show_what_they_mean(rt: HostRuntime) -> Result<(), Fail> {
     let making = [
@@ -49,4 +57,16 @@ fn errors_show_what_they_mean(rt: HostRuntime) -> Result<(), Fail> {
         StepError::NoMemory,
     ];
     assert_lines(&rt, rt.alloc(), &stepping, STEPPING)
+}
+
+#[test]
+fn errors_of_collecting_by_threads(rt: HostRuntime) -> Result<(), Fail> {
+    let errors = [
+        ThreadsError::BadConfig,
+        ThreadsError::NoGeneration,
+        ThreadsError::HeapFull,
+        ThreadsError::NoMemory,
+        ThreadsError::Unsettled,
+    ];
+    assert_lines(&rt, rt.alloc(), &errors, ON_THREADS)
 }

@@ -1,40 +1,20 @@
 //! The ways to collect, and what each answers.
-ghost use Rattle.std.specs.Prelude.{◌≤◌};
-
+use crate::heaps::seen;
 use collector::{CellKind, CollectError, ThreadsError, collect, collect_one};
 use forwarding::OpenGate;
-use heap::Heap;
+use heap::{Heap, RootId};
 use machine::{LookError, Machine, MachineError, SettleError};
 use std::alloc::{AllocGlobal, Allocator};
 use std::sync::Wait;
 use std::test::Fail;
 use std::thread::Threads;
 
-/// What collects: one worker alone, two that take turns, or two on threads of their own.
+/// What collects: one worker alone, two that take turns, or so many on threads of their own.
 #[derive(Clone, Copy, Debug)]
 pub(crate) enum Way {
     Alone,
     InTurn,
-    OnThreads(CellKind),
-}
-
-pub(crate) const WAYS: [Way; 4] = [
-    Way::Alone,
-    Way::InTurn,
-    Way::OnThreads(CellKind::Word),
-    Way::OnThreads(CellKind::Box),
-];
-
-impl Way {
-    /// How many workers there are.
-    pub(crate) fn workers(self) -> u32
-        ensures { result ≤ 2 }
-    {
-        match self {
-            Way::Alone => 1,
-            Way::InTurn | Way::OnThreads(_) => 2,
-        }
-    }
+    OnThreads(u32, CellKind),
 }
 
 /// What a collection answers: how many objects it kept and freed, or what was wanting.
@@ -89,9 +69,10 @@ fn collected_on_threads<R: Threads + Wait + Sync + AllocGlobal, A: Allocator + C
     alloc: A,
     heap: &mut Heap<A>,
     generation: u64,
+    n: u32,
     kind: CellKind,
 ) -> Result<Answer, Fail> {
-    match collect(rt, alloc, heap, generation, 2, kind, &OpenGate) {
+    match collect(rt, alloc, heap, generation, n, kind, &OpenGate) {
         Ok(report) => Ok(Answer::Counts(report.kept, report.freed)),
         Err(ThreadsError::NoMemory) => Ok(Answer::NoMemory),
         Err(ThreadsError::HeapFull) => Ok(Answer::HeapFull),
@@ -99,7 +80,7 @@ fn collected_on_threads<R: Threads + Wait + Sync + AllocGlobal, A: Allocator + C
     }
 }
 
-/// Collects these generations and all younger ones.
+/// Collects this generation and all younger ones.
 pub(crate) fn collected<R: Threads + Wait + Sync + AllocGlobal, A: Allocator + Clone + Send + Sync>(
     rt: &R,
     alloc: A,
@@ -110,6 +91,32 @@ pub(crate) fn collected<R: Threads + Wait + Sync + AllocGlobal, A: Allocator + C
     match way {
         Way::Alone => collected_alone(alloc, heap, generation),
         Way::InTurn => collected_in_turn(alloc, heap, generation),
-        Way::OnThreads(kind) => collected_on_threads(rt, alloc, heap, generation, kind),
+        Way::OnThreads(n, kind) => collected_on_threads(rt, alloc, heap, generation, n, kind),
     }
+}
+
+/// What a heap is before a collection and after it, and what that answers.
+#[derive(Drop)]
+pub(crate) struct Ended {
+    pub(crate) before: Vec<u8>,
+    pub(crate) answer: Answer,
+    pub(crate) after: Vec<u8>,
+}
+
+/// Collects, and tells what is seen of all that a root leads to.
+pub(crate) fn end_of<R: Threads + Wait + Sync + AllocGlobal>(
+    rt: &R,
+    heap: &mut Heap,
+    top: RootId,
+    generation: u64,
+    way: Way,
+) -> Result<Ended, Fail> {
+    let before = seen(rt.alloc(), rt.alloc(), heap, &[top])?;
+    let answer = collected(rt, rt.alloc(), heap, generation, way)?;
+    let after = seen(rt.alloc(), rt.alloc(), heap, &[top])?;
+    Ok(Ended {
+        before,
+        answer,
+        after,
+    })
 }
