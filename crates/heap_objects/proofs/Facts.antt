@@ -23,6 +23,7 @@ use Rattle.heap_objects.specs.Space.{IsSoundSpace, IsSpace, IsRoom, rooms_of, sp
 use Rattle.heap_objects.proofs.Sound.{sound_fits, sound_blocks, few_blocks}
 use Rattle.nursery.proofs.Located.{no_block, at_word}
 use Rattle.heap_objects.proofs.Places.{each_place}
+use Rattle.heap_objects.proofs.Lying.{each_within, each_apart}
 
 pub first_object : (number : ℕ) (block : BlockValue) → 0 < length block.objects → (o : Object) × (find nat_cmp (small_word number 0) (slot_objects number (Some block)) ≡ Some o)
 first_object number block some = go block.objects some
@@ -50,6 +51,8 @@ module _ (config : Config) (table : List (Option BlockValue)) (nurseries : List 
     steps = λ name o is. (table-sound config table (sound_blocks config table nurseries pool sound) (sound_fits config table nurseries pool sound) name o is).0;
     small = λ name o is. (table-sound config table (sound_blocks config table nurseries pool sound) (sound_fits config table nurseries pool sound) name o is).1;
     places = each_place config table nurseries pool sound;
+    within = each_within config table nurseries pool sound;
+    apart = each_apart config table nurseries pool sound;
     mutators = length-map nurseries (λ n. nursery_room n table) ∙ sound.count;
     rooms = each_room nurseries room_is;
     rising = rising;

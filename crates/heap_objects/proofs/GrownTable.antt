@@ -3,7 +3,7 @@ use Rattle.std.proofs.Common.{◌≡◌, ℕ, ◌+◌, ◌-◌, ◌<◌, ◌≤�
 use Rattle.std.proofs.lemmas.Bool.Decides.{nat_tests}
 use Rattle.std.specs.Prelude.{is_some, nat_le, nat_lt}
 use Rattle.std.specs.Ordering.{nat_cmp}
-use Rattle.std.specs.FinMap.{find, get}
+use Rattle.std.specs.FinMap.{find}
 use Rattle.model.specs.Config.{Config}
 use Rattle.model.specs.Reached.{has}
 use Rattle.model.specs.Room.{Room}

@@ -8,6 +8,7 @@ pub mod Filling
 pub mod YoungNumbers
 pub mod Finding
 pub mod Places
+pub mod Lying
 pub mod Facts
 pub mod Lending
 pub mod PutIn

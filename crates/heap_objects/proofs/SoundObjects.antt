@@ -1,5 +1,5 @@
 -- What holds of the objects of every heap.
-use Rattle.std.proofs.Common.{◌≡◌, ◌≢◌, ℕ, ◌/◌, ◌<◌, ◌≤◌, true, false, true≢false, length, Option, Some, None, refl, sym, ap, subst, ◌∙◌, arith, ⊎_elim}
+use Rattle.std.proofs.Common.{◌≡◌, ◌≢◌, ℕ, ◌+◌, ◌/◌, ◌<◌, ◌≤◌, true, false, true≢false, length, Option, Some, None, refl, sym, ap, subst, ◌∙◌, arith, ⊎_elim}
 use Rattle.std.proofs.lemmas.Bool.{cases_Bool}
 use Rattle.std.proofs.lemmas.Bool.Decides.{nat_tests}
 use Rattle.std.proofs.lemmas.List.{length-map}
@@ -16,7 +16,7 @@ use Rattle.steps.specs.Words.{target_of_word}
 use Rattle.large_objects.specs.LargeValue.{LargeObject, LargeValue, large_at, InUse}
 use Rattle.large_objects.specs.PoolBlocks.{blocks_of, blocks_at}
 use Rattle.heap_objects.specs.WithLarge.{large_object}
-use Rattle.heap_objects.specs.Space.{SpaceValue}
+use Rattle.heap_objects.specs.Space.{SpaceValue, EndsInBlock}
 use Rattle.heap_objects.specs.HeapSpaceCollecting.{HoldsNone}
 use Rattle.heap_objects.specs.Objects.{objects_of, graph_in, heap_in}
 use Rattle.heap_objects.specs.Blocks.{HaveBlocks}
@@ -56,6 +56,28 @@ module _ (space : SpaceValue) (large : LargeValue) (apart : AreApart space large
         large = λ _. record { number = f.k; in_range = apart.numbers f.k (some_used f.k f.large f.there); is = omega (arith, f.word) };
       })
       (each_side space apart.small large.slots name o is)
+
+  -- of a small object, among those that stand in blocks
+  in_blocks : (name : ℕ) (o : Object) → get (objects_of space large).objects name ≡ Some o → is_large space.config.block_words o ≡ false → get space.objects name ≡ Some o
+  in_blocks name o is small = ⊎_elim
+      (λ here. here)
+      (λ f. absurd (true≢false (sym (apart.each f.k f.large f.there).large ∙ ap (is_large space.config.block_words) f.is ∙ small)))
+      (each_side space apart.small large.slots name o is)
+
+  lies_within : (name : ℕ) (o : Object) → get (objects_of space large).objects name ≡ Some o → is_large space.config.block_words o ≡ false → EndsInBlock space.config.block_words name (size_of o)
+  lies_within name o is small = apart.small.within name o (in_blocks name o is small)
+
+  ends_before : (name next : ℕ) (o p : Object) → get (objects_of space large).objects name ≡ Some o → get (objects_of space large).objects next ≡ Some p → is_large space.config.block_words o ≡ false → name < next → name + size_of o ≤ next
+  ends_before name next o p is other small lt =
+      let here = in_blocks name o is small in
+      ⊎_elim
+      (λ there. apart.small.apart name next o p here there lt)
+      (λ f.
+      let at = apart.small.places name o here in
+      let few = apart.small.small name o here in
+      let range = apart.small.in_range in
+      omega (arith, f.word, at.is, at.block_in_range, at.offset_in_range, few, range.most_words, range.most_blocks))
+      (each_side space apart.small large.slots next p other)
 
   none_in : (block : ℕ) → block < 65536 → HoldsNone space block → HoldsObject (graph_in (objects_of space large)) block → ⊥
   none_in block few none holds = some_not_none (sym holds.there ∙ at_small space.objects large.slots block holds.offset few (omega (arith, holds.in_range)) ∙ none holds.offset holds.in_range)
@@ -132,6 +154,8 @@ module _ (space : SpaceValue) (large : LargeValue) (apart : AreApart space large
     range = apart.small.in_range;
     objects = heap_object;
     places = well_placed;
+    within = lies_within;
+    apart = ends_before;
     mutators = apart.small.mutators;
     rooms = apart.small.rooms;
     free = λ block. (free_block block, is_free block);

@@ -47,6 +47,8 @@ module _ (objects : ObjectsValue) (roots roots' : FinMap nat_cmp ℕ) (sets sets
     range = sound.range;
     objects = sound.objects;
     places = sound.places;
+    within = sound.within;
+    apart = sound.apart;
     mutators = sound.mutators;
     rooms = sound.rooms;
     free = λ block. (λ h. free_at objects roots roots' sets sets' block ((sound.free block).0 h), λ free. (sound.free block).1 (free_at objects roots' roots sets' sets block free));

@@ -112,13 +112,19 @@ pub record IsRoom (config : Config) (room : Room) : Type 0 where
   pub left : room.left < config.nursery_blocks
   pub used : room.used ≤ config.block_words
 
--- what holds of the blocks of every heap: each object is small, stands in a block and is of a step of the shape; a free
--- block is one of the pool's, and no object stands in it
+-- an object of so many words that stands at a small place ends within its block
+abbrev pub EndsInBlock : ℕ → ℕ → ℕ → Type 0
+EndsInBlock block_words name size = (block offset : ℕ) → offset < 512 → name ≡ small_word block offset → offset + size ≤ block_words
+
+-- what holds of the blocks of every heap: each object is small, lies within a block and is of a step of the shape; no two
+-- overlap, since each ends before the next one begins; a free block is one of the pool's, and no object stands in it
 pub record IsSpace (space : SpaceValue) : Type 0 where
   pub in_range : IsInRange space.config
   pub steps : (name : ℕ) (o : Object) → get space.objects name ≡ Some o → IsStep space.config.shape (o.generation, o.step)
   pub small : (name : ℕ) (o : Object) → get space.objects name ≡ Some o → size_of o ≤ space.config.block_words / 4
   pub places : (name : ℕ) (o : Object) → get space.objects name ≡ Some o → IsPlace space.config.blocks name
+  pub within : (name : ℕ) (o : Object) → get space.objects name ≡ Some o → EndsInBlock space.config.block_words name (size_of o)
+  pub apart : (name next : ℕ) (o p : Object) → get space.objects name ≡ Some o → get space.objects next ≡ Some p → name < next → name + size_of o ≤ next
   pub mutators : length space.rooms ≡ space.config.mutators
   pub rooms : All (IsRoom space.config) space.rooms
   pub rising : IsStrictlyIncreasing space.free

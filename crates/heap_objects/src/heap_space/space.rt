@@ -94,8 +94,11 @@ impl<A: Allocator + Clone> Space<A> {
         let areas = areas_of(alloc.clone()?, &table, config.generations())?;
         let nurseries = nurseries_of(alloc.clone()?, config.mutators(), config.nursery_blocks())?;
         let mut pool = Pool::new(alloc.clone()?, config.blocks() as u32)?;
-        let Ok(_granted) = pool.grant(alloc, count) else {
-            return Err(AllocError);
+        let _granted = match pool.grant(alloc, count) {
+            Ok(granted) => granted,
+            Err(GrantError::NoMemory) => return Err(AllocError),
+            // Each block is free, and the nurseries have no more.
+            Err(GrantError::HeapFull) => unreachable!(),
         };
         Ok(Space {
             config,

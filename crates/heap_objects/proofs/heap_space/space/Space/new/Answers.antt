@@ -1,4 +1,6 @@
-use Rattle.std.proofs.Common.{◌≡◌, ◌-◌, ◌*◌, Some, drop, ap, ◌∙◌, arith}
+use Rattle.std.proofs.Common.{◌≡◌, ◌-◌, ◌*◌, Some, Err, length, drop, ap, ◌∙◌, arith}
+use Rattle.std.proofs.lemmas.List.FromFn.{length-range_with_len}
+use Rattle.block_pool.specs.declared.pool.GrantError.TheVariants.{HeapFull}
 use Rattle.model.specs.Destination.{numbers_from}
 use Rattle.steps.specs.HeapValue.{nursery_count}
 use Rattle.nursery.specs.NurseryValue.{NurseryValue}
@@ -10,6 +12,13 @@ pub areas_of-requires-clause-within : goal.areas_of-requires-clause-within
 areas_of-requires-clause-within g c = λ n block is.
     let youngest = youngest c.in_ok-table.table.items c.nursery_blocks-count.result c.block_words.result c.in_ok-table.ensures.len c.in_ok-table.ensures.blocks n block (rw c.deref.ensures.value at is) in
     omega (arith, youngest, c.generations.ensures.value, c.generations.ensures.in_range.some_generation)
+
+pub unreachable-requires : goal.unreachable-requires
+unreachable-requires g c =
+    let full : c.grant.result ≡ Err HeapFull = c.in-Err-HeapFull.is ∙ ap Err c.in-Err-HeapFull.field-0-is in
+    let short = (c.grant.ensures.full).0 full in
+    let all = ap (λ p. length p.free) c.in_ok-pool.ensures ∙ length-range_with_len 0 c.blocks-2.result in
+    omega (arith, short, all, c.nursery_blocks-count.ensures.value, c.blocks-2.ensures.value, c.requires)
 
 pub invariant_of-result : goal.invariant_of-result
 invariant_of-result g c =
