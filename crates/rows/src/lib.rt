@@ -33,6 +33,7 @@ mod large_at_size;
 mod lines;
 #[cfg(test)]
 mod long_inputs;
+mod meetings;
 #[cfg(test)]
 mod names;
 #[cfg(test)]

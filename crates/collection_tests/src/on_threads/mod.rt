@@ -4,10 +4,4 @@ mod apart;
 #[cfg(test)]
 mod drawn;
 #[cfg(test)]
-mod gates;
-#[cfg(test)]
 mod in_a_row;
-#[cfg(test)]
-mod runs;
-#[cfg(test)]
-mod sharing;

@@ -1,5 +1,5 @@
 //! A run of a trace: the two workers of its collection meet.
-use crate::on_threads::gates::Meeting;
+use crate::meetings::gates::Meeting;
 use heap::{Config, Sizes};
 use heap_text::Counted;
 use std::alloc::AllocGlobal;

@@ -1,8 +1,8 @@
 //! Workers overlap, and share blocks: gates hold some of them until others have come.
-use crate::heaps::{heap_of, seen};
-use crate::on_threads::gates::{Handover, Meeting};
+use crate::meetings::gates::{Handover, Meeting};
 use collector::{CellKind, collect, collect_one};
-use heap::{Heap, Report, RootId, Sizes};
+use heap::{Config, Heap, Report, RootId, Sizes};
+use heap_text::{Counted, Name, write_heap};
 use std::alloc::{AllocGlobal, Global};
 use std::process::Abort;
 use std::sync::Wait;
@@ -19,7 +19,7 @@ fn won_by(report: &Report, t: usize) -> u64 {
 
 /// A heap with two objects, each with a root.
 fn two_objects(alloc: Global) -> Result<Heap, Fail> {
-    let mut heap = heap_of(alloc, Sizes::default())?;
+    let mut heap = Heap::new(alloc, Config::new(Sizes::default())?)?;
     let _first = heap.allocate(0, 0, 0)?;
     let _second = heap.allocate(0, 0, 0)?;
     Ok(heap)
@@ -75,9 +75,23 @@ fn ring(alloc: Global) -> Result<(Heap, RootId), Fail> {
         block_words: 16,
         ..Sizes::default()
     };
-    let mut heap = heap_of(alloc, sizes)?;
+    let mut heap = Heap::new(alloc, Config::new(sizes)?)?;
     let large = add_ring(&mut heap)?;
     Ok((heap, large))
+}
+
+/// The text of all that a root leads to.
+fn text_of(alloc: Global, heap: &Heap, root: RootId) -> Result<Vec<u8>, Fail> {
+    if heap.target(root).is_none() {
+        return Err(Fail::from("no such root"));
+    }
+    let name = Name {
+        text: b"ring",
+        root,
+    };
+    let mut writer = Counted::new(Vec::new(alloc));
+    write_heap(alloc, heap, &[name], &mut writer)?;
+    Ok(writer.inner)
 }
 
 /// Whether a delivery of worker 0 names worker 1 as its taker.
@@ -106,7 +120,7 @@ fn handed<R: Threads + Wait + Sync + AllocGlobal>(
 fn left_by_one(alloc: Global) -> Result<Vec<u8>, Fail> {
     let (mut heap, large) = ring(alloc)?;
     let _report = collect_one(alloc, &mut heap, 0)?;
-    seen(alloc, alloc, &heap, &[large])
+    text_of(alloc, &heap, large)
 }
 
 /// What two workers leave of a ring, of whom worker 0 alone has a slot; how many objects they won, and whether worker 1 took a
@@ -119,7 +133,7 @@ fn left_in_two<R: Threads + Wait + Sync + AllocGlobal>(
     gate: &Handover,
 ) -> Result<(Vec<u8>, (u64, bool)), Fail> {
     let found = handed(rt, heap, kind, gate)?;
-    Ok((seen(rt.alloc(), rt.alloc(), heap, &[large])?, found))
+    Ok((text_of(rt.alloc(), heap, large)?, found))
 }
 
 /// The same, of a heap of its own.

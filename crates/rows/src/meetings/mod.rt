@@ -1,0 +1,7 @@
+//! Two workers on threads of their own meet, and a block changes hands: gates hold some of them until others have come.
+#[cfg(test)]
+mod gates;
+#[cfg(test)]
+mod runs;
+#[cfg(test)]
+mod sharing;
