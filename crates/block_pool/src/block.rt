@@ -138,7 +138,8 @@ impl<A: Allocator> Block<A> {
         requires { used_of self.old + size_of pointers plain_words ≤ self.old.words }
         ensures offset { result ≡ used_of self.old }
         ensures in_block { result < 512 }
-        ensures pushed { self.new ≡ record self.old { objects = self.old.objects ++ new_object pointers plain_words ∷ [] } }
+        ensures pushed { self.new ≡
+            record self.old { objects = self.old.objects ++ new_object pointers plain_words ∷ [] } }
     {
         let offset = self.used;
         write_new(
@@ -261,7 +262,8 @@ impl<A: Allocator> Block<A> {
         requires object { (k : ℕ) × (k < length self.old.objects) × (offset_of self.old.objects k ≡ offset) }
         requires field { (k : ℕ) (raw : Raw) → k < length self.old.objects → offset_of self.old.objects k ≡ offset
             → slice_get self.old.objects k ≡ Some raw → i < length raw.pointers }
-        ensures { (k : ℕ) (raw : Raw) → k < length self.old.objects → offset_of self.old.objects k ≡ offset → slice_get self.old.objects k ≡ Some raw
+        ensures { (k : ℕ) (raw : Raw) → k < length self.old.objects → offset_of self.old.objects k ≡ offset →
+            slice_get self.old.objects k ≡ Some raw
             → self.new ≡ record self.old { objects = slice_set self.old.objects k (with_pointer_word raw i word) } }
     {
         let words = &mut self.words;
@@ -275,7 +277,8 @@ impl<A: Allocator> Block<A> {
         requires object { (k : ℕ) × (k < length self.old.objects) × (offset_of self.old.objects k ≡ offset) }
         requires field { (k : ℕ) (raw : Raw) → k < length self.old.objects → offset_of self.old.objects k ≡ offset
             → slice_get self.old.objects k ≡ Some raw → i < length raw.plain }
-        ensures { (k : ℕ) (raw : Raw) → k < length self.old.objects → offset_of self.old.objects k ≡ offset → slice_get self.old.objects k ≡ Some raw
+        ensures { (k : ℕ) (raw : Raw) → k < length self.old.objects → offset_of self.old.objects k ≡ offset →
+            slice_get self.old.objects k ≡ Some raw
             → self.new ≡ record self.old { objects = slice_set self.old.objects k (with_plain_word raw i word) } }
     {
         let words = &mut self.words;

@@ -92,7 +92,8 @@ impl<A: Allocator> Pool<A> {
         // What follows for the granted numbers.
         ensures rising { IfOk result (λ numbers. IsStrictlyIncreasing numbers.items) }
         ensures in_limit { IfOk result (λ numbers. All (λ n. n < self.old.limit) numbers.items) }
-        ensures members { IfOk result (λ numbers. (n : ℕ) → Contains self.old.free n ↔ (Contains numbers.items n ⊎ Contains self.new.free n)) }
+        ensures members { IfOk result (λ numbers. (n : ℕ) →
+            Contains self.old.free n ↔ (Contains numbers.items n ⊎ Contains self.new.free n)) }
         ensures apart { IfOk result (λ numbers. (n : ℕ) → Contains numbers.items n → ¬ Contains self.new.free n) }
     {
         if self.numbers.len() < count {

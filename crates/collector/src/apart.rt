@@ -83,13 +83,19 @@ fn ended<R: Wait, S: SharedCells, A: Allocator + Clone>(
 ) -> Result<Settled<A>, ThreadsError>
     requires some { 0 < length seats.workspaces.items }
     requires few { length seats.workspaces.items ≤ 16 }
-    requires settled { WereSettled S.is_pass S.known S.won heap.now collection (length seats.workspaces.items) Outcome.Ended seats.claims seats.queues seats.draws.items seats.seats.items seats.workspaces.items settled }
-    ensures settled { IfOk result (λ s. IsSettled heap.now s.collection s.places s.blocks.items (all_won s.workers.items)) }
+    requires settled { WereSettled S.is_pass S.known S.won heap.now collection
+        (length seats.workspaces.items) Outcome.Ended seats.claims seats.queues seats.draws.items seats.seats.items
+        seats.workspaces.items settled }
+    ensures settled { IfOk result
+        (λ s. IsSettled heap.now s.collection s.places s.blocks.items (all_won s.workers.items)) }
     ensures collection { IfOk result (λ s. s.collection ≡ collection) }
     ensures once { IfOk result (λ s. ScansOnce heap.now collection.generation s.workers.items) }
-    ensures apart { IfOk result (λ s. ReportsApart heap.now collection.generation (length seats.workspaces.items) s.workers.items s.deliveries.items) }
+    ensures apart { IfOk result
+        (λ s. ReportsApart heap.now collection.generation
+        (length seats.workspaces.items) s.workers.items s.deliveries.items) }
     ensures unsettled { result ≡ Err ThreadsError.Unsettled → settled ≡ Err settle_error.Unsettled }
-    ensures others { (result ≢ Err ThreadsError.NoGeneration) × (result ≢ Err ThreadsError.BadConfig) × (result ≢ Err ThreadsError.HeapFull) }
+    ensures others { (result ≢ Err ThreadsError.NoGeneration) × (result ≢ Err ThreadsError.BadConfig) ×
+        (result ≢ Err ThreadsError.HeapFull) }
 {
     match settled {
         Ok(forwards) => {
@@ -120,10 +126,15 @@ fn refusal<S: SharedCells, A: Allocator>(
     settled: Result<Forwards<A>, SettleError>,
     seats: Seats<A>,
 ) -> ThreadsError
-    requires settled { WereSettled S.is_pass S.known S.won heap.now collection.now (length seats.workspaces.items) (Outcome.Refused error) seats.claims seats.queues seats.draws.items seats.seats.items seats.workspaces.items settled }
-    ensures full { result ≡ ThreadsError.HeapFull → IsShortOfBlocksFor heap.now collection.now.generation (length seats.workspaces.items) }
-    ensures stuck { result ≡ ThreadsError.HeapFull → IsStuckApart heap.now collection.now.generation (length seats.workspaces.items) }
-    ensures others { (result ≢ ThreadsError.NoGeneration) × (result ≢ ThreadsError.BadConfig) × (result ≢ ThreadsError.Unsettled) }
+    requires settled { WereSettled S.is_pass S.known S.won heap.now collection.now (length seats.workspaces.items)
+        (Outcome.Refused error) seats.claims seats.queues seats.draws.items seats.seats.items seats.workspaces.items
+        settled }
+    ensures full { result ≡ ThreadsError.HeapFull →
+        IsShortOfBlocksFor heap.now collection.now.generation (length seats.workspaces.items) }
+    ensures stuck { result ≡ ThreadsError.HeapFull →
+        IsStuckApart heap.now collection.now.generation (length seats.workspaces.items) }
+    ensures others { (result ≢ ThreadsError.NoGeneration) × (result ≢ ThreadsError.BadConfig) ×
+        (result ≢ ThreadsError.Unsettled) }
 {
     if !is_counted(&settled) {
         return ThreadsError::NoMemory;
@@ -149,13 +160,20 @@ fn concluded<R: Wait, S: SharedCells, A: Allocator + Clone>(
 ) -> Result<Option<Settled<A>>, ThreadsError>
     requires some { 0 < length seats.workspaces.items }
     requires few { length seats.workspaces.items ≤ 16 }
-    requires settled { WereSettled S.is_pass S.known S.won heap.now collection (length seats.workspaces.items) ending seats.claims seats.queues seats.draws.items seats.seats.items seats.workspaces.items settled }
-    ensures settled { IfOk result (λ o. IfSome o (λ s. IsSettled heap.now s.collection s.places s.blocks.items (all_won s.workers.items))) }
+    requires settled { WereSettled S.is_pass S.known S.won heap.now collection
+        (length seats.workspaces.items) ending seats.claims seats.queues seats.draws.items seats.seats.items
+        seats.workspaces.items settled }
+    ensures settled { IfOk result
+        (λ o. IfSome o (λ s. IsSettled heap.now s.collection s.places s.blocks.items (all_won s.workers.items))) }
     ensures collection { IfOk result (λ o. IfSome o (λ s. s.collection ≡ collection)) }
     ensures once { IfOk result (λ o. IfSome o (λ s. ScansOnce heap.now collection.generation s.workers.items)) }
-    ensures apart { IfOk result (λ o. IfSome o (λ s. ReportsApart heap.now collection.generation (length seats.workspaces.items) s.workers.items s.deliveries.items)) }
-    ensures full { result ≡ Err ThreadsError.HeapFull → IsShortOfBlocksFor heap.now collection.generation (length seats.workspaces.items) }
-    ensures stuck { result ≡ Err ThreadsError.HeapFull → IsStuckApart heap.now collection.generation (length seats.workspaces.items) }
+    ensures apart { IfOk result
+        (λ o. IfSome o (λ s. ReportsApart heap.now collection.generation
+        (length seats.workspaces.items) s.workers.items s.deliveries.items)) }
+    ensures full { result ≡ Err ThreadsError.HeapFull →
+        IsShortOfBlocksFor heap.now collection.generation (length seats.workspaces.items) }
+    ensures stuck { result ≡ Err ThreadsError.HeapFull →
+        IsStuckApart heap.now collection.generation (length seats.workspaces.items) }
     ensures unsettled { result ≡ Err ThreadsError.Unsettled → settled ≡ Err settle_error.Unsettled }
     ensures others { (result ≢ Err ThreadsError.NoGeneration) × (result ≢ Err ThreadsError.BadConfig) }
 {
@@ -189,10 +207,12 @@ fn with_words<
     requires ready { IsReadyToCollect heap.now collection }
     requires some { 0 < n }
     requires few { n ≤ 16 }
-    ensures settled { IfOk result (λ o. IfSome o (λ s. IsSettled heap.now s.collection s.places s.blocks.items (all_won s.workers.items))) }
+    ensures settled { IfOk result
+        (λ o. IfSome o (λ s. IsSettled heap.now s.collection s.places s.blocks.items (all_won s.workers.items))) }
     ensures collection { IfOk result (λ o. IfSome o (λ s. s.collection ≡ collection)) }
     ensures once { IfOk result (λ o. IfSome o (λ s. ScansOnce heap.now collection.generation s.workers.items)) }
-    ensures apart { IfOk result (λ o. IfSome o (λ s. ReportsApart heap.now collection.generation n s.workers.items s.deliveries.items)) }
+    ensures apart { IfOk result
+        (λ o. IfSome o (λ s. ReportsApart heap.now collection.generation n s.workers.items s.deliveries.items)) }
     ensures full { result ≡ Err ThreadsError.HeapFull → IsShortOfBlocksFor heap.now collection.generation n }
     ensures stuck { result ≡ Err ThreadsError.HeapFull → IsStuckApart heap.now collection.generation n }
     ensures never_unsettled { result ≢ Err ThreadsError.Unsettled }
@@ -235,10 +255,12 @@ fn with_boxes<
     requires ready { IsReadyToCollect heap.now collection }
     requires some { 0 < n }
     requires few { n ≤ 16 }
-    ensures settled { IfOk result (λ o. IfSome o (λ s. IsSettled heap.now s.collection s.places s.blocks.items (all_won s.workers.items))) }
+    ensures settled { IfOk result
+        (λ o. IfSome o (λ s. IsSettled heap.now s.collection s.places s.blocks.items (all_won s.workers.items))) }
     ensures collection { IfOk result (λ o. IfSome o (λ s. s.collection ≡ collection)) }
     ensures once { IfOk result (λ o. IfSome o (λ s. ScansOnce heap.now collection.generation s.workers.items)) }
-    ensures apart { IfOk result (λ o. IfSome o (λ s. ReportsApart heap.now collection.generation n s.workers.items s.deliveries.items)) }
+    ensures apart { IfOk result
+        (λ o. IfSome o (λ s. ReportsApart heap.now collection.generation n s.workers.items s.deliveries.items)) }
     ensures full { result ≡ Err ThreadsError.HeapFull → IsShortOfBlocksFor heap.now collection.generation n }
     ensures stuck { result ≡ Err ThreadsError.HeapFull → IsStuckApart heap.now collection.generation n }
     ensures others { (result ≢ Err ThreadsError.NoGeneration) × (result ≢ Err ThreadsError.BadConfig) }
@@ -281,10 +303,12 @@ fn scavenged_by<
     requires ready { IsReadyToCollect heap.now collection }
     requires some { 0 < n }
     requires few { n ≤ 16 }
-    ensures settled { IfOk result (λ o. IfSome o (λ s. IsSettled heap.now s.collection s.places s.blocks.items (all_won s.workers.items))) }
+    ensures settled { IfOk result
+        (λ o. IfSome o (λ s. IsSettled heap.now s.collection s.places s.blocks.items (all_won s.workers.items))) }
     ensures collection { IfOk result (λ o. IfSome o (λ s. s.collection ≡ collection)) }
     ensures once { IfOk result (λ o. IfSome o (λ s. ScansOnce heap.now collection.generation s.workers.items)) }
-    ensures apart { IfOk result (λ o. IfSome o (λ s. ReportsApart heap.now collection.generation n s.workers.items s.deliveries.items)) }
+    ensures apart { IfOk result
+        (λ o. IfSome o (λ s. ReportsApart heap.now collection.generation n s.workers.items s.deliveries.items)) }
     ensures full { result ≡ Err ThreadsError.HeapFull → IsShortOfBlocksFor heap.now collection.generation n }
     ensures stuck { result ≡ Err ThreadsError.HeapFull → IsStuckApart heap.now collection.generation n }
     ensures words { kind ≡ CellKind.Word → result ≢ Err ThreadsError.Unsettled }
@@ -312,9 +336,12 @@ pub fn collect<
     kind: CellKind,
     gate: &G,
 ) -> Result<Report<A>, ThreadsError>
-    ensures ok { IfOk result (λ report. CollectsApart heap.old generation n report.kept report.freed report.workers.items report.deliveries.items heap.new) }
+    ensures ok { IfOk result
+        (λ report. CollectsApart heap.old generation n report.kept report.freed report.workers.items
+        report.deliveries.items heap.new) }
     ensures config { (result ≡ Err ThreadsError.BadConfig) ↔ ((n ≡ 0) ⊎ (16 < n)) }
-    ensures generation { (result ≡ Err ThreadsError.NoGeneration) ↔ ((0 < n) × (n ≤ 16) × (heap.old.config.shape.generations ≤ generation)) }
+    ensures generation { (result ≡ Err ThreadsError.NoGeneration) ↔
+        ((0 < n) × (n ≤ 16) × (heap.old.config.shape.generations ≤ generation)) }
     ensures full { result ≡ Err ThreadsError.HeapFull → IsShortOfBlocksFor heap.old generation n }
     ensures stuck { result ≡ Err ThreadsError.HeapFull → IsStuckFor heap.old generation n }
     ensures words { kind ≡ CellKind.Word → result ≢ Err ThreadsError.Unsettled }

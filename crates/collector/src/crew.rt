@@ -53,9 +53,12 @@ impl<'a, R: Threads + Wait + Sync + AllocGlobal, G: Gate + Sync> Crew<'a, R, G> 
         heap: &mut Heap<A>,
         generation: u64,
     ) -> Result<Report<A>, ThreadsError>
-        ensures ok { IfOk result (λ report. CollectsApart heap.old generation self.now.workers report.kept report.freed report.workers.items report.deliveries.items heap.new) }
+        ensures ok { IfOk result
+            (λ report. CollectsApart heap.old generation self.now.workers report.kept report.freed report.workers.items
+            report.deliveries.items heap.new) }
         ensures config { result ≢ Err ThreadsError.BadConfig }
-        ensures generation { (result ≡ Err ThreadsError.NoGeneration) ↔ (heap.old.config.shape.generations ≤ generation) }
+        ensures generation { (result ≡ Err ThreadsError.NoGeneration) ↔
+            (heap.old.config.shape.generations ≤ generation) }
         ensures full { result ≡ Err ThreadsError.HeapFull → IsShortOfBlocksFor heap.old generation self.now.workers }
         ensures stuck { result ≡ Err ThreadsError.HeapFull → IsStuckFor heap.old generation self.now.workers }
         ensures words { self.now.kind ≡ CellKind.Word → result ≢ Err ThreadsError.Unsettled }

@@ -66,7 +66,8 @@ fn scavenged<A: Allocator + Clone>(
 ) -> Result<Settled<A>, CollectError>
     requires { IsReadyToCollect heap.now collection }
     ensures collection { IfOk result (λ s. s.collection ≡ collection) }
-    ensures settled { IfOk result (λ s. IsSettled heap.now s.collection s.places s.blocks.items (all_won s.workers.items)) }
+    ensures settled { IfOk result
+        (λ s. IsSettled heap.now s.collection s.places s.blocks.items (all_won s.workers.items)) }
     ensures scanned { IfOk result (λ s. ScansAlone heap.now collection.generation s.workers.items s.deliveries.items) }
     ensures once { IfOk result (λ s. ScansOnce heap.now collection.generation s.workers.items) }
     ensures full { result ≡ Err CollectError.HeapFull → IsShortOfBlocks heap.now collection.generation }
@@ -91,8 +92,11 @@ pub fn collect_one<A: Allocator + Clone>(
     heap: &mut Heap<A>,
     generation: u64,
 ) -> Result<Report<A>, CollectError>
-    ensures ok { IfOk result (λ report. CollectsAlone heap.old generation report.kept report.freed report.workers.items report.deliveries.items heap.new) }
-    ensures no_generation { (result ≡ Err CollectError.NoGeneration) ↔ (heap.old.config.shape.generations ≤ generation) }
+    ensures ok { IfOk result
+        (λ report. CollectsAlone heap.old generation report.kept report.freed report.workers.items
+        report.deliveries.items heap.new) }
+    ensures no_generation { (result ≡ Err CollectError.NoGeneration) ↔
+        (heap.old.config.shape.generations ≤ generation) }
     ensures full { result ≡ Err CollectError.HeapFull → IsShortOfBlocks heap.old generation }
     ensures stuck { result ≡ Err CollectError.HeapFull → IsStuckAlone heap.old generation }
     ensures err { OnErr result (heap.new ≡ heap.old) }

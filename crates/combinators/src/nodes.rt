@@ -150,8 +150,10 @@ impl Nodes {
         function: RootId,
         argument: RootId,
     ) -> Result<RootId, Trouble>
-        ensures ok { IfOk result (λ node. AddsApplication self.old function.number argument.number node.number self.new) }
-        ensures bad_node { (result ≡ Err Trouble.BadNode) ↔ ¬ (AreParts self.old.graph function.number argument.number) }
+        ensures ok { IfOk result
+            (λ node. AddsApplication self.old function.number argument.number node.number self.new) }
+        ensures bad_node { (result ≡ Err Trouble.BadNode) ↔
+            ¬ (AreParts self.old.graph function.number argument.number) }
         ensures same { result ≡ Err Trouble.BadNode → self.new ≡ self.old }
         ensures err { OnErr result (MayBeCollected self.old self.new) }
     {
@@ -213,7 +215,8 @@ impl Nodes {
     /// A pointer leads where the value's root does. `BadNode` says that there is no such root, or no such pointer.
     fn store(&mut self, node: RootId, field: u64, value: RootId) -> Result<(), Trouble>
         ensures ok { OnOk result (Stores self.old node.number field (Some value.number) self.new) }
-        ensures bad_node { (result ≡ Err Trouble.BadNode) ↔ ¬ (HasPointer self.old.graph node.number field × IsSome (root_at self.old.graph value.number)) }
+        ensures bad_node { (result ≡ Err Trouble.BadNode) ↔
+            ¬ (HasPointer self.old.graph node.number field × IsSome (root_at self.old.graph value.number)) }
         ensures memory { result ≡ Err Trouble.NoMemory → MustNote self.old node.number (Some value.number) }
         ensures kinds { IfErr result (λ e. (e ≡ Trouble.BadNode) ⊎ (e ≡ Trouble.NoMemory)) }
         ensures err { OnErr result (self.new ≡ self.old) }
@@ -229,7 +232,8 @@ impl Nodes {
     /// application; the heap is as before.
     pub(crate) fn set_function(&mut self, node: RootId, value: RootId) -> Result<(), Trouble>
         ensures ok { OnOk result (Stores self.old node.number 0 (Some value.number) self.new) }
-        ensures bad_node { (result ≡ Err Trouble.BadNode) ↔ ¬ (HasPointer self.old.graph node.number 0 × IsSome (root_at self.old.graph value.number)) }
+        ensures bad_node { (result ≡ Err Trouble.BadNode) ↔
+            ¬ (HasPointer self.old.graph node.number 0 × IsSome (root_at self.old.graph value.number)) }
         ensures memory { result ≡ Err Trouble.NoMemory → MustNote self.old node.number (Some value.number) }
         ensures kinds { IfErr result (λ e. (e ≡ Trouble.BadNode) ⊎ (e ≡ Trouble.NoMemory)) }
         ensures err { OnErr result (self.new ≡ self.old) }
@@ -241,7 +245,8 @@ impl Nodes {
     /// application; the heap is as before.
     pub(crate) fn set_argument(&mut self, node: RootId, value: RootId) -> Result<(), Trouble>
         ensures ok { OnOk result (Stores self.old node.number 1 (Some value.number) self.new) }
-        ensures bad_node { (result ≡ Err Trouble.BadNode) ↔ ¬ (HasPointer self.old.graph node.number 1 × IsSome (root_at self.old.graph value.number)) }
+        ensures bad_node { (result ≡ Err Trouble.BadNode) ↔
+            ¬ (HasPointer self.old.graph node.number 1 × IsSome (root_at self.old.graph value.number)) }
         ensures memory { result ≡ Err Trouble.NoMemory → MustNote self.old node.number (Some value.number) }
         ensures kinds { IfErr result (λ e. (e ≡ Trouble.BadNode) ⊎ (e ≡ Trouble.NoMemory)) }
         ensures err { OnErr result (self.new ≡ self.old) }

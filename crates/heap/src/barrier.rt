@@ -43,7 +43,8 @@ pub(crate) fn remember<A: Allocator + Clone>(
 ) -> Result<(), AllocError>
     requires generations { length sets.old ≡ objects.now.config.shape.generations }
     ensures ok { OnOk result ((o : Object) → get objects.now.objects (place_word holder) ≡ Some o
-        → sets.new ≡ remembered_after (heap_with objects.now [] sets.old) (place_word holder) o (option_map place_word target)) }
+        → sets.new ≡ remembered_after (heap_with objects.now [] sets.old) (place_word holder) o
+        (option_map place_word target)) }
     ensures err { OnErr result (sets.new ≡ sets.old) }
     ensures memory { OnErr result ((o : Object) → get objects.now.objects (place_word holder) ≡ Some o
         → IsTrue (leads_younger (graph_in objects.now) o (option_map place_word target))

@@ -17,7 +17,8 @@ fn counts_of<A: Allocator + Clone>(
     steps: &[StepId],
 ) -> ArrayVec<StepCount, MOST_STEPS>
     requires { length steps.now ≤ 13 }
-    ensures { map step_value result.items ≡ map (step_count objects.now.config.block_words (values objects.now.objects)) (map step_pair steps.now) }
+    ensures { map step_value result.items ≡ map (step_count objects.now.config.block_words (values objects.now.objects))
+        (map step_pair steps.now) }
 {
     let mut counts = ArrayVec::new();
     for number in 0..steps.len() {
@@ -30,7 +31,8 @@ fn counts_of<A: Allocator + Clone>(
 pub(crate) fn step_counts<A: Allocator + Clone>(
     objects: &HeapObjects<A>,
 ) -> ArrayVec<StepCount, MOST_STEPS>
-    ensures { map step_value result.items ≡ map (step_count objects.now.config.block_words (values objects.now.objects)) (all_steps objects.now.config.shape) }
+    ensures { map step_value result.items ≡ map (step_count objects.now.config.block_words (values objects.now.objects))
+        (all_steps objects.now.config.shape) }
 {
     let steps = objects.config().all_steps();
     counts_of(objects, steps.as_slice())

@@ -24,11 +24,13 @@ impl<A: Allocator + Clone> Heap<A> {
         ensures known { OnOk result (IsValue self.old.graph (option_map (λ r. r.number) value)) }
         ensures field { OnOk result (HasPointer self.old.graph root.number field) }
         ensures no_root { (result ≡ Err StoreError.NoRoot) ↔ (IsNone (root_at self.old.graph root.number)
-            ⊎ (HasPointer self.old.graph root.number field × ¬ (IsValue self.old.graph (option_map (λ r. r.number) value)))) }
+            ⊎ (HasPointer self.old.graph root.number field ×
+            ¬ (IsValue self.old.graph (option_map (λ r. r.number) value)))) }
         ensures bad_field { (result ≡ Err StoreError.BadField)
             ↔ (IsSome (root_at self.old.graph root.number) × ¬ (HasPointer self.old.graph root.number field)) }
         // Memory is wanted only for a new member of a remembered set.
-        ensures memory { result ≡ Err StoreError.NoMemory → MustNote self.old root.number (option_map (λ r. r.number) value) }
+        ensures memory { result ≡ Err StoreError.NoMemory →
+            MustNote self.old root.number (option_map (λ r. r.number) value) }
         ensures err { OnErr result (self.new ≡ self.old) }
     {
         let Some(holder) = self.target(root) else {
@@ -92,10 +94,13 @@ impl<A: Allocator + Clone> Heap<A> {
 
     /// A new root to what pointer `field` of a root's object leads to, or `None` where it is nil.
     pub fn load(&mut self, root: RootId, field: u64) -> Result<Option<RootId>, LoadError>
-        ensures ok { IfOk result (λ loaded. Loads self.old root.number field (option_map (λ r. r.number) loaded) self.new) }
+        ensures ok { IfOk result
+            (λ loaded. Loads self.old root.number field (option_map (λ r. r.number) loaded) self.new) }
         ensures no_root { (result ≡ Err LoadError.NoRoot) ↔ IsNone (root_at self.old.graph root.number) }
-        ensures bad_field { (result ≡ Err LoadError.BadField) ↔ (IsSome (root_at self.old.graph root.number) × ¬ (HasPointer self.old.graph root.number field)) }
-        ensures memory { result ≡ Err LoadError.NoMemory → IsSomeAnd (pointer_of self.old.graph root.number field) (λ target. IsSome target) }
+        ensures bad_field { (result ≡ Err LoadError.BadField) ↔
+            (IsSome (root_at self.old.graph root.number) × ¬ (HasPointer self.old.graph root.number field)) }
+        ensures memory { result ≡ Err LoadError.NoMemory →
+            IsSomeAnd (pointer_of self.old.graph root.number field) (λ target. IsSome target) }
         ensures err { OnErr result (self.new ≡ self.old) }
     {
         let pointer = match self.pointer_at(root, field) {
@@ -115,7 +120,8 @@ impl<A: Allocator + Clone> Heap<A> {
 
     /// Where pointer `field` of a root's object leads.
     fn pointer_at(&self, root: RootId, field: u64) -> Result<Option<Place>, LoadError>
-        ensures ok { IfOk result (λ pointer. pointer_of self.now.graph root.number field ≡ Some (option_map place_word pointer)) }
+        ensures ok { IfOk result
+            (λ pointer. pointer_of self.now.graph root.number field ≡ Some (option_map place_word pointer)) }
         ensures no_root { (result ≡ Err LoadError.NoRoot) ↔ IsNone (root_at self.now.graph root.number) }
         ensures bad_field { (result ≡ Err LoadError.BadField)
             ↔ (IsSome (root_at self.now.graph root.number) × ¬ (HasPointer self.now.graph root.number field)) }

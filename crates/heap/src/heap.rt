@@ -187,10 +187,12 @@ impl<A: Allocator + Clone> Heap<A> {
         ensures too_big { (result ≡ Err AllocateError.TooBig)
             ↔ ((mutator < self.old.config.mutators) × IsTrue (is_too_big pointers plain_words)) }
         ensures full { (result ≡ Err AllocateError.NurseryFull)
-            ↔ ((mutator < self.old.config.mutators) × (is_too_big pointers plain_words ≡ false) × (is_large_size self.old.config (1 + pointers + plain_words) ≡ false)
+            ↔ ((mutator < self.old.config.mutators) × (is_too_big pointers plain_words ≡ false) ×
+            (is_large_size self.old.config (1 + pointers + plain_words) ≡ false)
             × (room_for self.old mutator (1 + pointers + plain_words) ≡ None)) }
         ensures heap_full { (result ≡ Err AllocateError.HeapFull)
-            ↔ ((mutator < self.old.config.mutators) × (is_too_big pointers plain_words ≡ false) × IsTrue (is_large_size self.old.config (1 + pointers + plain_words))
+            ↔ ((mutator < self.old.config.mutators) × (is_too_big pointers plain_words ≡ false) ×
+            IsTrue (is_large_size self.old.config (1 + pointers + plain_words))
             × (length self.old.free < wanted_blocks self.old pointers plain_words)) }
         ensures err { OnErr result (self.new ≡ self.old) }
     {
@@ -330,7 +332,8 @@ impl<A: Allocator + Clone> Heap<A> {
     /// Opens a collection of the generations 0 to `generation`. The heap stays as it is.
     pub fn open_collection(&self, alloc: A, generation: u64) -> Result<Collection<A>, OpenError>
         ensures ok { IfOk result (λ collection. IsOpened self.now generation collection) }
-        ensures no_generation { (result ≡ Err OpenError.NoGeneration) ↔ (self.now.config.shape.generations ≤ generation) }
+        ensures no_generation { (result ≡ Err OpenError.NoGeneration) ↔
+            (self.now.config.shape.generations ≤ generation) }
         // What holds of every heap.
         ensures range { IsInRange self.now.config }
         ensures sound { IsHeap self.now }
@@ -390,9 +393,11 @@ impl<A: Allocator + Clone> Heap<A> {
 
     /// Ends a collection: the heap is what the workers brought back. Where memory runs out the heap is as before.
     pub fn commit(&mut self, alloc: A, settled: Settled<A>) -> Result<Report<A>, AllocError>
-        requires { IsSettled self.old settled.collection settled.places settled.blocks.items (all_won settled.workers.items) }
+        requires { IsSettled self.old settled.collection settled.places settled.blocks.items
+            (all_won settled.workers.items) }
         ensures ok { IfOk result (λ _. CollectedHeap self.old settled.collection.generation
-            (renaming_of (young_names self.old.graph settled.collection.generation) (all_won settled.workers.items)) self.new) }
+            (renaming_of (young_names self.old.graph settled.collection.generation) (all_won settled.workers.items))
+            self.new) }
         ensures kept { IfOk result (λ report. LiveCount self.old.graph settled.collection.generation report.kept) }
         ensures won { IfOk result (λ report. report.kept ≡ sum_by (λ w. length w.won) settled.workers.items) }
         ensures freed { IfOk result (λ report. report.kept + report.freed

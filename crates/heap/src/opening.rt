@@ -18,7 +18,8 @@ use steps::{Collection, RootId, Slot};
 
 /// The roots by rising number.
 fn root_slots<A: Allocator>(alloc: A, roots: &Roots<A>) -> Result<Vec<Slot, A>, AllocError>
-    ensures { IfOk result (λ slots. map slot_value slots.items ≡ map (λ e. root_slot e.0 e.1) (entries (roots_map roots.now.slots))) }
+    ensures { IfOk result
+        (λ slots. map slot_value slots.items ≡ map (λ e. root_slot e.0 e.1) (entries (roots_map roots.now.slots))) }
 {
     let mut slots = Vec::with_capacity(alloc, roots.len())?;
     let mut from = 0;

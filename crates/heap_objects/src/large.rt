@@ -30,7 +30,8 @@ pub(crate) fn large_numbers<A: Allocator + Clone>(
     small: u32,
 ) -> Result<(Vec<u32, A>, u32), AllocError>
     requires few { small ≤ 65535 * 512 }
-    ensures each { IfOk result (λ r. (n : ℕ) → n < length r.0.items → slice_index r.0.items n ≡ small + young_before g large.now.slots n) }
+    ensures each { IfOk result (λ r. (n : ℕ) → n < length r.0.items →
+        slice_index r.0.items n ≡ small + young_before g large.now.slots n) }
     ensures covers { IfOk result (λ r. CoversYoungLarge g large.now.slots (length r.0.items)) }
     ensures all { IfOk result (λ r. r.1 ≡ small + young_before g large.now.slots (length large.now.slots)) }
 {

@@ -85,7 +85,8 @@ impl<A: Allocator + Clone> HeapObjects<A> {
         requires mutator { mutator < self.old.config.mutators }
         requires small { 1 + pointers + plain_words ≤ self.old.config.block_words / 4 }
         ensures room { IsSome result ↔ IsSome (room_in self.old mutator (1 + pointers + plain_words)) }
-        ensures some { IfSome result (λ place. AllocatesSmall self.old mutator pointers plain_words (place_word place) self.new) }
+        ensures some { IfSome result
+            (λ place. AllocatesSmall self.old mutator pointers plain_words (place_word place) self.new) }
         ensures none { IfNone result (self.new ≡ self.old) }
     {
         let place = self.space.allocate(mutator, pointers, plain_words);
@@ -108,7 +109,8 @@ impl<A: Allocator + Clone> HeapObjects<A> {
         requires plain { plain_words ≤ 100000 }
         requires large { self.old.config.block_words / 4 < 1 + pointers + plain_words }
         ensures ok { IfOk result (λ place. AllocatesLarge self.old pointers plain_words (place_word place) self.new) }
-        ensures full { (result ≡ Err GrantError.HeapFull) ↔ (length self.old.free < wanted self.old.config pointers plain_words) }
+        ensures full { (result ≡ Err GrantError.HeapFull) ↔
+            (length self.old.free < wanted self.old.config pointers plain_words) }
         ensures err { OnErr result (self.new ≡ self.old) }
     {
         if self.space.free_count() < self.wanted(pointers, plain_words) {
@@ -181,7 +183,10 @@ impl<A: Allocator + Clone> HeapObjects<A> {
     pub fn set_pointer(&mut self, place: Place, i: usize, target: Option<Place>)
         requires { IsSomeAnd (get self.old.objects (place_word place)) (λ o. i < length o.pointers) }
         ensures { (o : Object) → get self.old.objects (place_word place) ≡ Some o
-            → self.new ≡ record self.old { objects = insert self.old.objects (place_word place) (with_pointer o i (option_map place_word target)) } }
+            → self.new ≡ record self.old {
+              objects = insert self.old.objects (place_word place)
+                  (with_pointer o i (option_map place_word target));
+            } }
     {
         match place {
             Place::Small(_) => {
@@ -196,7 +201,10 @@ impl<A: Allocator + Clone> HeapObjects<A> {
     pub fn set_plain(&mut self, place: Place, i: usize, word: u64)
         requires { IsSomeAnd (get self.old.objects (place_word place)) (λ o. i < length o.plain) }
         ensures { (o : Object) → get self.old.objects (place_word place) ≡ Some o
-            → self.new ≡ record self.old { objects = insert self.old.objects (place_word place) (record o { plain = slice_set o.plain i word }) } }
+            → self.new ≡ record self.old {
+              objects = insert self.old.objects (place_word place)
+                  (record o { plain = slice_set o.plain i word });
+            } }
     {
         match place {
             Place::Small(_) => {
@@ -216,8 +224,10 @@ impl<A: Allocator + Clone> HeapObjects<A> {
 
     /// How many large objects there are, and how many words they take.
     pub fn count_large(&self) -> LargeCount
-        ensures objects { result.objects ≡ length (filter (is_large self.now.config.block_words) (values self.now.objects)) }
-        ensures words { result.words ≡ sum_by size_of (filter (is_large self.now.config.block_words) (values self.now.objects)) }
+        ensures objects { result.objects ≡
+            length (filter (is_large self.now.config.block_words) (values self.now.objects)) }
+        ensures words { result.words ≡
+            sum_by size_of (filter (is_large self.now.config.block_words) (values self.now.objects)) }
     {
         count_large(&self.large)
     }
@@ -299,10 +309,13 @@ impl<A: Allocator + Clone> HeapObjects<A> {
     ) -> (ObjectRef<'_>, StepId, Option<u32>)
         requires numbering { IsNumbering (graph_in self.now) g numbering.now }
         requires there { IsSome (get self.now.objects (large_word number.number)) }
-        ensures object { IsSomeAnd (get self.now.objects (large_word number.number)) (λ o. IsShownAs o (raw_of result.0)) }
-        ensures step { Some (step_pair result.1) ≡ option_map stands_at (get self.now.objects (large_word number.number)) }
+        ensures object { IsSomeAnd (get self.now.objects (large_word number.number))
+            (λ o. IsShownAs o (raw_of result.0)) }
+        ensures step { Some (step_pair result.1) ≡
+            option_map stands_at (get self.now.objects (large_word number.number)) }
         ensures number { MatchOption result.2 (IsYoung (graph_in self.now) g (large_word number.number) → ⊥)
-            (λ n. IsYoung (graph_in self.now) g (large_word number.number) × IsNumbered self.now g (large_word number.number) n) }
+            (λ n. IsYoung (graph_in self.now) g (large_word number.number) ×
+            IsNumbered self.now g (large_word number.number) n) }
     {
         let Some(object) = self.large.get(number) else {
             unreachable!();
@@ -331,7 +344,8 @@ impl<A: Allocator + Clone> HeapObjects<A> {
         ensures object { IsSomeAnd (get self.now.objects (place_word place)) (λ o. IsShownAs o (raw_of result.0)) }
         ensures step { Some (step_pair result.1) ≡ option_map stands_at (get self.now.objects (place_word place)) }
         ensures number { MatchOption result.2 (IsYoung (graph_in self.now) generation (place_word place) → ⊥)
-            (λ n. IsYoung (graph_in self.now) generation (place_word place) × IsNumbered self.now generation (place_word place) n) }
+            (λ n. IsYoung (graph_in self.now) generation (place_word place) ×
+            IsNumbered self.now generation (place_word place) n) }
     {
         match place {
             Place::Small(_) => self.space.find(numbering.blocks(), generation, place),

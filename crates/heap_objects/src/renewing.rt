@@ -28,7 +28,10 @@ fn renew_one<A: Allocator + Clone>(
         → (number.number < length numbers.now) × (slice_index numbers.now number.number < length places.now) }
     ensures apart { AreApart space.new large.new }
     ensures space { space.new ≡ record space.old { free = space.new.free } }
-    ensures this { large_at large.new number.number ≡ option_and_then (renewed space.old.config.shape g (is_some (slice_index_or places.now (slice_index numbers.now number.number) None))) (large_at large.old number.number) }
+    ensures this { large_at large.new number.number ≡
+        option_and_then (renewed space.old.config.shape g
+        (is_some (slice_index_or places.now (slice_index numbers.now number.number) None)))
+        (large_at large.old number.number) }
     ensures others { (other : ℕ) → other ≢ number.number → large_at large.new other ≡ large_at large.old other }
 {
     let Some((generation, step)) = large.step_of(number) else {
@@ -63,7 +66,10 @@ pub(crate) fn renew<A: Allocator + Clone>(
     requires numbers { CoversNumbers g large.old.slots numbers.now (length places.now) }
     ensures apart { AreApart space.new large.new }
     ensures space { space.new ≡ record space.old { free = space.new.free } }
-    ensures each { (n : ℕ) → large_at large.new n ≡ option_and_then (renewed space.old.config.shape g (is_some (slice_index_or places.now (slice_index numbers.now n) None))) (large_at large.old n) }
+    ensures each { (n : ℕ) →
+        large_at large.new n ≡
+        option_and_then (renewed space.old.config.shape g
+        (is_some (slice_index_or places.now (slice_index numbers.now n) None))) (large_at large.old n) }
 {
     let mut from = 0;
     while let Some(number) = large.next_from(from) {

@@ -51,7 +51,8 @@ pub fn write_census<A: Allocator, W: Sink>(
     ensures bytes { OnOk result (Appends (W.output writer.old) (W.output writer.new) (census_text census.now)) }
     ensures ok { OnOk result (W.failed_writes writer.new ≡ W.failed_writes writer.old) }
     ensures memory { IsErrOf result WriteError.NoMemory → writer.new ≡ writer.old }
-    ensures failed { IsErrOf result WriteError.WriteFailed → W.failed_writes writer.new ≡ W.failed_writes writer.old + 1 }
+    ensures failed { IsErrOf result WriteError.WriteFailed →
+        W.failed_writes writer.new ≡ W.failed_writes writer.old + 1 }
 {
     let text = text_of(alloc, census).map_err(|_| WriteError::NoMemory)?;
     write_all(writer, text.as_bytes()).map_err(|_| WriteError::WriteFailed)

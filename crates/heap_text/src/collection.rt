@@ -48,7 +48,9 @@ pub fn write_collection<W: Sink>(
     writer: &mut W,
 ) -> Result<(), WriteFailed>
     requires { W.failed_writes writer.old < 2 ^ 64 - 1 }
-    ensures bytes { OnOk result (Appends (W.output writer.old) (W.output writer.new) (collection_line (cause_word cause) generation kept freed)) }
+    ensures bytes { OnOk result
+        (Appends (W.output writer.old) (W.output writer.new)
+        (collection_line (cause_word cause) generation kept freed)) }
     ensures ok { OnOk result (W.failed_writes writer.new ≡ W.failed_writes writer.old) }
     ensures failed { OnErr result (W.failed_writes writer.new ≡ W.failed_writes writer.old + 1) }
 {

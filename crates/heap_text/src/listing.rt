@@ -50,7 +50,8 @@ fn push_pointer<A: Allocator + Clone>(
     word: u64,
 ) -> io::Result<()>
     requires all { HasAllObjects heap.now all.now }
-    requires numbering { IsNumbering heap.now all.now.generation numbering.now.numbers.items (map place_word numbering.now.places.items) }
+    requires numbering { IsNumbering heap.now all.now.generation numbering.now.numbers.items
+        (map place_word numbering.now.places.items) }
     requires leads { LeadsToNumbered (map place_word numbering.now.places.items) (target_of_word word) }
     ensures { OnOk result (text.new.items ≡ text.old.items
         ++ pointer_text (map place_word numbering.now.places.items) (target_of_word word)) }
@@ -73,10 +74,13 @@ fn push_pointers<A: Allocator + Clone>(
     pointers: &[u64],
 ) -> io::Result<()>
     requires all { HasAllObjects heap.now all.now }
-    requires numbering { IsNumbering heap.now all.now.generation numbering.now.numbers.items (map place_word numbering.now.places.items) }
-    requires lead { All (λ word. LeadsToNumbered (map place_word numbering.now.places.items) (target_of_word word)) pointers.now }
+    requires numbering { IsNumbering heap.now all.now.generation numbering.now.numbers.items
+        (map place_word numbering.now.places.items) }
+    requires lead { All (λ word. LeadsToNumbered (map place_word numbering.now.places.items) (target_of_word word))
+        pointers.now }
     ensures { OnOk result (text.new.items ≡ text.old.items
-        ++ join_with_byte 32 (map (pointer_text (map place_word numbering.now.places.items)) (map target_of_word pointers.now))) }
+        ++ join_with_byte 32
+        (map (pointer_text (map place_word numbering.now.places.items)) (map target_of_word pointers.now))) }
 {
     for (i, word) in pointers.iter().enumerate() {
         if i > 0 {
@@ -109,11 +113,13 @@ fn push_object<A: Allocator + Clone>(
     place: Place,
 ) -> io::Result<()>
     requires all { HasAllObjects heap.now all.now }
-    requires numbering { IsNumbering heap.now all.now.generation numbering.now.numbers.items (map place_word numbering.now.places.items) }
+    requires numbering { IsNumbering heap.now all.now.generation numbering.now.numbers.items
+        (map place_word numbering.now.places.items) }
     requires closed { IsClosedOrder heap.now.graph (map place_word numbering.now.places.items) }
     requires has { IsTrue (has (map place_word numbering.now.places.items) (place_word place)) }
     ensures { OnOk result (text.new.items ≡ text.old.items
-        ++ object_line (map place_word numbering.now.places.items) (place_word place) (object_at heap.now.graph (place_word place))) }
+        ++ object_line (map place_word numbering.now.places.items) (place_word place)
+        (object_at heap.now.graph (place_word place))) }
 {
     let object = heap.object(place).unwrap();
     let stands = heap.step_of(place).unwrap();
@@ -135,10 +141,12 @@ fn push_objects<A: Allocator + Clone>(
     numbering: &Numbering<A>,
 ) -> io::Result<()>
     requires all { HasAllObjects heap.now all.now }
-    requires numbering { IsNumbering heap.now all.now.generation numbering.now.numbers.items (map place_word numbering.now.places.items) }
+    requires numbering { IsNumbering heap.now all.now.generation numbering.now.numbers.items
+        (map place_word numbering.now.places.items) }
     requires closed { IsClosedOrder heap.now.graph (map place_word numbering.now.places.items) }
     ensures { OnOk result (text.new.items ≡ text.old.items
-        ++ flat_map (λ name. object_line (map place_word numbering.now.places.items) name (object_at heap.now.graph name)) (map place_word numbering.now.places.items)) }
+        ++ flat_map (λ name. object_line (map place_word numbering.now.places.items) name
+        (object_at heap.now.graph name)) (map place_word numbering.now.places.items)) }
 {
     for place in &numbering.places {
         push_object(text, heap, all, numbering, *place)?;
@@ -155,11 +163,14 @@ fn push_root<A: Allocator + Clone>(
     name: Name<'_>,
 ) -> io::Result<()>
     requires all { HasAllObjects heap.now all.now }
-    requires numbering { IsNumbering heap.now all.now.generation numbering.now.numbers.items (map place_word numbering.now.places.items) }
+    requires numbering { IsNumbering heap.now all.now.generation numbering.now.numbers.items
+        (map place_word numbering.now.places.items) }
     requires rooted { IsSome (root_at heap.now.graph name.root.number) }
-    requires named { IsTrue (has (map place_word numbering.now.places.items) (unwrap_or (root_at heap.now.graph name.root.number) 0)) }
+    requires named { IsTrue
+        (has (map place_word numbering.now.places.items) (unwrap_or (root_at heap.now.graph name.root.number) 0)) }
     ensures { OnOk result (text.new.items ≡ text.old.items
-        ++ root_line (map place_word numbering.now.places.items) (object_of_name heap.now.graph (name_value name.entry))) }
+        ++ root_line (map place_word numbering.now.places.items)
+        (object_of_name heap.now.graph (name_value name.entry))) }
 {
     let place = heap.target(name.root).unwrap();
     let number = numbering.number(heap, all, place);
@@ -177,12 +188,14 @@ fn push_roots<A: Allocator + Clone>(
     names: &[Name<'_>],
 ) -> io::Result<()>
     requires all { HasAllObjects heap.now all.now }
-    requires numbering { IsNumbering heap.now all.now.generation numbering.now.numbers.items (map place_word numbering.now.places.items) }
+    requires numbering { IsNumbering heap.now all.now.generation numbering.now.numbers.items
+        (map place_word numbering.now.places.items) }
     requires rooted { All (λ name. IsSome (root_at heap.now.graph name.root.number)) names.now }
     requires named { All (λ name. IsTrue (has (map place_word numbering.now.places.items)
         (unwrap_or (root_at heap.now.graph name.root.number) 0))) names.now }
     ensures { OnOk result (text.new.items ≡ text.old.items
-        ++ flat_map (root_line (map place_word numbering.now.places.items)) (named_objects heap.now.graph (map name_value names.now))) }
+        ++ flat_map (root_line (map place_word numbering.now.places.items))
+        (named_objects heap.now.graph (map name_value names.now))) }
 {
     for name in names {
         push_root(text, heap, all, numbering, *name)?;
@@ -229,10 +242,12 @@ pub fn write_heap<A: Allocator + Clone, W: Sink>(
 ) -> Result<(), WriteError>
     requires countable { W.failed_writes writer.old < 2 ^ 64 - 1 }
     requires rooted { All (λ name. IsSome (root_at heap.now.graph name.root.number)) names.now }
-    ensures bytes { OnOk result (Appends (W.output writer.old) (W.output writer.new) (heap_lines heap.now.graph (map name_value names.now))) }
+    ensures bytes { OnOk result
+        (Appends (W.output writer.old) (W.output writer.new) (heap_lines heap.now.graph (map name_value names.now))) }
     ensures ok { OnOk result (W.failed_writes writer.new ≡ W.failed_writes writer.old) }
     ensures memory { IsErrOf result WriteError.NoMemory → writer.new ≡ writer.old }
-    ensures failed { IsErrOf result WriteError.WriteFailed → W.failed_writes writer.new ≡ W.failed_writes writer.old + 1 }
+    ensures failed { IsErrOf result WriteError.WriteFailed →
+        W.failed_writes writer.new ≡ W.failed_writes writer.old + 1 }
 {
     let text = text_of(alloc, heap, names).map_err(|_| WriteError::NoMemory)?;
     write_all(writer, text.as_slice()).map_err(|_| WriteError::WriteFailed)

@@ -49,9 +49,12 @@ impl<A: Allocator + Clone> Numbering<A> {
     fn add(&mut self, heap: &Heap<A>, all: &Collection<A>, place: Place) -> Result<(), AllocError>
         requires all { HasAllObjects heap.now all.now }
         requires there { IsSome (object_at heap.now.graph (place_word place)) }
-        requires numbering { IsNumbering heap.now all.now.generation self.old.numbers.items (map place_word self.old.places.items) }
-        ensures numbering { OnOk result (IsNumbering heap.now all.now.generation self.new.numbers.items (map place_word self.new.places.items)) }
-        ensures order { OnOk result (map place_word self.new.places.items ≡ visited (map place_word self.old.places.items) (place_word place)) }
+        requires numbering { IsNumbering heap.now all.now.generation self.old.numbers.items
+            (map place_word self.old.places.items) }
+        ensures numbering { OnOk result
+            (IsNumbering heap.now all.now.generation self.new.numbers.items (map place_word self.new.places.items)) }
+        ensures order { OnOk result
+            (map place_word self.new.places.items ≡ visited (map place_word self.old.places.items) (place_word place)) }
     {
         let index = heap.number_of(all, place) as usize;
         if self.numbers[index].is_some() {
@@ -71,8 +74,10 @@ impl<A: Allocator + Clone> Numbering<A> {
     ) -> Result<(), AllocError>
         requires all { HasAllObjects heap.now all.now }
         requires lead { All (λ word. LeadsInto heap.now.graph (target_of_word word)) pointers.now }
-        requires numbering { IsNumbering heap.now all.now.generation self.old.numbers.items (map place_word self.old.places.items) }
-        ensures numbering { OnOk result (IsNumbering heap.now all.now.generation self.new.numbers.items (map place_word self.new.places.items)) }
+        requires numbering { IsNumbering heap.now all.now.generation self.old.numbers.items
+            (map place_word self.old.places.items) }
+        ensures numbering { OnOk result
+            (IsNumbering heap.now all.now.generation self.new.numbers.items (map place_word self.new.places.items)) }
         ensures order { OnOk result (map place_word self.new.places.items
             ≡ visited_all (map place_word self.old.places.items) (flat_map some_of (map target_of_word pointers.now))) }
     {
@@ -87,10 +92,13 @@ impl<A: Allocator + Clone> Numbering<A> {
     /// Gives numbers to what the objects that have one lead to, breadth first.
     fn spread(&mut self, heap: &Heap<A>, all: &Collection<A>) -> Result<(), AllocError>
         requires all { HasAllObjects heap.now all.now }
-        requires numbering { IsNumbering heap.now all.now.generation self.old.numbers.items (map place_word self.old.places.items) }
-        ensures numbering { OnOk result (IsNumbering heap.now all.now.generation self.new.numbers.items (map place_word self.new.places.items)) }
+        requires numbering { IsNumbering heap.now all.now.generation self.old.numbers.items
+            (map place_word self.old.places.items) }
+        ensures numbering { OnOk result
+            (IsNumbering heap.now all.now.generation self.new.numbers.items (map place_word self.new.places.items)) }
         ensures order { OnOk result (map place_word self.new.places.items
-            ≡ spread (targets_at (object_at heap.now.graph)) (len heap.now.graph.objects) [] (map place_word self.old.places.items)) }
+            ≡ spread (targets_at (object_at heap.now.graph)) (len heap.now.graph.objects) []
+            (map place_word self.old.places.items)) }
     {
         let mut done = 0;
         while done < self.places.len() && done < self.numbers.len() {
@@ -104,7 +112,8 @@ impl<A: Allocator + Clone> Numbering<A> {
     /// The number of the object at a place.
     pub(crate) fn number(&self, heap: &Heap<A>, all: &Collection<A>, place: Place) -> usize
         requires all { HasAllObjects heap.now all.now }
-        requires numbering { IsNumbering heap.now all.now.generation self.now.numbers.items (map place_word self.now.places.items) }
+        requires numbering { IsNumbering heap.now all.now.generation self.now.numbers.items
+            (map place_word self.now.places.items) }
         requires has { IsTrue (has (map place_word self.now.places.items) (place_word place)) }
         ensures { result ≡ number_of (map place_word self.now.places.items) (place_word place) }
     {
@@ -122,9 +131,12 @@ pub(crate) fn number_objects<A: Allocator + Clone>(
 ) -> Result<Numbering<A>, AllocError>
     requires all { HasAllObjects heap.now all.now }
     requires rooted { All (λ name. IsSome (root_at heap.now.graph name.root.number)) names.now }
-    ensures numbering { IfOk result (λ numbering. IsNumbering heap.now all.now.generation numbering.numbers.items (map place_word numbering.places.items)) }
+    ensures numbering { IfOk result
+        (λ numbering. IsNumbering heap.now all.now.generation numbering.numbers.items
+        (map place_word numbering.places.items)) }
     ensures order { IfOk result (λ numbering. map place_word numbering.places.items
-        ≡ numbered (object_at heap.now.graph) (len heap.now.graph.objects) (named_objects heap.now.graph (map name_value names.now))) }
+        ≡ numbered (object_at heap.now.graph) (len heap.now.graph.objects)
+        (named_objects heap.now.graph (map name_value names.now))) }
     ensures closed { IfOk result (λ numbering. IsClosedOrder heap.now.graph (map place_word numbering.places.items)) }
     ensures named { IfOk result (λ numbering. All (λ name. IsTrue (has (map place_word numbering.places.items)
         (unwrap_or (root_at heap.now.graph name.root.number) 0))) names.now) }

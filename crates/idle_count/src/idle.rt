@@ -87,7 +87,8 @@ fn deal<A: Allocator, B: Allocator>(
     requires parts { first.me ≡ (share count count 0 0 0, []) }
     requires seats { seats.items ≡ [] }
     ensures count { IfOk result (λ all. length all.items ≡ count) }
-    ensures seats { IfOk result (λ all. All (λ s. s ≡ busy (record { name = table.now.shared.table_id; seats = count })) all.items) }
+    ensures seats { IfOk result
+        (λ all. All (λ s. s ≡ busy (record { name = table.now.shared.table_id; seats = count })) all.items) }
 {
     for _ in 0..count {
         let seat = table.shared.split_seat::<Deal>(&mut first);

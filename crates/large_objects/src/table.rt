@@ -66,9 +66,17 @@ impl<A: Allocator + Clone> LargeTable<A> {
         requires words_to { block_words ≤ 512 }
         requires blocks { ArePoolBlocks self.old pool.old }
         ensures number { IfOk result (λ of. of.number ≡ self.old.next) }
-        ensures added { IfOk result (λ of. IsAdded self.old self.new of.number (made pointers plain_words (take (block_count (size_of pointers plain_words) block_words) pool.old.free))) }
-        ensures granted { OnOk result (pool.new ≡ record pool.old { free = drop (block_count (size_of pointers plain_words) block_words) pool.old.free }) }
-        ensures full { (result ≡ Err GrantError.HeapFull) ↔ (length pool.old.free < block_count (size_of pointers plain_words) block_words) }
+        ensures added { IfOk result
+            (λ of. IsAdded self.old self.new of.number
+            (made pointers plain_words
+            (take (block_count (size_of pointers plain_words) block_words) pool.old.free))) }
+        ensures granted { OnOk result
+            (pool.new ≡ record pool.old {
+              free = drop
+                  (block_count (size_of pointers plain_words) block_words) pool.old.free;
+            }) }
+        ensures full { (result ≡ Err GrantError.HeapFull) ↔
+            (length pool.old.free < block_count (size_of pointers plain_words) block_words) }
         ensures table_kept { OnErr result (self.new ≡ self.old) }
         ensures pool_kept { OnErr result (pool.new ≡ pool.old) }
         ensures pool_blocks { ArePoolBlocks self.new pool.new }
@@ -138,9 +146,11 @@ impl<A: Allocator> LargeTable<A> {
     /// Changes pointer `i` of an object. It takes no memory.
     pub fn set_pointer(&mut self, number: LargeNumber, i: usize, word: u64)
         requires in_use { InUse self.old number.number }
-        requires field { (object : LargeObject) → large_at self.old number.number ≡ Some object → i < length object.raw.pointers }
+        requires field { (object : LargeObject) → large_at self.old number.number ≡ Some object →
+            i < length object.raw.pointers }
         ensures changed { (object : LargeObject) → large_at self.old number.number ≡ Some object
-            → self.new ≡ with_object self.old number.number (record object { raw = with_pointer_word object.raw i word }) }
+            → self.new ≡ with_object self.old number.number
+            (record object { raw = with_pointer_word object.raw i word }) }
         ensures pool_blocks { (pool : PoolValue) → ArePoolBlocks self.old pool → ArePoolBlocks self.new pool }
     {
         let object = &mut self.slab[number.number as usize];
@@ -150,9 +160,11 @@ impl<A: Allocator> LargeTable<A> {
     /// Changes plain word `i` of an object. It takes no memory.
     pub fn set_plain(&mut self, number: LargeNumber, i: usize, word: u64)
         requires in_use { InUse self.old number.number }
-        requires field { (object : LargeObject) → large_at self.old number.number ≡ Some object → i < length object.raw.plain }
+        requires field { (object : LargeObject) → large_at self.old number.number ≡ Some object →
+            i < length object.raw.plain }
         ensures changed { (object : LargeObject) → large_at self.old number.number ≡ Some object
-            → self.new ≡ with_object self.old number.number (record object { raw = with_plain_word object.raw i word }) }
+            → self.new ≡ with_object self.old number.number
+            (record object { raw = with_plain_word object.raw i word }) }
         ensures pool_blocks { (pool : PoolValue) → ArePoolBlocks self.old pool → ArePoolBlocks self.new pool }
     {
         let object = &mut self.slab[number.number as usize];
@@ -162,9 +174,11 @@ impl<A: Allocator> LargeTable<A> {
     /// Changes all pointers of an object, in their order. It takes no memory.
     pub fn set_pointers(&mut self, number: LargeNumber, words: &[u64])
         requires in_use { InUse self.old number.number }
-        requires as_many { (object : LargeObject) → large_at self.old number.number ≡ Some object → length words.now ≡ length object.raw.pointers }
+        requires as_many { (object : LargeObject) → large_at self.old number.number ≡ Some object →
+            length words.now ≡ length object.raw.pointers }
         ensures changed { (object : LargeObject) → large_at self.old number.number ≡ Some object
-            → self.new ≡ with_object self.old number.number (record object { raw = record object.raw { pointers = words.now } }) }
+            → self.new ≡ with_object self.old number.number
+            (record object { raw = record object.raw { pointers = words.now } }) }
         ensures pool_blocks { (pool : PoolValue) → ArePoolBlocks self.old pool → ArePoolBlocks self.new pool }
     {
         let object = &mut self.slab[number.number as usize];
@@ -187,7 +201,8 @@ impl<A: Allocator> LargeTable<A> {
         requires in_use { InUse self.old number.number }
         requires blocks { ArePoolBlocks self.old pool.old }
         ensures removed { self.new ≡ without_object self.old number.number }
-        ensures free { (n : ℕ) → has pool.new.free n ≡ (has (blocks_at self.old number.number) n || has pool.old.free n) }
+        ensures free { (n : ℕ) →
+            has pool.new.free n ≡ (has (blocks_at self.old number.number) n || has pool.old.free n) }
         ensures limit { pool.new.limit ≡ pool.old.limit }
         ensures pool_blocks { ArePoolBlocks self.new pool.new }
     {

@@ -22,7 +22,8 @@ pub(crate) fn carry_out<A: Allocator + Clone>(
     requires collection { collection.now ≡ workers.old.collection }
     requires lawful { IsLawful (setting_in workers.old) (system_of workers.old) (event_of event) }
     ensures ok { OnOk result (Goes (event_of event) workers.old workers.new) }
-    ensures full { result ≡ Err LookError.HeapFull → IsRefused (setting_in workers.old) (system_of workers.old) (event_of event) }
+    ensures full { result ≡ Err LookError.HeapFull →
+        IsRefused (setting_in workers.old) (system_of workers.old) (event_of event) }
     ensures err { OnErr result (Stays workers.old workers.new) }
 {
     match event {

@@ -14,7 +14,8 @@ impl<'a, A: Allocator + Clone> Machine<'a, A> {
     /// memory ran out.
     pub fn settle(self) -> Result<Settled<A>, SettleError>
         ensures ended { (result ≡ Err SettleError.NotEnded) ↔ ¬ AllEnded self.entry.system }
-        ensures ok { IfOk result (λ s. Settles self.entry s.collection s.places s.blocks.items s.workers.items s.deliveries.items) }
+        ensures ok { IfOk result
+            (λ s. Settles self.entry s.collection s.places s.blocks.items s.workers.items s.deliveries.items) }
         // What holds of every machine.
         ensures reached { OnOk result (HasReached self.entry) }
     {

@@ -35,7 +35,8 @@ impl<'a, A: Allocator + Clone> Machine<'a, A> {
     pub fn open(alloc: A, heap: &'a Heap<A>, generation: u64, n: u32) -> Result<Self, MachineError>
         ensures ok { IfOk result (λ m. Opens heap.now generation n m) }
         ensures config { (result ≡ Err MachineError.BadConfig) ↔ ((n ≡ 0) ⊎ (16 < n)) }
-        ensures generation { (result ≡ Err MachineError.NoGeneration) ↔ ((0 < n) × (n ≤ 16) × (heap.now.config.shape.generations ≤ generation)) }
+        ensures generation { (result ≡ Err MachineError.NoGeneration) ↔
+            ((0 < n) × (n ≤ 16) × (heap.now.config.shape.generations ≤ generation)) }
     {
         if n == 0 || n > 16 {
             return Err(MachineError::BadConfig);

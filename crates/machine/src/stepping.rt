@@ -51,9 +51,11 @@ impl<'a, A: Allocator + Clone> Machine<'a, A> {
     /// that memory ran out; nothing came then.
     pub fn step(&mut self, event: Event) -> Result<(), StepError>
         ensures ok { OnOk result (Comes (event_of event) self.old self.new) }
-        ensures unlawful { (result ≡ Err StepError.NotLawful) ↔ ¬ IsLawful (setting_in self.old) self.old.system (event_of event) }
+        ensures unlawful { (result ≡ Err StepError.NotLawful) ↔
+            ¬ IsLawful (setting_in self.old) self.old.system (event_of event) }
         ensures full { result ≡ Err StepError.HeapFull → IsFullForEvent (event_of event) self.old }
-        ensures memory { result ≡ Err StepError.NoMemory → IsLawful (setting_in self.old) self.old.system (event_of event) }
+        ensures memory { result ≡ Err StepError.NoMemory →
+            IsLawful (setting_in self.old) self.old.system (event_of event) }
         ensures err { OnErr result (self.new ≡ self.old) }
     {
         if !self.lawful(event) {

@@ -122,9 +122,11 @@ impl Nursery {
     ) -> Result<Place, NurseryFull>
         requires { IsSmallIn self.old table.old (1 + pointers + plain_words) }
         ensures ok { (words : ℕ) → IsNursery words self.old table.old
-            → IfOk result (λ place. Pushes words self.old table.old pointers plain_words (place_word place) self.new table.new) }
+            → IfOk result (λ place. Pushes words self.old table.old pointers plain_words
+            (place_word place) self.new table.new) }
         ensures full { (words : ℕ) → IsNursery words self.old table.old
-            → (IsErr result ↔ (room_after words (nursery_room self.old table.old) (1 + pointers + plain_words) ≡ None)) }
+            → (IsErr result ↔ (room_after words (nursery_room self.old table.old) (1 + pointers + plain_words) ≡
+            None)) }
         ensures err { OnErr result ((self.new ≡ self.old) × (table.new ≡ table.old)) }
     {
         let size = 1 + pointers as usize + plain_words as usize;

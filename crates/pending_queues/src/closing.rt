@@ -42,7 +42,8 @@ impl<C: Cargo, A: Allocator> RuledPending<C, A> {
         requires last { IsSeatOf self.now last }
         ensures lanes { map (λ p. p.lane) result.passes.items ≡ self.now.lanes }
         ensures tallies { map (λ m. m.name) result.marks.items ≡ self.now.tallies }
-        ensures passes { AreGathered self.now.key (length self.now.lanes) (seats.items ++ last ∷ []) result.passes.items }
+        ensures passes { AreGathered self.now.key (length self.now.lanes)
+            (seats.items ++ last ∷ []) result.passes.items }
         ensures marks { AtEach (λ u m. IsGatheredMark (seats.items ++ last ∷ []) u m) result.marks.items }
     {
         let Shares {

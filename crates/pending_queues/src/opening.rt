@@ -62,8 +62,10 @@ impl<C: Cargo, A: Allocator> RuledPending<C, A> {
     ) -> Result<Vec<LanePass<C::Key, A>, A>, AllocError>
         requires index { index < length self.now.lanes }
         requires roots { AreRoots self.now.key self.now.lanes (length self.now.lanes) index roots.old.items }
-        ensures roots { OnOk result (AreRoots self.now.key self.now.lanes (length self.now.lanes) (index + 1) roots.new.items) }
-        ensures passes { IfOk result (λ r. AreNewPasses self.now.key self.now.lanes (length self.now.lanes) index r.items) }
+        ensures roots { OnOk result
+            (AreRoots self.now.key self.now.lanes (length self.now.lanes) (index + 1) roots.new.items) }
+        ensures passes { IfOk result
+            (λ r. AreNewPasses self.now.key self.now.lanes (length self.now.lanes) index r.items) }
     {
         let mut passes = Vec::with_capacity(alloc, self.lanes.len())?;
         for at in 0..self.lanes.len() {

@@ -80,7 +80,8 @@ impl<C: Cargo, A: Allocator> RuledPending<C, A> {
         requires seat { IsSeatOf self.now seat.old }
         requires fact { C.fits self.now.key (next_export seat.old block) }
         ensures of { IsSeatOf self.now seat.new }
-        ensures sent { MatchResult result (λ _. seat.new ≡ after_export seat.old block) (λ e. (e.0 ≡ block) × (seat.new ≡ seat.old)) }
+        ensures sent { MatchResult result (λ _. seat.new ≡ after_export seat.old block) (λ e. (e.0 ≡ block) ×
+            (seat.new ≡ seat.old)) }
     {
         if seat.sizes.reserve(1).is_err() {
             return Err((block, AllocError));
@@ -115,8 +116,10 @@ impl<C: Cargo, A: Allocator> RuledPending<C, A> {
             (λ _. seat.new ≡ seat.old) }
         ensures label { IfOk result (λ r. IfSome r (λ b. b.sent ≡ Some (exporter, position_of b))) }
         ensures fact { IfOk result (λ r. IfSome r (λ b. C.fits self.now.key b)) }
-        ensures rises { IfOk result (λ r. IfSome r (λ b. All (λ t. (p : ℕ) → t.sent ≡ Some (exporter, p) → p < position_of b) seat.old.taken)) }
-        ensures own { IfOk result (λ r. IfSome r (λ b. exporter ≡ seat.old.index → slice_get seat.old.sent (position_of b) ≡ Some b)) }
+        ensures rises { IfOk result
+            (λ r. IfSome r (λ b. All (λ t. (p : ℕ) → t.sent ≡ Some (exporter, p) → p < position_of b) seat.old.taken)) }
+        ensures own { IfOk result
+            (λ r. IfSome r (λ b. exporter ≡ seat.old.index → slice_get seat.old.sent (position_of b) ≡ Some b)) }
     {
         seat.log.reserve(1)?;
         seat.taken.reserve(1)?;
@@ -133,7 +136,8 @@ impl<C: Cargo, A: Allocator> RuledPending<C, A> {
     /// Whether each export of the seat was taken, for good.
     fn is_cleared(&self, seat: &mut PendingSeat<C, A>) -> bool
         requires seat { IsSeatOf self.now seat.old }
-        ensures { MatchBool result (seat.new ≡ record seat.old { cleared = length seat.old.sent }) (seat.new ≡ seat.old) }
+        ensures { MatchBool result (seat.new ≡ record seat.old { cleared = length seat.old.sent })
+            (seat.new ≡ seat.old) }
     {
         let own = seat.index as usize;
         let count = self.tallies[own].read(&mut seat.marks[own]);
@@ -162,10 +166,12 @@ impl<C: Cargo, A: Allocator> RuledPending<C, A> {
         // The block has its label, meets the fact, and its position is above those that the seat took from there before.
         ensures label { IfOk result (λ r. IfSome r (λ b. b.sent ≡ Some (exporter, position_of b))) }
         ensures fact { IfOk result (λ r. IfSome r (λ b. C.fits self.now.key b)) }
-        ensures rises { IfOk result (λ r. IfSome r (λ b. All (λ t. (p : ℕ) → t.sent ≡ Some (exporter, p) → p < position_of b) seat.old.taken)) }
+        ensures rises { IfOk result
+            (λ r. IfSome r (λ b. All (λ t. (p : ℕ) → t.sent ≡ Some (exporter, p) → p < position_of b) seat.old.taken)) }
 
         // A block of its own is the one that it exported there.
-        ensures own { IfOk result (λ r. IfSome r (λ b. exporter ≡ seat.old.index → slice_get seat.old.sent (position_of b) ≡ Some b)) }
+        ensures own { IfOk result
+            (λ r. IfSome r (λ b. exporter ≡ seat.old.index → slice_get seat.old.sent (position_of b) ≡ Some b)) }
     {
         let backoff = Backoff::new();
         for _ in rt.forever() {

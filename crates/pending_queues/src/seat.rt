@@ -74,10 +74,17 @@ impl<C: Cargo, A: Allocator + Clone> PendingSeat<C, A> {
         passes: Vec<LanePass<C::Key, A>, A>,
         marks: Vec<TallySeat, A>,
     ) -> Result<PendingSeat<C, A>, AllocError>
-        requires passes { AreNewPasses key.now (map (λ p. p.lane) passes.items) (length passes.items) index passes.items }
+        requires passes { AreNewPasses key.now (map (λ p. p.lane) passes.items)
+            (length passes.items) index passes.items }
         requires marks { marks.items ≡ map unraised (map (λ m. m.name) marks.items) }
         requires many { length marks.items ≡ length passes.items }
-        ensures { IfOk result (λ s. s ≡ new_seat (record { key = key.now; lanes = map (λ p. p.lane) passes.items; tallies = map (λ m. m.name) marks.items }) index) }
+        ensures { IfOk result
+            (λ s. s ≡ new_seat (record {
+              key = key.now;
+              lanes = map (λ p. p.lane) passes.items;
+              tallies = map
+                  (λ m. m.name) marks.items;
+            }) index) }
     {
         let logs = Logs::empty(alloc)?;
         let Logs { sizes, log, taken } = logs;

@@ -29,7 +29,8 @@ pub(crate) fn gather_passes<C: Cargo, A: Allocator>(
     requires parts { All (λ p. 0 < p.parts) passes.old.items }
     requires other_parts { All (λ p. 0 < p.parts) others.items }
     ensures lanes { map (λ p. p.lane) passes.new.items ≡ lanes.now.items }
-    ensures both { (u : ℕ) (p q : PassValue A C.Key) → slice_get passes.old.items u ≡ Some p → slice_get others.items u ≡ Some q
+    ensures both { (u : ℕ) (p q : PassValue A C.Key) → slice_get passes.old.items u ≡ Some p →
+        slice_get others.items u ≡ Some q
         → slice_get passes.new.items u ≡ Some (both p q) }
 {
     while let Some(other) = others.pop() {
@@ -47,7 +48,8 @@ pub(crate) fn gather_marks<A: Allocator>(
     requires marks { map (λ m. m.name) marks.old.items ≡ map (λ t. t.name) tallies.now.items }
     requires others { map (λ m. m.name) others.items ≡ map (λ t. t.name) tallies.now.items }
     ensures tallies { map (λ m. m.name) marks.new.items ≡ map (λ t. t.name) tallies.now.items }
-    ensures both { (u : ℕ) (p q : TallySeatValue) → slice_get marks.old.items u ≡ Some p → slice_get others.items u ≡ Some q
+    ensures both { (u : ℕ) (p q : TallySeatValue) → slice_get marks.old.items u ≡ Some p →
+        slice_get others.items u ≡ Some q
         → slice_get marks.new.items u ≡ Some (both_seats p q) }
 {
     while let Some(other) = others.pop() {

@@ -62,7 +62,10 @@ impl<A: Allocator + Clone> Store<A> {
         generation: u64,
         step: u64,
     ) -> Result<(), AllocError>
-        ensures { OnOk result (string_bytes text.new ≡ string_bytes text.old ++ step_line (step_count config.now.block_words (present self.now) (generation, step))) }
+        ensures { OnOk result
+            (string_bytes text.new ≡
+            string_bytes text.old ++ step_line
+            (step_count config.now.block_words (present self.now) (generation, step))) }
     {
         let objects = self.count_in(config, Some((generation, step)));
         let words = self.words_in(config, Some((generation, step)));
@@ -73,7 +76,8 @@ impl<A: Allocator + Clone> Store<A> {
     }
 
     fn step_lines(&self, alloc: A, config: &Config) -> Result<String<A>, AllocError>
-        ensures { IfOk result (λ text. string_bytes text ≡ flat_map step_line (store_census config.now self.now).steps) }
+        ensures { IfOk result
+            (λ text. string_bytes text ≡ flat_map step_line (store_census config.now self.now).steps) }
     {
         let mut text = String::new(alloc.clone()?);
         for (generation, step) in all_steps(alloc, config.generations, config.steps)?.as_slice() {

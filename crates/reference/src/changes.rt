@@ -58,7 +58,8 @@ impl<A: Allocator + Clone> Store<A> {
         field: u64,
         target: Option<&[u8]>,
     ) -> Result<(), Kind>
-        ensures { IsSilent (carried _config.now self.old (meant.Set text.now field (target_of (λ x. x.now) target.entry))) self.old self.new result }
+        ensures { IsSilent (carried _config.now self.old
+            (meant.Set text.now field (target_of (λ x. x.now) target.entry))) self.old self.new result }
     {
         let name = self.named(text).ok_or(Kind::UnknownName)?;
         let object = self.object_at(name).ok_or(Kind::UnknownName)?;

@@ -21,7 +21,8 @@ impl<A: Allocator + Clone> Store<A> {
         text: &[u8],
         field: u64,
     ) -> Result<(), Refusal>
-        ensures { IsDone (carried _config.now self.old (meant.Get new_text.now text.now field)) self.old self.new result }
+        ensures { IsDone (carried _config.now self.old (meant.Get new_text.now text.now field)) self.old self.new
+            result }
     {
         if self.named(new_text).is_some() {
             return Err(Refusal::Fault(Kind::NameInUse));
@@ -101,7 +102,8 @@ impl<A: Allocator + Clone> Store<A> {
         requires unused { named self.old text.now ≡ None }
         requires pointers { p ≤ 100000 }
         requires plain { q ≤ 100000 }
-        ensures { IfOk result (λ line. Ok (self.new, string_bytes line) ≡ placed config.now text.now mutator p q self.old None) }
+        ensures { IfOk result
+            (λ line. Ok (self.new, string_bytes line) ≡ placed config.now text.now mutator p q self.old None) }
     {
         let line = self.collect(alloc.clone()?, config, "auto", 0)?;
         if let Some(room) = self.room_in(config, mutator, 1 + p + q) {
@@ -122,7 +124,9 @@ impl<A: Allocator + Clone> Store<A> {
         requires unused { named self.old text.now ≡ None }
         requires pointers { p ≤ 100000 }
         requires plain { q ≤ 100000 }
-        ensures { IfOk result (λ line. Ok (self.new, string_bytes line) ≡ placed config.now text.now mutator p q self.old (room_in config.now mutator (1 + p + q) self.old)) }
+        ensures { IfOk result
+            (λ line. Ok (self.new, string_bytes line) ≡
+            placed config.now text.now mutator p q self.old (room_in config.now mutator (1 + p + q) self.old)) }
     {
         match self.room_in(config, mutator, 1 + p + q) {
             Some(room) => {
@@ -145,7 +149,9 @@ impl<A: Allocator + Clone> Store<A> {
         requires unused { named self.old text.now ≡ None }
         requires pointers { p ≤ 100000 }
         requires plain { q ≤ 100000 }
-        ensures { IfOk result (λ line. Ok (self.new, string_bytes line) ≡ placed_at_size config.now text.now mutator p q self.old (is_large_size config.now (1 + p + q))) }
+        ensures { IfOk result
+            (λ line. Ok (self.new, string_bytes line) ≡
+            placed_at_size config.now text.now mutator p q self.old (is_large_size config.now (1 + p + q))) }
     {
         if config.block_words / 4 < 1 + p + q {
             self.add_object(alloc.clone()?, text, p, q)?;
@@ -167,8 +173,12 @@ impl<A: Allocator + Clone> Store<A> {
         pointers: u64,
         plain_words: u64,
     ) -> Result<String<A>, Refusal>
-        ensures ok { IfOk result (λ line. carried config.now self.old (meant.New text.now mutator pointers plain_words) ≡ Ok (self.new, string_bytes line)) }
-        ensures fault { IfErr result (λ e. IfFault e (λ kind. (carried config.now self.old (meant.New text.now mutator pointers plain_words) ≡ Err kind) × (self.new ≡ self.old))) }
+        ensures ok { IfOk result
+            (λ line. carried config.now self.old (meant.New text.now mutator pointers plain_words) ≡
+            Ok (self.new, string_bytes line)) }
+        ensures fault { IfErr result
+            (λ e. IfFault e (λ kind. (carried config.now self.old (meant.New text.now mutator pointers plain_words) ≡
+            Err kind) × (self.new ≡ self.old))) }
     {
         if self.named(text).is_some() {
             return Err(Refusal::Fault(Kind::NameInUse));
@@ -190,8 +200,10 @@ impl<A: Allocator + Clone> Store<A> {
         config: &Config,
         generation: u64,
     ) -> Result<String<A>, Refusal>
-        ensures ok { IfOk result (λ line. carried config.now self.old (meant.Collect generation) ≡ Ok (self.new, string_bytes line)) }
-        ensures fault { IfErr result (λ e. IfFault e (λ kind. carried config.now self.old (meant.Collect generation) ≡ Err kind)) }
+        ensures ok { IfOk result (λ line. carried config.now self.old (meant.Collect generation) ≡
+            Ok (self.new, string_bytes line)) }
+        ensures fault { IfErr result
+            (λ e. IfFault e (λ kind. carried config.now self.old (meant.Collect generation) ≡ Err kind)) }
         ensures err { OnErr result (self.new ≡ self.old) }
     {
         if generation >= config.generations {

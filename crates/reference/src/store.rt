@@ -96,7 +96,9 @@ impl<A: Allocator + Clone> Store<A> {
     }
 
     fn rows(&self, alloc: A, limit: Option<u64>) -> Result<Vec<Vec<usize, A>, A>, AllocError>
-        ensures { IfOk result (λ v. map (λ r. r.items) v.items ≡ map (steps_within self.now limit) (numbers_from 0 (length self.now.objects))) }
+        ensures { IfOk result
+            (λ v. map (λ r. r.items) v.items ≡
+            map (steps_within self.now limit) (numbers_from 0 (length self.now.objects))) }
     {
         let mut rows = Vec::new(alloc.clone()?);
         for name in 0..self.objects.len() {

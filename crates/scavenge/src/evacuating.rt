@@ -50,7 +50,8 @@ pub fn evacuate<A: Allocator + Clone, C: Cells>(
     requires config { workspace.old.config ≡ heap.now.config }
     requires names { workspace.old.names ≡ young_names heap.now.graph collection.now.generation }
     requires proposal { workspace.old.worker.proposal ≡ None }
-    requires slot { IsSome (current_slot (seen heap.now collection.now) workspace.old.worker) → CanFinish workspace.old.worker workspace.old.worker.starts }
+    requires slot { IsSome (current_slot (seen heap.now collection.now) workspace.old.worker) →
+        CanFinish workspace.old.worker workspace.old.worker.starts }
     requires few { workspace.old.worker.fields < 4294967296 }
     requires untouched { IsUntouched (seen heap.now collection.now) workspace.old.worker }
     requires pass { C.fits cells.old pass.old }
@@ -70,8 +71,13 @@ pub fn evacuate<A: Allocator + Clone, C: Cells>(
     ensures no_slot { result ≡ NoSlot → current_slot (seen heap.now collection.now) workspace.old.worker ≡ None }
     ensures looked_slot { result ≡ Looked → IsSome (current_slot (seen heap.now collection.now) workspace.old.worker) }
     ensures raced_slot { result ≡ Raced → IsSome (current_slot (seen heap.now collection.now) workspace.old.worker) }
-    ensures looked { result ≡ Looked → (seat : SeatValue) → Looks heap.now collection.now (C.look_gives cells.old) (C.known pass.old) (C.known pass.new) seat seat workspace.old workspace.new }
-    ensures raced { result ≡ Raced → LooksAndRaces heap.now collection.now (C.fits cells.old) C.known C.won (C.look_gives cells.old) (λ number at outcome. C.race_gives cells.old number at outcome cells.new) pass.old pass.new workspace.old workspace.new }
+    ensures looked { result ≡ Looked → (seat : SeatValue) →
+        Looks heap.now collection.now (C.look_gives cells.old) (C.known pass.old)
+        (C.known pass.new) seat seat workspace.old workspace.new }
+    ensures raced { result ≡ Raced →
+        LooksAndRaces heap.now collection.now (C.fits cells.old) C.known C.won (C.look_gives cells.old)
+        (λ number at outcome. C.race_gives cells.old number at outcome cells.new) pass.old pass.new workspace.old
+        workspace.new }
 {
     if !workspace.is_started() {
         return Evacuated::Left;

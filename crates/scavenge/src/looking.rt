@@ -56,7 +56,8 @@ pub(crate) fn forwarded_place<A: Allocator + Clone>(
     shown: Place,
 ) -> Place
     requires shown { IsSomeAnd (object_at heap.now.graph (place_word name)) (λ o. IsShownAs o (raw_of object)) }
-    ensures { place_word result ≡ (if is_large_name (objects_of heap.now) (place_word name) then place_word name else place_word shown) }
+    ensures { place_word result ≡
+        (if is_large_name (objects_of heap.now) (place_word name) then place_word name else place_word shown) }
 {
     if object.size() as usize > heap.config().block_words() / 4 {
         return name;
@@ -102,7 +103,8 @@ pub fn look<A: Allocator + Clone, C: Cells>(
     requires places { NamesArePlaces heap.now.graph }
     requires config { workspace.old.config ≡ heap.now.config }
     requires proposal { workspace.old.worker.proposal ≡ None }
-    requires slot { IsSome (current_slot (seen heap.now collection.now) workspace.old.worker) → CanFinish workspace.old.worker workspace.old.worker.starts }
+    requires slot { IsSome (current_slot (seen heap.now collection.now) workspace.old.worker) →
+        CanFinish workspace.old.worker workspace.old.worker.starts }
     requires few { workspace.old.worker.fields < 4294967296 }
     requires untouched { IsUntouched (seen heap.now collection.now) workspace.old.worker }
     requires room { HasRoomFor (seen heap.now collection.now) workspace.old.worker }
@@ -118,13 +120,20 @@ pub fn look<A: Allocator + Clone, C: Cells>(
     ensures won { C.won pass.new ≡ C.won pass.old }
     ensures lasts { StillKnows (C.known pass.old) (C.known pass.new) }
     ensures seat { IsSeatOf claims.now.source seat.new }
-    ensures fresh { (n : ℕ) → seat.new.drawn ≡ seat.old.drawn ++ n ∷ [] → Contains claims.now.source.free n × ¬ Contains seat.old.drawn n }
+    ensures fresh { (n : ℕ) → seat.new.drawn ≡ seat.old.drawn ++ n ∷ [] →
+        Contains claims.now.source.free n × ¬ Contains seat.old.drawn n }
     ensures none { (result ≡ Ok false) ↔ (current_slot (seen heap.now collection.now) workspace.old.worker ≡ None) }
-    ensures nothing { result ≡ Ok false → (workspace.new ≡ workspace.old) × (pass.new ≡ pass.old) × (seat.new ≡ seat.old) }
-    ensures ok { result ≡ Ok true → Looks heap.now collection.now (C.look_gives cells.old) (C.known pass.old) (C.known pass.new) seat.old seat.new workspace.old workspace.new }
+    ensures nothing { result ≡ Ok false →
+        (workspace.new ≡ workspace.old) × (pass.new ≡ pass.old) × (seat.new ≡ seat.old) }
+    ensures ok { result ≡ Ok true →
+        Looks heap.now collection.now (C.look_gives cells.old) (C.known pass.old)
+        (C.known pass.new) seat.old seat.new workspace.old workspace.new }
     ensures full { result ≡ Err LookError.HeapFull → seat.new ≡ record seat.old { out = true } }
-    ensures used_up { result ≡ Err LookError.HeapFull → claims.now.source.seats ≡ 1 → (x : ℕ) → times_in x seat.old.drawn ≡ times_in x claims.now.source.free }
-    ensures wanted { result ≡ Err LookError.HeapFull → WantsBlock heap.now collection.now (C.look_gives cells.old) (C.known pass.old) (C.known pass.new) workspace.old }
+    ensures used_up { result ≡ Err LookError.HeapFull → claims.now.source.seats ≡ 1 → (x : ℕ) →
+        times_in x seat.old.drawn ≡ times_in x claims.now.source.free }
+    ensures wanted { result ≡ Err LookError.HeapFull →
+        WantsBlock heap.now collection.now (C.look_gives cells.old) (C.known pass.old)
+        (C.known pass.new) workspace.old }
     ensures memory { result ≡ Err LookError.NoMemory → seat.new ≡ seat.old }
     ensures err { OnErr result (workspace.new ≡ workspace.old) }
 {

@@ -31,7 +31,8 @@ pub(crate) fn goes_to<A: Allocator + Clone>(
 ) -> Option<(StepId, usize)>
     requires shown { IsSomeAnd (object_at heap.now.graph (place_word name)) (λ o. IsShownAs o (raw_of found.object)) }
     requires stands { Some (step_pair found.at) ≡ option_map stands_at (object_at heap.now.graph (place_word name)) }
-    ensures { MatchOption result (is_large_name (objects_of heap.now) (place_word name) ≡ true) (λ to. GoesTo heap.now (place_word name) (step_pair to.0) to.1) }
+    ensures { MatchOption result (is_large_name (objects_of heap.now) (place_word name) ≡ true)
+        (λ to. GoesTo heap.now (place_word name) (step_pair to.0) to.1) }
 {
     let config = heap.config();
     if found.object.size() as usize > config.block_words() / 4 {
@@ -54,7 +55,8 @@ pub(crate) fn propose_there<A: Allocator + Clone>(
     requires config { workspace.old.config ≡ heap.now.config }
     requires shown { IsSomeAnd (object_at heap.now.graph (place_word name)) (λ o. IsShownAs o (raw_of found.object)) }
     requires stands { Some (step_pair found.at) ≡ option_map stands_at (object_at heap.now.graph (place_word name)) }
-    ensures proposed { result ≡ true → ProposesThere (objects_of heap.now) (place_word name) workspace.old workspace.new }
+    ensures proposed { result ≡ true →
+        ProposesThere (objects_of heap.now) (place_word name) workspace.old workspace.new }
     ensures none { result ≡ false → workspace.new ≡ workspace.old }
     ensures wants { result ≡ false → WantsMore (objects_of heap.now) workspace.old.worker (place_word name) }
 {
@@ -86,10 +88,12 @@ fn draw_block<A: Allocator + Clone>(
     requires to { IsDestination workspace.old.config.shape (to.generation, to.step) }
     requires number { d ≡ destination_number workspace.old.config.shape (to.generation, to.step) }
     ensures seat { IsSeatOf claims.now.source seat.new }
-    ensures fresh { (n : ℕ) → seat.new.drawn ≡ seat.old.drawn ++ n ∷ [] → Contains claims.now.source.free n × ¬ Contains seat.old.drawn n }
+    ensures fresh { (n : ℕ) → seat.new.drawn ≡ seat.old.drawn ++ n ∷ [] →
+        Contains claims.now.source.free n × ¬ Contains seat.old.drawn n }
     ensures ok { OnOk result (Renews d seat.old seat.new workspace.old workspace.new) }
     ensures full { result ≡ Err LookError.HeapFull → seat.new ≡ record seat.old { out = true } }
-    ensures used_up { result ≡ Err LookError.HeapFull → claims.now.source.seats ≡ 1 → (x : ℕ) → times_in x seat.old.drawn ≡ times_in x claims.now.source.free }
+    ensures used_up { result ≡ Err LookError.HeapFull → claims.now.source.seats ≡ 1 → (x : ℕ) →
+        times_in x seat.old.drawn ≡ times_in x claims.now.source.free }
     ensures memory { result ≡ Err LookError.NoMemory → seat.new ≡ seat.old }
     ensures err { OnErr result (workspace.new ≡ workspace.old) }
 {
@@ -122,11 +126,15 @@ pub(crate) fn propose<A: Allocator + Clone>(
     requires seat { IsSeatOf claims.now.source seat.old }
     requires numbers { All (λ number. number < 65535) claims.now.source.free }
     ensures seat { IsSeatOf claims.now.source seat.new }
-    ensures fresh { (n : ℕ) → seat.new.drawn ≡ seat.old.drawn ++ n ∷ [] → Contains claims.now.source.free n × ¬ Contains seat.old.drawn n }
-    ensures ok { OnOk result (Proposes (objects_of heap.now) (place_word name) seat.old seat.new workspace.old workspace.new) }
+    ensures fresh { (n : ℕ) → seat.new.drawn ≡ seat.old.drawn ++ n ∷ [] →
+        Contains claims.now.source.free n × ¬ Contains seat.old.drawn n }
+    ensures ok { OnOk result
+        (Proposes (objects_of heap.now) (place_word name) seat.old seat.new workspace.old workspace.new) }
     ensures full { result ≡ Err LookError.HeapFull → seat.new ≡ record seat.old { out = true } }
-    ensures used_up { result ≡ Err LookError.HeapFull → claims.now.source.seats ≡ 1 → (x : ℕ) → times_in x seat.old.drawn ≡ times_in x claims.now.source.free }
-    ensures wanted { result ≡ Err LookError.HeapFull → draws_for (objects_of heap.now) workspace.old.worker (place_word name) ≡ true }
+    ensures used_up { result ≡ Err LookError.HeapFull → claims.now.source.seats ≡ 1 → (x : ℕ) →
+        times_in x seat.old.drawn ≡ times_in x claims.now.source.free }
+    ensures wanted { result ≡ Err LookError.HeapFull →
+        draws_for (objects_of heap.now) workspace.old.worker (place_word name) ≡ true }
     ensures memory { result ≡ Err LookError.NoMemory → seat.new ≡ seat.old }
     ensures err { OnErr result (workspace.new ≡ workspace.old) }
 {

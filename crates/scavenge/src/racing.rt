@@ -31,7 +31,9 @@ pub(crate) fn race_for<A: Allocator, C: Cells>(
     ensures apart { (other : C.Pass) → C.apart pass.old other → C.apart pass.new other }
     ensures apart_back { (other : C.Pass) → C.apart other pass.old → C.apart other pass.new }
     ensures limit { C.limit cells.new ≡ C.limit cells.old }
-    ensures ok { OnOk result (RacesAt number (λ number at outcome. C.race_gives cells.old number at outcome cells.new) (C.known pass.old) (C.known pass.new) (C.won pass.old) (C.won pass.new) workspace.old workspace.new) }
+    ensures ok { OnOk result
+        (RacesAt number (λ number at outcome. C.race_gives cells.old number at outcome cells.new) (C.known pass.old)
+        (C.known pass.new) (C.won pass.old) (C.won pass.new) workspace.old workspace.new) }
     ensures err { OnErr result ((workspace.new ≡ workspace.old) × (cells.new ≡ cells.old) × (pass.new ≡ pass.old)) }
 {
     let Some(bid) = workspace.bid() else {
@@ -71,7 +73,9 @@ pub fn race<A: Allocator + Clone, C: Cells>(
     ensures apart { (other : C.Pass) → C.apart pass.old other → C.apart pass.new other }
     ensures apart_back { (other : C.Pass) → C.apart other pass.old → C.apart other pass.new }
     ensures limit { C.limit cells.new ≡ C.limit cells.old }
-    ensures ok { OnOk result (Races heap.now collection.now (λ number at outcome. C.race_gives cells.old number at outcome cells.new) (C.known pass.old) (C.known pass.new) (C.won pass.old) (C.won pass.new) workspace.old workspace.new) }
+    ensures ok { OnOk result
+        (Races heap.now collection.now (λ number at outcome. C.race_gives cells.old number at outcome cells.new)
+        (C.known pass.old) (C.known pass.new) (C.won pass.old) (C.won pass.new) workspace.old workspace.new) }
     ensures err { OnErr result ((workspace.new ≡ workspace.old) × (cells.new ≡ cells.old) × (pass.new ≡ pass.old)) }
 {
     let Some(name) = workspace.proposed() else {

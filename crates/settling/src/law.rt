@@ -10,6 +10,7 @@ ghost use Rattle.settling.specs.Brings.{Brings};
 
 /// What the workers bring may be committed.
 pub fn parts_settle()
-    ensures { (heap : HeapValue) (c : CollectionValue) (workers : ℕ) (f : ℕ → Option ℕ) (parts : List Part) (places : List (Option Place)) (blocks : List BlockValue) (won : List (ℕ × ℕ))
+    ensures { (heap : HeapValue) (c : CollectionValue) (workers : ℕ) (f : ℕ →
+        Option ℕ) (parts : List Part) (places : List (Option Place)) (blocks : List BlockValue) (won : List (ℕ × ℕ))
         → Brings heap c workers f parts places blocks won → IsSettled heap c places blocks won }
 {}

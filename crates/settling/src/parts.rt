@@ -60,7 +60,8 @@ pub fn brought<A: Allocator + Clone>(
 ) -> Result<(Vec<WorkerReport<A>, A>, Vec<Block<A>, A>, Spare<A>), AllocError>
     requires opened { IsOpened heap.now collection.now.generation collection.now }
     requires rest { Each (IsAtRest heap.now collection.now) workspaces.items }
-    ensures { IfOk result (λ r. AreBrought heap.now collection.now (map (λ w. w.worker) workspaces.items) r.0.items r.1.items) }
+    ensures { IfOk result
+        (λ r. AreBrought heap.now collection.now (map (λ w. w.worker) workspaces.items) r.0.items r.1.items) }
 {
     let mut reports = Vec::new(alloc.clone()?);
     let mut blocks = Vec::new(alloc.clone()?);

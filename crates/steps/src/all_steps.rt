@@ -14,7 +14,8 @@ pub const MOST_STEPS: usize = 13;
 fn push_steps(found: &mut ArrayVec<StepId, MOST_STEPS>, generation: u8, steps: usize)
     requires room { length found.old.items + steps ≤ 13 }
     requires few { steps ≤ 4 }
-    ensures { map step_pair found.new.items ≡ map step_pair found.old.items ++ map (λ s. (generation, s)) (numbers_from 0 steps) }
+    ensures { map step_pair found.new.items ≡
+        map step_pair found.old.items ++ map (λ s. (generation, s)) (numbers_from 0 steps) }
 {
     for step in 0..steps {
         found.push(StepId {

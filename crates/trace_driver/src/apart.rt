@@ -35,9 +35,11 @@ fn carry_out_lines_apart<
     requires writable { W.failed_writes writer.old < 2 ^ 64 - 1 }
     ensures ok { OnOk result (IsRunDoneAt (Stands session.old) lines.old.pending
         (S.input reader.old) (S.input reader.new) (W.output writer.old) (W.output writer.new)) }
-    ensures err { IfErr result (IsRunStoppedAt (Stands session.old) crew.now.workers (crew.now.kind ≡ Box) lines.old.pending lines.old.reads
+    ensures err { IfErr result
+        (IsRunStoppedAt (Stands session.old) crew.now.workers (crew.now.kind ≡ Box) lines.old.pending lines.old.reads
         (S.input reader.old) (S.input reader.new) (W.output writer.old) (W.output writer.new)
-        (S.failed_reads reader.new ≡ S.failed_reads reader.old + 1) (W.failed_writes writer.new ≡ W.failed_writes writer.old + 1)) }
+        (S.failed_reads reader.new ≡ S.failed_reads reader.old + 1)
+        (W.failed_writes writer.new ≡ W.failed_writes writer.old + 1)) }
     ensures reads { S.failed_reads reader.new ≤ S.failed_reads reader.old + 1 }
     ensures writes { W.failed_writes writer.new ≤ W.failed_writes writer.old + 1 }
 {
@@ -74,10 +76,15 @@ fn run_apart<
 ) -> Result<(), Fault>
     requires readable { S.failed_reads reader.old < 2 ^ 64 - 1 }
     requires writable { W.failed_writes writer.old < 2 ^ 64 - 1 }
-    ensures ok { OnOk result (IsRunDone config.config (S.input reader.old) (S.input reader.new) (W.output writer.old) (W.output writer.new)) }
-    ensures err { IfErr result (IsRunStopped config.config crew.now.workers (crew.now.kind ≡ Box) ((writer.new ≡ writer.old) × (reader.new ≡ reader.old))
+    ensures ok { OnOk result
+        (IsRunDone config.config (S.input reader.old) (S.input reader.new) (W.output writer.old)
+        (W.output writer.new)) }
+    ensures err { IfErr result
+        (IsRunStopped config.config crew.now.workers (crew.now.kind ≡ Box) ((writer.new ≡ writer.old) ×
+        (reader.new ≡ reader.old))
         (S.input reader.old) (S.input reader.new) (W.output writer.old) (W.output writer.new)
-        (S.failed_reads reader.new ≡ S.failed_reads reader.old + 1) (W.failed_writes writer.new ≡ W.failed_writes writer.old + 1)) }
+        (S.failed_reads reader.new ≡ S.failed_reads reader.old + 1)
+        (W.failed_writes writer.new ≡ W.failed_writes writer.old + 1)) }
     ensures reads { S.failed_reads reader.new ≤ S.failed_reads reader.old + 1 }
     ensures writes { W.failed_writes writer.new ≤ W.failed_writes writer.old + 1 }
 {
@@ -114,11 +121,14 @@ pub fn run<
 ) -> Result<(), Fault>
     requires readable { S.failed_reads reader.old < 2 ^ 64 - 1 }
     requires writable { W.failed_writes writer.old < 2 ^ 64 - 1 }
-    ensures ok { OnOk result (IsRunDone config.config (S.input reader.old) (S.input reader.new) (W.output writer.old) (W.output writer.new)) }
+    ensures ok { OnOk result
+        (IsRunDone config.config (S.input reader.old) (S.input reader.new) (W.output writer.old)
+        (W.output writer.new)) }
     ensures err { IfErr result (IsRunStopped config.config config.workers ((config.kind ≡ Box) × (config.workers ≢ 1))
         ((writer.new ≡ writer.old) × (reader.new ≡ reader.old))
         (S.input reader.old) (S.input reader.new) (W.output writer.old) (W.output writer.new)
-        (S.failed_reads reader.new ≡ S.failed_reads reader.old + 1) (W.failed_writes writer.new ≡ W.failed_writes writer.old + 1)) }
+        (S.failed_reads reader.new ≡ S.failed_reads reader.old + 1)
+        (W.failed_writes writer.new ≡ W.failed_writes writer.old + 1)) }
     ensures reads { S.failed_reads reader.new ≤ S.failed_reads reader.old + 1 }
     ensures writes { W.failed_writes writer.new ≤ W.failed_writes writer.old + 1 }
 {

@@ -39,7 +39,8 @@ impl RunConfig {
     /// A run with so many workers, 1 to 16, whose cells are of this kind where they are threads. A read asks for 4,096 bytes,
     /// and the seed is 0.
     pub fn new(config: Config, workers: u64, kind: CellKind) -> Result<RunConfig, BadConfig>
-        ensures ok { IfOk result (λ run. run ≡ record { config = config; workers = workers; kind = kind; piece = 4096; seed = 0 }) }
+        ensures ok { IfOk result
+            (λ run. run ≡ record { config = config; workers = workers; kind = kind; piece = 4096; seed = 0 }) }
         ensures in_range { IsOk result ↔ ((0 < workers) × (workers ≤ 16)) }
     {
         if workers == 0 || workers > 16 {

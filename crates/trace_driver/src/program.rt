@@ -22,7 +22,8 @@ use trace_session::{Fault, write_fault};
 
 /// The settings that the words ask for.
 fn run_config(options: &Options) -> Result<RunConfig, BadConfig>
-    ensures ok { IfOk result (λ run. (run.config ≡ config_of options.now) × (run.workers ≡ options.now.threads) × (run.kind ≡ options.now.cells)) }
+    ensures ok { IfOk result (λ run. (run.config ≡ config_of options.now) × (run.workers ≡ options.now.threads) ×
+        (run.kind ≡ options.now.cells)) }
     ensures in_range { IsOk result ↔ AreInRange options.now }
 {
     let config = Config::new(options.sizes)?;
@@ -48,7 +49,8 @@ fn refuse<W: Sink, E: Sink>(refused: &Refused, writer: &mut W, errors: &mut E) -
     requires tellable { E.failed_writes errors.old < 2 ^ 64 - 1 }
     ensures status { result ≤ 4 }
     ensures ends { IsRefusal refused.now (writer.new ≡ writer.old) (errors.new ≡ errors.old)
-        (W.failed_writes writer.new ≡ W.failed_writes writer.old + 1) (E.failed_writes errors.new ≡ E.failed_writes errors.old + 1)
+        (W.failed_writes writer.new ≡ W.failed_writes writer.old + 1)
+        (E.failed_writes errors.new ≡ E.failed_writes errors.old + 1)
         (W.output writer.old) (W.output writer.new) (E.output errors.old) (E.output errors.new) result }
     ensures writes { W.failed_writes writer.new ≤ W.failed_writes writer.old + 1 }
     ensures error_writes { E.failed_writes errors.new ≤ E.failed_writes errors.old + 1 }
@@ -77,7 +79,8 @@ fn drawn_seed(rt: &impl RandomSource) -> u128 {
 
 /// The settings that the words ask for, with a seed that the system draws.
 fn seeded_config(rt: &impl RandomSource, options: &Options) -> Result<RunConfig, BadConfig>
-    ensures ok { IfOk result (λ run. (run.config ≡ config_of options.now) × (run.workers ≡ options.now.threads) × (run.kind ≡ options.now.cells)) }
+    ensures ok { IfOk result (λ run. (run.config ≡ config_of options.now) × (run.workers ≡ options.now.threads) ×
+        (run.kind ≡ options.now.cells)) }
     ensures in_range { IsOk result ↔ AreInRange options.now }
 {
     let config = run_config(options)?;
@@ -96,10 +99,13 @@ fn run_with<R: Threads + Wait + Sync + AllocGlobal + RandomSource, S: Source, W:
     requires writable { W.failed_writes writer.old < 2 ^ 64 - 1 }
     requires tellable { E.failed_writes errors.old < 2 ^ 64 - 1 }
     ensures status { result ≤ 4 }
-    ensures ends { TaskEnds options.now ((writer.new ≡ writer.old) × (reader.new ≡ reader.old)) (errors.new ≡ errors.old)
-        (S.failed_reads reader.new ≡ S.failed_reads reader.old + 1) (W.failed_writes writer.new ≡ W.failed_writes writer.old + 1)
+    ensures ends { TaskEnds options.now ((writer.new ≡ writer.old) × (reader.new ≡ reader.old))
+        (errors.new ≡ errors.old)
+        (S.failed_reads reader.new ≡ S.failed_reads reader.old + 1)
+        (W.failed_writes writer.new ≡ W.failed_writes writer.old + 1)
         (E.failed_writes errors.new ≡ E.failed_writes errors.old + 1)
-        (S.input reader.old) (S.input reader.new) (W.output writer.old) (W.output writer.new) (E.output errors.old) (E.output errors.new) result }
+        (S.input reader.old) (S.input reader.new) (W.output writer.old) (W.output writer.new) (E.output errors.old)
+        (E.output errors.new) result }
     ensures reads { S.failed_reads reader.new ≤ S.failed_reads reader.old + 1 }
     ensures writes { W.failed_writes writer.new ≤ W.failed_writes writer.old + 1 }
     ensures error_writes { E.failed_writes errors.new ≤ E.failed_writes errors.old + 1 }
@@ -138,12 +144,17 @@ pub fn main_with<
     requires writable { W.failed_writes writer.old < 2 ^ 64 - 1 }
     requires tellable { E.failed_writes errors.old < 2 ^ 64 - 1 }
     ensures status { result ≤ 4 }
-    ensures ends { ((options : Asked) × TaskEnds options ((writer.new ≡ writer.old) × (reader.new ≡ reader.old)) (errors.new ≡ errors.old)
-        (S.failed_reads reader.new ≡ S.failed_reads reader.old + 1) (W.failed_writes writer.new ≡ W.failed_writes writer.old + 1)
+    ensures ends { ((options : Asked) ×
+        TaskEnds options ((writer.new ≡ writer.old) × (reader.new ≡ reader.old)) (errors.new ≡ errors.old)
+        (S.failed_reads reader.new ≡ S.failed_reads reader.old + 1)
+        (W.failed_writes writer.new ≡ W.failed_writes writer.old + 1)
         (E.failed_writes errors.new ≡ E.failed_writes errors.old + 1)
-        (S.input reader.old) (S.input reader.new) (W.output writer.old) (W.output writer.new) (E.output errors.old) (E.output errors.new) result)
-        ⊎ ((reader.new ≡ reader.old) × ((mistaken : Mistaken) × IsRefusal mistaken (writer.new ≡ writer.old) (errors.new ≡ errors.old)
-        (W.failed_writes writer.new ≡ W.failed_writes writer.old + 1) (E.failed_writes errors.new ≡ E.failed_writes errors.old + 1)
+        (S.input reader.old) (S.input reader.new) (W.output writer.old) (W.output writer.new) (E.output errors.old)
+        (E.output errors.new) result)
+        ⊎ ((reader.new ≡ reader.old) ×
+        ((mistaken : Mistaken) × IsRefusal mistaken (writer.new ≡ writer.old) (errors.new ≡ errors.old)
+        (W.failed_writes writer.new ≡ W.failed_writes writer.old + 1)
+        (E.failed_writes errors.new ≡ E.failed_writes errors.old + 1)
         (W.output writer.old) (W.output writer.new) (E.output errors.old) (E.output errors.new) result)) }
     ensures reads { S.failed_reads reader.new ≤ S.failed_reads reader.old + 1 }
     ensures writes { W.failed_writes writer.new ≤ W.failed_writes writer.old + 1 }

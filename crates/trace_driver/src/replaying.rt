@@ -19,9 +19,11 @@ pub fn replay<A: Allocator + Clone, S: Source, W: Sink>(
     requires writable { W.failed_writes writer.old < 2 ^ 64 - 1 }
     ensures ok { OnOk result (IsReplayDone config.config config.workers
         (S.input reader.old) (S.input reader.new) (W.output writer.old) (W.output writer.new)) }
-    ensures err { IfErr result (IsReplayStopped config.config config.workers ((writer.new ≡ writer.old) × (reader.new ≡ reader.old))
+    ensures err { IfErr result
+        (IsReplayStopped config.config config.workers ((writer.new ≡ writer.old) × (reader.new ≡ reader.old))
         (S.input reader.old) (S.input reader.new) (W.output writer.old) (W.output writer.new)
-        (S.failed_reads reader.new ≡ S.failed_reads reader.old + 1) (W.failed_writes writer.new ≡ W.failed_writes writer.old + 1)) }
+        (S.failed_reads reader.new ≡ S.failed_reads reader.old + 1)
+        (W.failed_writes writer.new ≡ W.failed_writes writer.old + 1)) }
     ensures reads { S.failed_reads reader.new ≤ S.failed_reads reader.old + 1 }
     ensures writes { W.failed_writes writer.new ≤ W.failed_writes writer.old + 1 }
 {

@@ -24,7 +24,8 @@ fn carry_out_lines<A: Allocator + Clone, S: Source, W: Sink>(
         (S.input reader.old) (S.input reader.new) (W.output writer.old) (W.output writer.new)) }
     ensures err { IfErr result (IsRunStoppedAt (Stands session.old) 1 ⊥ lines.old.pending lines.old.reads
         (S.input reader.old) (S.input reader.new) (W.output writer.old) (W.output writer.new)
-        (S.failed_reads reader.new ≡ S.failed_reads reader.old + 1) (W.failed_writes writer.new ≡ W.failed_writes writer.old + 1)) }
+        (S.failed_reads reader.new ≡ S.failed_reads reader.old + 1)
+        (W.failed_writes writer.new ≡ W.failed_writes writer.old + 1)) }
     ensures reads { S.failed_reads reader.new ≤ S.failed_reads reader.old + 1 }
     ensures writes { W.failed_writes writer.new ≤ W.failed_writes writer.old + 1 }
 {
@@ -56,10 +57,13 @@ pub fn run_one<A: Allocator + Clone, S: Source, W: Sink>(
     requires one { config.workers ≡ 1 }
     requires readable { S.failed_reads reader.old < 2 ^ 64 - 1 }
     requires writable { W.failed_writes writer.old < 2 ^ 64 - 1 }
-    ensures ok { OnOk result (IsRunDone config.config (S.input reader.old) (S.input reader.new) (W.output writer.old) (W.output writer.new)) }
+    ensures ok { OnOk result
+        (IsRunDone config.config (S.input reader.old) (S.input reader.new) (W.output writer.old)
+        (W.output writer.new)) }
     ensures err { IfErr result (IsRunStopped config.config 1 ⊥ ((writer.new ≡ writer.old) × (reader.new ≡ reader.old))
         (S.input reader.old) (S.input reader.new) (W.output writer.old) (W.output writer.new)
-        (S.failed_reads reader.new ≡ S.failed_reads reader.old + 1) (W.failed_writes writer.new ≡ W.failed_writes writer.old + 1)) }
+        (S.failed_reads reader.new ≡ S.failed_reads reader.old + 1)
+        (W.failed_writes writer.new ≡ W.failed_writes writer.old + 1)) }
     ensures reads { S.failed_reads reader.new ≤ S.failed_reads reader.old + 1 }
     ensures writes { W.failed_writes writer.new ≤ W.failed_writes writer.old + 1 }
 {

@@ -120,13 +120,16 @@ pub(crate) fn make_room<A: Allocator + Clone, W: Sink>(
     requires some { 0 < workers }
     requires most { workers ≤ 16 }
     requires countable { W.failed_writes writer.old < 2 ^ 64 - 1 }
-    ensures ok { OnOk result (AtEach (Stands session.old) (λ config store. Stands session.new config (collected config 0 store)
-        × Writes (λ written. MakesRoom workers (state_of session.old store) written session.new.heap) (W.output writer.old) (W.output writer.new))) }
+    ensures ok { OnOk result
+        (AtEach (Stands session.old) (λ config store. Stands session.new config (collected config 0 store)
+        × Writes (λ written. MakesRoom workers (state_of session.old store) written session.new.heap)
+        (W.output writer.old) (W.output writer.new))) }
     ensures names { OnOk result (session.new.names ≡ session.old.names) }
     ensures counts { OnOk result (W.failed_writes writer.new ≡ W.failed_writes writer.old) }
     ensures rises { W.failed_writes writer.new ≤ W.failed_writes writer.old + 1 }
     ensures err { IfErr result (λ e. MatchFault e (λ _ _. ⊥)
-        (λ at. (at ≡ Some number) × IsFullInTurn session.old.heap 0 workers × (session.new ≡ session.old) × (writer.new ≡ writer.old))
+        (λ at. (at ≡ Some number) × IsFullInTurn session.old.heap 0 workers × (session.new ≡ session.old) ×
+        (writer.new ≡ writer.old))
         (λ at. (at ≡ Some number) × (session.new ≡ session.old) × (writer.new ≡ writer.old))
         ⊥
         (W.failed_writes writer.new ≡ W.failed_writes writer.old + 1)) }

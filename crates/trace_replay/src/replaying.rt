@@ -34,13 +34,22 @@ fn carry_out_line<A: Allocator + Clone, W: Sink>(
     requires plain { IsNoCollection (entry_of line.now) }
     requires countable { W.failed_writes writer.old < 2 ^ 64 - 1 }
     ensures ok { OnOk result (AtEach (Stands session.old) (λ config store.
-        LineReplayed session.new config workers (state_of session.old store) line.now (W.output writer.old) (W.output writer.new))) }
+        LineReplayed session.new config workers (state_of session.old store) line.now (W.output writer.old)
+        (W.output writer.new))) }
     ensures counts { OnOk result (W.failed_writes writer.new ≡ W.failed_writes writer.old) }
     ensures rises { W.failed_writes writer.new ≤ W.failed_writes writer.old + 1 }
     ensures err { IfErr result (λ e. MatchFault e
-        (λ at kind. (at ≡ number) × AtEach (Stands session.old) (λ config store. (line_step config store line.now ≡ Err kind) × (writer.new ≡ writer.old)))
-        (λ at. (at ≡ Some number) × AtEach (Stands session.old) (λ config store. WantsRoom config workers (state_of session.old store) line.now × (writer.new ≡ writer.old)))
-        (λ at. (at ≡ Some number) × AtEach (Stands session.old) (λ config store. Writes (IsLineSoFar config workers (state_of session.old store) line.now) (W.output writer.old) (W.output writer.new)))
+        (λ at kind. (at ≡ number) ×
+        AtEach (Stands session.old) (λ config store. (line_step config store line.now ≡ Err kind) ×
+        (writer.new ≡ writer.old)))
+        (λ at. (at ≡ Some number) ×
+        AtEach (Stands session.old)
+        (λ config store. WantsRoom config workers (state_of session.old store) line.now ×
+        (writer.new ≡ writer.old)))
+        (λ at. (at ≡ Some number) ×
+        AtEach (Stands session.old)
+        (λ config store. Writes (IsLineSoFar config workers (state_of session.old store) line.now)
+        (W.output writer.old) (W.output writer.new)))
         ⊥
         (W.failed_writes writer.new ≡ W.failed_writes writer.old + 1)) }
 {

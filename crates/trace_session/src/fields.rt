@@ -33,8 +33,10 @@ fn has_pointer<A: Allocator + Clone>(heap: &Heap<A>, root: RootId, field: u64) -
 impl<A: Allocator + Clone> Session<A> {
     /// The root of a target's name, or none for nil. The fault says that the name is not in use.
     fn target_root(&self, target: Option<&[u8]>) -> Result<Option<RootId>, Kind>
-        ensures ok { IfOk result (λ root. IsRootOf self.now.names (target_of (λ x. x.now) target.entry) (option_map (λ r. r.number) root)) }
-        ensures err { IfErr result (λ kind. (kind ≡ Kind.UnknownName) × IsUnknown self.now.names (target_of (λ x. x.now) target.entry)) }
+        ensures ok { IfOk result
+            (λ root. IsRootOf self.now.names (target_of (λ x. x.now) target.entry) (option_map (λ r. r.number) root)) }
+        ensures err { IfErr result (λ kind. (kind ≡ Kind.UnknownName) ×
+            IsUnknown self.now.names (target_of (λ x. x.now) target.entry)) }
     {
         match target {
             None => Ok(None),
@@ -54,12 +56,21 @@ impl<A: Allocator + Clone> Session<A> {
         target: Option<&[u8]>,
     ) -> Result<(), Fault>
         ensures ok { OnOk result (AtEach (Stands self.old) (λ config store.
-            StepsQuietly (Stands self.new) config (command_step config store (Set name.now field (target_of (λ x. x.now) target.entry))))) }
-        ensures own { OnOk result (Does self.old.heap self.old.names (Set name.now field (target_of (λ x. x.now) target.entry)) self.new.heap self.new.names) }
+            StepsQuietly (Stands self.new) config
+            (command_step config store (Set name.now field (target_of (λ x. x.now) target.entry))))) }
+        ensures own { OnOk result
+            (Does self.old.heap self.old.names
+            (Set name.now field (target_of (λ x. x.now) target.entry)) self.new.heap self.new.names) }
         ensures err { IfErr result (λ e. MatchFault e
-            (λ at kind. (at ≡ number) × AtEach (Stands self.old) (λ config store. command_step config store (Set name.now field (target_of (λ x. x.now) target.entry)) ≡ Err kind))
+            (λ at kind. (at ≡ number) ×
+            AtEach (Stands self.old)
+            (λ config store. command_step config store (Set name.now field (target_of (λ x. x.now) target.entry)) ≡
+            Err kind))
             (λ _. ⊥)
-            (λ at. (at ≡ Some number) × AtEach (Stands self.old) (λ config store. IsSoundCommand config store (Set name.now field (target_of (λ x. x.now) target.entry))))
+            (λ at. (at ≡ Some number) ×
+            AtEach (Stands self.old)
+            (λ config store. IsSoundCommand config store
+            (Set name.now field (target_of (λ x. x.now) target.entry))))
             ⊥ ⊥) }
         ensures before { OnErr result (self.new ≡ self.old) }
     {
@@ -87,9 +98,12 @@ impl<A: Allocator + Clone> Session<A> {
     pub fn put(&mut self, number: u128, name: &[u8], field: u64, value: u64) -> Result<(), Fault>
         ensures ok { OnOk result (AtEach (Stands self.old) (λ config store.
             StepsQuietly (Stands self.new) config (command_step config store (Put name.now field value)))) }
-        ensures own { OnOk result (Does self.old.heap self.old.names (Put name.now field value) self.new.heap self.new.names) }
+        ensures own { OnOk result
+            (Does self.old.heap self.old.names (Put name.now field value) self.new.heap self.new.names) }
         ensures err { IfErr result (λ e. MatchFault e
-            (λ at kind. (at ≡ number) × AtEach (Stands self.old) (λ config store. command_step config store (Put name.now field value) ≡ Err kind))
+            (λ at kind. (at ≡ number) ×
+            AtEach (Stands self.old) (λ config store. command_step config store (Put name.now field value) ≡
+            Err kind))
             (λ _. ⊥) (λ _. ⊥) ⊥ ⊥) }
         ensures before { OnErr result (self.new ≡ self.old) }
     {
@@ -114,11 +128,16 @@ impl<A: Allocator + Clone> Session<A> {
     ) -> Result<(), Fault>
         ensures ok { OnOk result (AtEach (Stands self.old) (λ config store.
             StepsQuietly (Stands self.new) config (command_step config store (Get new_name.now name.now field)))) }
-        ensures own { OnOk result (Does self.old.heap self.old.names (Get new_name.now name.now field) self.new.heap self.new.names) }
+        ensures own { OnOk result
+            (Does self.old.heap self.old.names (Get new_name.now name.now field) self.new.heap self.new.names) }
         ensures err { IfErr result (λ e. MatchFault e
-            (λ at kind. (at ≡ number) × AtEach (Stands self.old) (λ config store. command_step config store (Get new_name.now name.now field) ≡ Err kind))
+            (λ at kind. (at ≡ number) ×
+            AtEach (Stands self.old) (λ config store. command_step config store (Get new_name.now name.now field) ≡
+            Err kind))
             (λ _. ⊥)
-            (λ at. (at ≡ Some number) × AtEach (Stands self.old) (λ config store. IsSoundCommand config store (Get new_name.now name.now field)))
+            (λ at. (at ≡ Some number) ×
+            AtEach (Stands self.old)
+            (λ config store. IsSoundCommand config store (Get new_name.now name.now field)))
             ⊥ ⊥) }
         ensures before { IfErr result (λ e. MatchFault e (λ _ _. self.new ≡ self.old) (λ _. ⊥) (λ _. Unit {0}) ⊥ ⊥) }
     {

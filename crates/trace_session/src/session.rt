@@ -68,17 +68,28 @@ impl<A: Allocator + Clone> Session<A> {
         plain: u64,
     ) -> Result<Attempt, Fault>
         ensures ok { IfOk result (λ attempt. AtEach (Stands self.old) (λ config store. MatchAttempt attempt
-            (StepsQuietly (Stands self.new) config (command_step config store (New name.now mutator pointers plain)) × ¬ CollectsFirst config store (New name.now mutator pointers plain))
-            (IsSoundCommand config store (New name.now mutator pointers plain) × CollectsFirst config store (New name.now mutator pointers plain)))) }
+            (StepsQuietly (Stands self.new) config (command_step config store (New name.now mutator pointers plain)) ×
+            ¬ CollectsFirst config store (New name.now mutator pointers plain))
+            (IsSoundCommand config store (New name.now mutator pointers plain) ×
+            CollectsFirst config store (New name.now mutator pointers plain)))) }
         ensures own { IfOk result (λ attempt. MatchAttempt attempt
-            (Does self.old.heap self.old.names (New name.now mutator pointers plain) self.new.heap self.new.names) (Unit {0})) }
+            (Does self.old.heap self.old.names (New name.now mutator pointers plain) self.new.heap self.new.names)
+            (Unit {0})) }
         ensures full { result ≡ Ok Attempt.NurseryFull → self.new ≡ self.old }
         ensures err { IfErr result (λ e. MatchFault e
-            (λ at kind. (at ≡ number) × AtEach (Stands self.old) (λ config store. command_step config store (New name.now mutator pointers plain) ≡ Err kind))
-            (λ at. (at ≡ Some number) × LacksBlocks self.old.heap pointers plain × AtEach (Stands self.old) (λ config store. CommandMayBeFull 1 config store (New name.now mutator pointers plain) × ¬ CollectsFirst config store (New name.now mutator pointers plain)))
-            (λ at. (at ≡ Some number) × AtEach (Stands self.old) (λ config store. IsSoundCommand config store (New name.now mutator pointers plain)))
+            (λ at kind. (at ≡ number) ×
+            AtEach (Stands self.old)
+            (λ config store. command_step config store (New name.now mutator pointers plain) ≡ Err kind))
+            (λ at. (at ≡ Some number) × LacksBlocks self.old.heap pointers plain ×
+            AtEach (Stands self.old)
+            (λ config store. CommandMayBeFull 1 config store (New name.now mutator pointers plain) ×
+            ¬ CollectsFirst config store (New name.now mutator pointers plain)))
+            (λ at. (at ≡ Some number) ×
+            AtEach (Stands self.old)
+            (λ config store. IsSoundCommand config store (New name.now mutator pointers plain)))
             ⊥ ⊥) }
-        ensures before { IfErr result (λ e. MatchFault e (λ _ _. self.new ≡ self.old) (λ _. self.new ≡ self.old) (λ _. Unit {0}) ⊥ ⊥) }
+        ensures before { IfErr result
+            (λ e. MatchFault e (λ _ _. self.new ≡ self.old) (λ _. self.new ≡ self.old) (λ _. Unit {0}) ⊥ ⊥) }
     {
         if self.names.get(name).is_some() {
             return Err(Fault::BadTrace(number, Kind::NameInUse));
@@ -106,7 +117,8 @@ impl<A: Allocator + Clone> Session<A> {
             StepsQuietly (Stands self.new) config (command_step config store (Drop name.now)))) }
         ensures own { OnOk result (Does self.old.heap self.old.names (Drop name.now) self.new.heap self.new.names) }
         ensures err { IfErr result (λ e. MatchFault e
-            (λ at kind. (at ≡ number) × AtEach (Stands self.old) (λ config store. command_step config store (Drop name.now) ≡ Err kind))
+            (λ at kind. (at ≡ number) ×
+            AtEach (Stands self.old) (λ config store. command_step config store (Drop name.now) ≡ Err kind))
             (λ _. ⊥) (λ _. ⊥) ⊥ ⊥) }
         ensures before { OnErr result (self.new ≡ self.old) }
     {

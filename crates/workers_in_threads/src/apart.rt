@@ -43,7 +43,10 @@ pub fn scavenged_apart<
     requires cells { collection.now.cells ≤ S.limit cells.now }
     requires passes { AtEach (S.is_pass cells.now) passes.items }
     requires won_none { All (λ p. S.won p ≡ []) passes.items }
-    ensures { IfOk result (λ a. CameBack (S.is_pass cells.now) S.known S.won heap.now collection.now (length passes.items) a.ending a.passes.items a.seats.claims a.seats.queues a.seats.draws.items a.seats.seats.items a.seats.workspaces.items) }
+    ensures { IfOk result
+        (λ a. CameBack (S.is_pass cells.now) S.known S.won heap.now collection.now
+        (length passes.items) a.ending a.passes.items a.seats.claims a.seats.queues a.seats.draws.items
+        a.seats.seats.items a.seats.workspaces.items) }
 {
     let workers = passes.len() as u32;
     let (claims, draws) = Claims::new(alloc.clone()?, collection.free().share()?, workers)?;

@@ -51,7 +51,10 @@ pub fn dealt<S: SharedCells, A: Allocator + Clone>(
     requires rests { All (λ s. s ≡ busy idle.now) rests.items × (workers ≤ length rests.items) }
     requires voices { All (λ s. s ≡ untold verdict.now) voices.items × (workers ≤ length voices.items) }
     ensures many { IfOk result (λ ks. length ks.items ≡ workers) }
-    ensures kits { IfOk result (λ ks. AreKits (S.limit cells.now) (S.is_pass cells.now) S.won heap.now collection.now claims.now queues.now idle.now verdict.now workers ks.items) }
+    ensures kits { IfOk result
+        (λ ks. AreKits (S.limit cells.now)
+        (S.is_pass cells.now) S.won heap.now collection.now claims.now queues.now idle.now verdict.now workers
+        ks.items) }
 {
     let share = (spare.block_count() / (workers as usize).max(1)).saturating_add(1);
     let mut kits = Vec::with_capacity(alloc.clone()?, workers as usize)?;

@@ -26,11 +26,16 @@ pub fn gathered<R: Wait, S: SharedCells, A: Allocator + Clone>(
 ) -> Result<Settled<A>, AllocError>
     requires some { 0 < length seats.workspaces.items }
     requires few { length seats.workspaces.items ≤ 16 }
-    requires placed { ArePlaced S.is_pass S.known S.won heap.now collection (length seats.workspaces.items) Ended seats.claims seats.queues seats.draws.items seats.seats.items seats.workspaces.items places }
-    ensures settled { IfOk result (λ s. IsSettled heap.now s.collection s.places s.blocks.items (all_won s.workers.items)) }
+    requires placed { ArePlaced S.is_pass S.known S.won heap.now collection
+        (length seats.workspaces.items) Ended seats.claims seats.queues seats.draws.items seats.seats.items
+        seats.workspaces.items places }
+    ensures settled { IfOk result
+        (λ s. IsSettled heap.now s.collection s.places s.blocks.items (all_won s.workers.items)) }
     ensures collection { IfOk result (λ s. s.collection ≡ collection) }
     ensures once { IfOk result (λ s. ScansOnce heap.now collection.generation s.workers.items) }
-    ensures apart { IfOk result (λ s. ReportsApart heap.now collection.generation (length seats.workspaces.items) s.workers.items s.deliveries.items) }
+    ensures apart { IfOk result
+        (λ s. ReportsApart heap.now collection.generation
+        (length seats.workspaces.items) s.workers.items s.deliveries.items) }
 {
     let Seats {
         claims,

@@ -15,7 +15,10 @@ ghost use Rattle.workers_in_threads.specs.Threads.{ThreadValue, Gathered, KeptBy
 
 /// What is made of it may be committed.
 pub fn threads_settle<P, A>()
-    ensures { (known : P → ℕ → Option Place) (won : P → List (ℕ × Place)) (all : Gathered P A known won) (reports : List WorkerLists) (blocks : List BlockValue) (places : List (Option Place)) → Reported all reports blocks places → IsSettled all.heap all.collection places blocks (all_won reports) }
+    ensures { (known : P → ℕ → Option Place) (won : P →
+        List (ℕ × Place)) (all : Gathered P A known won) (reports : List WorkerLists) (blocks : List BlockValue)
+        (places : List (Option Place)) → Reported all reports blocks places →
+        IsSettled all.heap all.collection places blocks (all_won reports) }
 {}
 
 /// What they brought is what a collection keeps.
@@ -25,10 +28,14 @@ pub fn threads_keep<P, A>()
 
 /// Where one is refused a block, it can look, and all that were free were drawn.
 pub fn threads_are_stuck<P, A>()
-    ensures { (known : P → ℕ → Option Place) (won : P → List (ℕ × Place)) (all : Refusing P A known won) → IsStuckApart all.heap all.collection.generation all.workers }
+    ensures { (known : P → ℕ → Option Place) (won : P → List (ℕ × Place)) (all : Refusing P A known won) →
+        IsStuckApart all.heap all.collection.generation all.workers }
 {}
 
 /// Where one is refused a block, fewer were free than the space bound.
 pub fn threads_below_bound<P, A>()
-    ensures { (known : P → ℕ → Option Place) (won : P → List (ℕ × Place)) (all : Refusing P A known won) (words : ℕ) → LiveWords all.heap.graph all.collection.generation all.heap.config.block_words words → length all.heap.free < space_bound words all.heap.config.block_words all.workers (dest_count all.heap.config.shape all.collection.generation) }
+    ensures { (known : P → ℕ → Option Place) (won : P → List (ℕ × Place)) (all : Refusing P A known won) (words : ℕ) →
+        LiveWords all.heap.graph all.collection.generation all.heap.config.block_words words →
+        length all.heap.free < space_bound words all.heap.config.block_words all.workers
+        (dest_count all.heap.config.shape all.collection.generation) }
 {}

@@ -48,7 +48,10 @@ pub fn pack<S: SharedCells, A: Allocator + Clone>(
     requires rest { IsSeatOf idle.now rest }
     requires busy { rest.idle ≡ false }
     requires voice { voice.name ≡ verdict.now.name }
-    ensures { IfOk result (λ k. IsKit (S.limit cells.now) (S.is_pass cells.now) S.won heap.now collection.now claims.now queues.now idle.now verdict.now workers number k) }
+    ensures { IfOk result
+        (λ k. IsKit (S.limit cells.now)
+        (S.is_pass cells.now) S.won heap.now collection.now claims.now queues.now idle.now verdict.now workers
+        number k) }
 {
     let mut workspace = Workspace::new(alloc.clone()?, heap, collection, number, workers)?;
     workspace.supply(spare);

@@ -54,7 +54,9 @@ pub(crate) fn separated<P: Drop, A: Allocator + Clone>(
     queues: RuledPending<Copies<A>, A>,
     brought: Vec<Brought<P, A>, A>,
 ) -> Result<Apart<P, A>, AllocError>
-    ensures lists { IfOk result (λ a. IsSeparated brought.items a.ending a.passes.items a.seats.draws.items a.seats.seats.items a.seats.workspaces.items) }
+    ensures lists { IfOk result
+        (λ a. IsSeparated brought.items a.ending a.passes.items a.seats.draws.items a.seats.seats.items
+        a.seats.workspaces.items) }
     ensures shared { IfOk result (λ a. (a.seats.claims ≡ claims) × (a.seats.queues ≡ queues)) }
 {
     let count = brought.len();

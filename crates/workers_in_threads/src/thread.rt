@@ -26,8 +26,12 @@ pub fn work_apart<R: Wait, S: SharedCells, G: Gate, A: Allocator + Clone>(
     workers: u32,
     kit: Kit<S::Pass, A>,
 ) -> Brought<S::Pass, A>
-    requires { IsKit (S.limit cells.now) (S.is_pass cells.now) S.won heap.now collection.now claims.now queues.now idle.now verdict.now workers kit.seat.index kit }
-    ensures { IsBroughtBack (S.is_pass cells.now) S.known S.won heap.now collection.now claims.now queues.now workers kit.seat.index result }
+    requires { IsKit (S.limit cells.now)
+        (S.is_pass cells.now) S.won heap.now collection.now claims.now queues.now idle.now verdict.now workers
+        kit.seat.index kit }
+    ensures { IsBroughtBack
+        (S.is_pass cells.now) S.known S.won heap.now collection.now claims.now queues.now workers kit.seat.index
+        result }
 {
     let Kit {
         alloc,

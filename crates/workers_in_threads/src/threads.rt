@@ -52,20 +52,29 @@ pub fn work_in_threads<
     kits: Vec<Kit<S::Pass, A>, A>,
     mut voice: VerdictSeat,
 ) -> Result<Vec<Brought<S::Pass, A>, A>, AllocError>
-    requires kits { AreKits (S.limit cells.now) (S.is_pass cells.now) S.won heap.now collection.now claims.now queues.now idle.now verdict.now (length kits.items) kits.items }
+    requires kits { AreKits (S.limit cells.now)
+        (S.is_pass cells.now) S.won heap.now collection.now claims.now queues.now idle.now verdict.now
+        (length kits.items) kits.items }
     requires few { length kits.items < 65536 }
     requires voice { voice.name ≡ verdict.now.name }
-    ensures { IfOk result (λ v. (length v.items ≡ length kits.items) × AreBroughtBack (S.is_pass cells.now) S.known S.won heap.now collection.now claims.now queues.now (length kits.items) v.items) }
+    ensures { IfOk result (λ v. (length v.items ≡ length kits.items) ×
+        AreBroughtBack (S.is_pass cells.now) S.known S.won heap.now collection.now claims.now queues.now
+        (length kits.items) v.items) }
 {
     thread::scope(
         thread::scope_env(),
         rt,
         |scope| -> Result<Vec<Brought<S::Pass, A>, A>, AllocError>
-            requires kits { AreKits (S.limit cells.now) (S.is_pass cells.now) S.won heap.now collection.now claims.now queues.now idle.now verdict.now (length kits.items) kits.items }
+            requires kits { AreKits (S.limit cells.now)
+                (S.is_pass cells.now) S.won heap.now collection.now claims.now queues.now idle.now verdict.now
+                (length kits.items) kits.items }
             requires few { length kits.items < 65536 }
             requires voice { voice.name ≡ verdict.now.name }
-            requires bounds { IsSync R.row × IsSync S.row × IsSync G.row × IsSync A.row × IsSend A.row × IsSend S.Pass.row × Frees A.Allocator A.dealloc_token }
-            ensures { IfOk result (λ v. (length v.items ≡ length kits.items) × AreBroughtBack (S.is_pass cells.entry.now) S.known S.won heap.entry.now collection.entry.now claims.entry.now queues.entry.now (length kits.items) v.items) }
+            requires bounds { IsSync R.row × IsSync S.row × IsSync G.row × IsSync A.row × IsSend A.row ×
+                IsSend S.Pass.row × Frees A.Allocator A.dealloc_token }
+            ensures { IfOk result (λ v. (length v.items ≡ length kits.items) ×
+                AreBroughtBack (S.is_pass cells.entry.now) S.known S.won heap.entry.now collection.entry.now
+                claims.entry.now queues.entry.now (length kits.items) v.items) }
         {
             let count = kits.len();
             let workers = count as u32;
@@ -75,8 +84,12 @@ pub fn work_in_threads<
                 let started = scope.spawn_with(
                     OfShared(heap, collection, cells, claims, queues, workers, number),
                     move || -> Brought<S::Pass, A>
-                        requires { IsKit (S.limit cells.now) (S.is_pass cells.now) S.won heap.now collection.now claims.now queues.now idle.now verdict.now workers kit.seat.index kit }
-                        ensures { IsBroughtBack (S.is_pass cells.entry.now) S.known S.won heap.entry.now collection.entry.now claims.entry.now queues.entry.now workers kit.seat.index result }
+                        requires { IsKit (S.limit cells.now)
+                            (S.is_pass cells.now) S.won heap.now collection.now claims.now queues.now idle.now
+                            verdict.now workers kit.seat.index kit }
+                        ensures { IsBroughtBack
+                            (S.is_pass cells.entry.now) S.known S.won heap.entry.now collection.entry.now
+                            claims.entry.now queues.entry.now workers kit.seat.index result }
                     {
                         work_apart(
                             rt, heap, collection, cells, claims, queues, idle, verdict, gate,

@@ -58,7 +58,8 @@ fn race_in_two<R: Threads + Sync>(
     requires count { length cells.now ≡ 1000 }
     requires passes { IsPassOf cells.now first × IsPassOf cells.now second }
     requires worker { worker < 3 }
-    ensures { IfOk result (λ r. IsPassOf cells.now r.0.pass × IsPassOf cells.now r.1.pass × (r.0.pass.number ≡ first.number) × (r.1.pass.number ≡ second.number)) }
+    ensures { IfOk result (λ r. IsPassOf cells.now r.0.pass × IsPassOf cells.now r.1.pass ×
+        (r.0.pass.number ≡ first.number) × (r.1.pass.number ≡ second.number)) }
 {
     let (one, two) = join(
         rt,
@@ -82,20 +83,25 @@ fn race_in_four<R: Threads + Sync>(
     passes: (BoxPass, BoxPass, BoxPass, BoxPass),
 ) -> Result<((Raced, Raced), (Raced, Raced)), AllocError>
     requires count { length cells.now ≡ 1000 }
-    requires passes { IsPassOf cells.now passes.0 × IsPassOf cells.now passes.1 × IsPassOf cells.now passes.2 × IsPassOf cells.now passes.3 }
-    ensures passes { IfOk result (λ r. IsPassOf cells.now r.0.0.pass × IsPassOf cells.now r.0.1.pass × IsPassOf cells.now r.1.0.pass × IsPassOf cells.now r.1.1.pass) }
-    ensures numbers { IfOk result (λ r. (r.0.0.pass.number ≡ passes.0.number) × (r.0.1.pass.number ≡ passes.1.number) × (r.1.0.pass.number ≡ passes.2.number) × (r.1.1.pass.number ≡ passes.3.number)) }
+    requires passes { IsPassOf cells.now passes.0 × IsPassOf cells.now passes.1 × IsPassOf cells.now passes.2 ×
+        IsPassOf cells.now passes.3 }
+    ensures passes { IfOk result (λ r. IsPassOf cells.now r.0.0.pass × IsPassOf cells.now r.0.1.pass ×
+        IsPassOf cells.now r.1.0.pass × IsPassOf cells.now r.1.1.pass) }
+    ensures numbers { IfOk result (λ r. (r.0.0.pass.number ≡ passes.0.number) × (r.0.1.pass.number ≡ passes.1.number) ×
+        (r.1.0.pass.number ≡ passes.2.number) × (r.1.1.pass.number ≡ passes.3.number)) }
 {
     let (first, second, third, fourth) = passes;
     let (one, two) = join(
         rt,
         || -> Result<(Raced, Raced), AllocError>
             requires { IsSync R.row × (length cells.now ≡ 1000) × IsPassOf cells.now first × IsPassOf cells.now second }
-            ensures { IfOk result (λ r. IsPassOf cells.entry.now r.0.pass × IsPassOf cells.entry.now r.1.pass × (r.0.pass.number ≡ first.number) × (r.1.pass.number ≡ second.number)) }
+            ensures { IfOk result (λ r. IsPassOf cells.entry.now r.0.pass × IsPassOf cells.entry.now r.1.pass ×
+                (r.0.pass.number ≡ first.number) × (r.1.pass.number ≡ second.number)) }
         { race_in_two(rt, cells, alloc, first, second, 0) },
         || -> Result<(Raced, Raced), AllocError>
             requires { IsSync R.row × (length cells.now ≡ 1000) × IsPassOf cells.now third × IsPassOf cells.now fourth }
-            ensures { IfOk result (λ r. IsPassOf cells.entry.now r.0.pass × IsPassOf cells.entry.now r.1.pass × (r.0.pass.number ≡ third.number) × (r.1.pass.number ≡ fourth.number)) }
+            ensures { IfOk result (λ r. IsPassOf cells.entry.now r.0.pass × IsPassOf cells.entry.now r.1.pass ×
+                (r.0.pass.number ≡ third.number) × (r.1.pass.number ≡ fourth.number)) }
         { race_in_two(rt, cells, alloc, third, fourth, 2) },
     );
     Ok((one?, two?))
@@ -104,8 +110,10 @@ fn race_in_four<R: Threads + Sync>(
 // Cells for a thousand names, and four passes.
 fn four_passes(alloc: Global) -> Result<(BoxCells, (BoxPass, BoxPass, BoxPass, BoxPass)), Fail>
     ensures count { IfOk result (λ r. length r.0 ≡ 1000) }
-    ensures passes { IfOk result (λ r. IsPassOf r.0 r.1.0 × IsPassOf r.0 r.1.1 × IsPassOf r.0 r.1.2 × IsPassOf r.0 r.1.3) }
-    ensures numbers { IfOk result (λ r. (r.1.0.number ≡ 0) × (r.1.1.number ≡ 1) × (r.1.2.number ≡ 2) × (r.1.3.number ≡ 3)) }
+    ensures passes { IfOk result (λ r. IsPassOf r.0 r.1.0 × IsPassOf r.0 r.1.1 × IsPassOf r.0 r.1.2 ×
+        IsPassOf r.0 r.1.3) }
+    ensures numbers { IfOk result (λ r. (r.1.0.number ≡ 0) × (r.1.1.number ≡ 1) × (r.1.2.number ≡ 2) ×
+        (r.1.3.number ≡ 3)) }
 {
     let (cells, mut passes) = BoxCells::new(alloc, alloc, 1000, 4)?;
     let (Some(fourth), Some(third)) = (passes.pop(), passes.pop()) else {
@@ -123,7 +131,8 @@ fn settle_four(
     alloc: Global,
     passes: (BoxPass, BoxPass, BoxPass, BoxPass),
 ) -> Result<Forwards, SettleError>
-    requires passes { IsPassOf cells passes.0 × IsPassOf cells passes.1 × IsPassOf cells passes.2 × IsPassOf cells passes.3 }
+    requires passes { IsPassOf cells passes.0 × IsPassOf cells passes.1 × IsPassOf cells passes.2 ×
+        IsPassOf cells passes.3 }
     requires numbers { (passes.0.number ≡ 0) × (passes.1.number ≡ 1) × (passes.2.number ≡ 2) × (passes.3.number ≡ 3) }
 {
     let (first, second, third, fourth) = passes;

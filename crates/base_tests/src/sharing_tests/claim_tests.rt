@@ -172,14 +172,16 @@ fn draw_apart<R: Threads + Wait>(
     count: u32,
 ) -> Result<Vec<Result<Done, AllocError>>, AllocError>
     requires { All (IsSeatOf claims.now.source) seats.items }
-    ensures { IfOk result (λ all. (vec_len all ≡ vec_len seats) × All (λ r. IfOk r (λ d. IsSeatOf claims.now.source d.seat)) all.items) }
+    ensures { IfOk result (λ all. (vec_len all ≡ vec_len seats) ×
+        All (λ r. IfOk r (λ d. IsSeatOf claims.now.source d.seat)) all.items) }
 {
     thread::scope(
         thread::scope_env(),
         rt,
         |scope| -> Result<Vec<Result<Done, AllocError>>, AllocError>
             requires { All (IsSeatOf claims.now.source) seats.items }
-            ensures { IfOk result (λ all. (vec_len all ≡ vec_len seats) × All (λ r. IfOk r (λ d. IsSeatOf claims.entry.now.source d.seat)) all.items) }
+            ensures { IfOk result (λ all. (vec_len all ≡ vec_len seats) ×
+                All (λ r. IfOk r (λ d. IsSeatOf claims.entry.now.source d.seat)) all.items) }
         {
             let mut handles = Vec::with_capacity(alloc, seats.len())?;
             for seat in seats {
@@ -209,7 +211,8 @@ fn bring_together(
     results: Vec<Result<Done, AllocError>>,
 ) -> Result<Joined, AllocError>
     requires { All (λ r. IfOk r (λ d. IsSeatOf claims.now.source d.seat)) results.items }
-    ensures { IfOk result (λ all. All (IsSeatOf claims.now.source) all.seats.items × (vec_len all.seats ≡ vec_len results)) }
+    ensures { IfOk result (λ all. All (IsSeatOf claims.now.source) all.seats.items ×
+        (vec_len all.seats ≡ vec_len results)) }
 {
     let mut seats = Vec::new(alloc);
     let mut numbers = Vec::new(alloc);
@@ -241,7 +244,8 @@ fn draw_together<R: Threads + Wait>(
     count: u32,
 ) -> Result<Joined, AllocError>
     requires { All (IsSeatOf claims.now.source) seats.items }
-    ensures { IfOk result (λ all. All (IsSeatOf claims.now.source) all.seats.items × (vec_len all.seats ≡ vec_len seats)) }
+    ensures { IfOk result (λ all. All (IsSeatOf claims.now.source) all.seats.items ×
+        (vec_len all.seats ≡ vec_len seats)) }
 {
     let results = draw_apart(rt, alloc, claims, seats, count)?;
     bring_together(alloc, claims, results)

@@ -55,7 +55,8 @@ fn raise_apart<R: Threads + Wait>(
         rt,
         |scope| -> Result<Vec<Told>, AllocError>
             requires { All (λ s. s.name ≡ verdict.now.name) seats.items }
-            ensures { IfOk result (λ all. (vec_len all ≡ vec_len seats) × All (λ t. t.seat.name ≡ verdict.entry.now.name) all.items) }
+            ensures { IfOk result (λ all. (vec_len all ≡ vec_len seats) ×
+                All (λ t. t.seat.name ≡ verdict.entry.now.name) all.items) }
         {
             let mut handles = Vec::with_capacity(alloc, seats.len())?;
             let mut cause = Cause::Ended;

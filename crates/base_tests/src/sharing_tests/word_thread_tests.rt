@@ -77,7 +77,8 @@ fn race_in_threads<R: Threads + Wait>(
         rt,
         |scope| -> Result<Vec<Done>, AllocError>
             requires { All (λ p. p.id ≡ cells.now.id) passes.items × (vec_len passes ≤ 4) × (cells.now.count ≡ 1000) }
-            ensures { IfOk result (λ v. (vec_len v ≡ vec_len passes) × All (λ d. d.pass.id ≡ cells.entry.now.id) v.items) }
+            ensures { IfOk result (λ v. (vec_len v ≡ vec_len passes) ×
+                All (λ d. d.pass.id ≡ cells.entry.now.id) v.items) }
         {
             let mut handles = Vec::new(alloc);
             let mut worker = 0u16;

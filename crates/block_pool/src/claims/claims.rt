@@ -76,7 +76,14 @@ fn deal<A: Allocator, B: Allocator>(
     requires parts { first.me ≡ (share table.now.shared.key.free table.now.shared.key.seats count [] 0, []) }
     requires seats { seats.items ≡ [] }
     ensures count { IfOk result (λ all. length all.items ≡ count) }
-    ensures seats { IfOk result (λ all. All (λ s. s ≡ unused (record { name = table.now.shared.table_id; free = table.now.shared.key.free; seats = table.now.shared.key.seats })) all.items) }
+    ensures seats { IfOk result
+        (λ all. All (λ s. s ≡
+        unused (record {
+          name = table.now.shared.table_id;
+          free = table.now.shared.key.free;
+          seats =
+              table.now.shared.key.seats;
+        })) all.items) }
 {
     for _ in 0..count {
         let seat = table.shared.split_seat::<Deal>(&mut first);
@@ -147,13 +154,15 @@ impl<A: Allocator> Claims<A> {
     pub fn draw(&self, seat: &mut ClaimSeat) -> Option<u32>
         requires seat { IsSeatOf self.now.source seat.old }
         ensures seat { IsSeatOf self.now.source seat.new }
-        ensures drawn { MatchOption result (seat.new ≡ record seat.old { out = true }) (λ n. (seat.new ≡ record seat.old { drawn = seat.old.drawn ++ n ∷ [] }) × Contains self.now.source.free n) }
+        ensures drawn { MatchOption result (seat.new ≡ record seat.old { out = true })
+            (λ n. (seat.new ≡ record seat.old { drawn = seat.old.drawn ++ n ∷ [] }) × Contains self.now.source.free n) }
         ensures fresh { IfSome result (λ n. ¬ Contains seat.old.drawn n) }
         ensures few { length seat.new.drawn ≤ length self.now.source.free }
         ensures out { seat.old.out ≡ true → result ≡ None }
 
         // The only seat finds none only where it drew all.
-        ensures used_up { result ≡ None → self.now.source.seats ≡ 1 → (x : ℕ) → times_in x seat.old.drawn ≡ times_in x self.now.source.free }
+        ensures used_up { result ≡ None → self.now.source.seats ≡ 1 → (x : ℕ) →
+            times_in x seat.old.drawn ≡ times_in x self.now.source.free }
     {
         if seat.out {
             return None;

@@ -91,7 +91,8 @@ impl<A: Allocator> NumberSet<A> {
 
     /// Takes the lowest member out. None says that there is no member.
     pub fn pop_first(&mut self) -> Option<u32>
-        ensures value { MatchOption result ((self.old.members ≡ []) × (self.new ≡ self.old)) (λ n. self.old.members ≡ n ∷ self.new.members) }
+        ensures value { MatchOption result ((self.old.members ≡ []) × (self.new ≡ self.old))
+            (λ n. self.old.members ≡ n ∷ self.new.members) }
         ensures limit { self.new.limit ≡ self.old.limit }
     {
         let at = next_word(&self.words, self.lowest);

@@ -74,7 +74,8 @@ impl<A: Allocator> RankedSet<A> {
     /// The member that has `k` members below it. None says that there are not so many.
     pub fn nth(&self, k: usize) -> Option<u32>
         ensures value { result ≡ slice_get self.now k }
-        ensures cases { MatchOption result (length self.now ≤ k) (λ n. (k < length self.now) × HoldsAt (λ m. n ≡ m) self.now k) }
+        ensures cases { MatchOption result (length self.now ≤ k) (λ n. (k < length self.now) ×
+            HoldsAt (λ m. n ≡ m) self.now k) }
     {
         let ranks = &*self.ranks;
         if k >= ranks.count {

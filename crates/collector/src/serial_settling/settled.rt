@@ -55,7 +55,8 @@ fn reported<A: Allocator>(
     won: Vec<Won, A>,
     scanned: Vec<Place, A>,
 ) -> Result<Vec<WorkerReport<A>, A>, AllocError>
-    ensures { IfOk result (λ v. v.items ≡ record { won = map won_value won.items; scanned = map place_word scanned.items } ∷ []) }
+    ensures { IfOk result
+        (λ v. v.items ≡ record { won = map won_value won.items; scanned = map place_word scanned.items } ∷ []) }
 {
     let mut workers = Vec::with_capacity(alloc, 1)?;
     workers.push_reserved(WorkerReport::new(won, scanned));
@@ -71,8 +72,10 @@ pub fn settle<A: Allocator + Clone>(
     requires collection { collection ≡ serial.collection }
     requires out { IsOutOfWork serial.workspace.worker }
     requires queue { waiting_in (lane_of serial) ≡ [] }
-    requires reached { IsReached (setting_in serial) (destinations_in serial) 1 (targets_in serial) serial.heap.free (system_of serial) }
-    ensures settled { IfOk result (λ s. IsSettled serial.heap s.collection s.places s.blocks.items (all_won s.workers.items)) }
+    requires reached { IsReached (setting_in serial) (destinations_in serial) 1 (targets_in serial) serial.heap.free
+        (system_of serial) }
+    ensures settled { IfOk result
+        (λ s. IsSettled serial.heap s.collection s.places s.blocks.items (all_won s.workers.items)) }
     ensures collection { IfOk result (λ s. s.collection ≡ serial.collection) }
     ensures lists { IfOk result (λ s. IsReportOf serial s.workers.items) }
     ensures once { OnOk result (ScansWhatItWon serial.workspace.worker) }

@@ -80,7 +80,8 @@ fn empty_cells(alloc: Global, count: u32) -> Result<Vec<OnceBox<Bid>>, AllocErro
 fn offer(cell: &OnceBox<Bid>, note: &mut Note<Bid>, mine: Box<Bid>) -> Option<Bid>
     requires { note.old.cell ≡ cell_name cell.now }
     ensures cell { note.new.cell ≡ note.old.cell }
-    ensures value { MatchOption result ((note.old.known ≡ None) × (note.new.known ≡ Some mine.value)) (λ b. (note.new.known ≡ Some b) × Agrees note.old.known b) }
+    ensures value { MatchOption result ((note.old.known ≡ None) × (note.new.known ≡ Some mine.value))
+        (λ b. (note.new.known ≡ Some b) × Agrees note.old.known b) }
 {
     if cell.set_as(mine, note).is_ok() {
         return None;
@@ -157,7 +158,8 @@ impl BoxCells {
         requires pass { IsPassOf self.now pass.old }
         requires name { name < length self.now }
         ensures pass { IsStep pass.old pass.new }
-        ensures known { IfOk result (λ o. Learns (known_at pass.old) (known_at pass.new) name (Some (place_after o place))) }
+        ensures known { IfOk result
+            (λ o. Learns (known_at pass.old) (known_at pass.new) name (Some (place_after o place))) }
         ensures won { IfOk result (λ o. RaceEnds (known_at pass.old name) pass.old.won pass.new.won name place o) }
         ensures err { OnErr result (pass.new ≡ pass.old) }
     {

@@ -54,7 +54,8 @@ impl BoxCells {
     ) -> Result<Forwards<B>, SettleError>
         requires passes { All (IsPassOf self) passes.items }
         requires apart { AllPairs IsApart passes.items }
-        ensures settled { IfOk result (λ f. IsSettled known_at won_by passes.items (length self) (λ name. slice_index_or f name None)) }
+        ensures settled { IfOk result
+            (λ f. IsSettled known_at won_by passes.items (length self) (λ name. slice_index_or f name None)) }
         ensures many { IfOk result (λ f. length f ≡ length self) }
         ensures all_won { OnOk result (AllWon known_at won_by passes.items) }
         ensures not_won { result ≡ Err Unsettled → ¬ AllWon known_at won_by passes.items }

@@ -85,7 +85,9 @@ impl<A: Allocator> PlainCells<A> {
         requires apart { AllPairs Differ passes.items }
         requires all { length passes.items ≡ self.passes }
         ensures ok { IsOk result }
-        ensures settled { IfOk result (λ f. IsSettled known_by (λ p. p.won) passes.items (length self.held) (λ name. slice_index_or f name None)) }
+        ensures settled { IfOk result
+            (λ f. IsSettled known_by (λ p. p.won) passes.items (length self.held)
+            (λ name. slice_index_or f name None)) }
         ensures exact { IfOk result (λ f. f ≡ map place_of self.held) }
         ensures agree { OnOk result (Agree known_by passes.items) }
         ensures never_unsettled { result ≢ Err SettleError.Unsettled }
@@ -98,7 +100,8 @@ impl<A: Allocator> PlainCells<A> {
     pub fn settle_alone(self, pass: PlainPass) -> Forwards<A>
         requires fits { IsFit self pass }
         requires alone { self.passes ≡ 1 }
-        ensures settled { IsSettled known_by (λ p. p.won) (pass ∷ []) (length self.held) (λ name. slice_index_or result name None) }
+        ensures settled { IsSettled known_by (λ p. p.won) (pass ∷ []) (length self.held)
+            (λ name. slice_index_or result name None) }
         ensures exact { result ≡ map place_of self.held }
         ensures agree { Agree known_by (pass ∷ []) }
     {

@@ -18,7 +18,8 @@ fn deal<A: Allocator>(
     mut passes: Vec<WordPass, A>,
     count: usize,
 ) -> Vec<WordPass, A>
-    requires seat { (seat.table_id ≡ table.now.shared.table_id) × (0 < table.now.shared.table_id.words) × (seat.me.1 ≡ []) }
+    requires seat { (seat.table_id ≡ table.now.shared.table_id) × (0 < table.now.shared.table_id.words) ×
+        (seat.me.1 ≡ []) }
     requires parts { (seat.me.0.parts ≡ count) × (0 < count) × (seat.me.0.known ≡ []) × (seat.me.0.won ≡ []) }
     requires passes { (passes.items ≡ []) × (count ≤ vec_capacity passes) }
     ensures many { length result.items ≡ count }
@@ -62,10 +63,12 @@ fn read_words<A: Allocator, B: Allocator>(
     count: u32,
     mut words: Vec<u64, B>,
 ) -> Vec<u64, B>
-    requires words { (count ≤ slots_len closed.now.words) × (length (slots_items closed.now.words) ≡ slots_len closed.now.words) × IsFull closed.now.words }
+    requires words { (count ≤ slots_len closed.now.words) ×
+        (length (slots_items closed.now.words) ≡ slots_len closed.now.words) × IsFull closed.now.words }
     requires room { (words.items ≡ []) × (count ≤ vec_capacity words) }
     ensures many { length result.items ≡ count }
-    ensures shown { (name : ℕ) → name < count → slice_index result.items name ≡ slice_index (slots_items closed.now.words) name }
+    ensures shown { (name : ℕ) → name < count →
+        slice_index result.items name ≡ slice_index (slots_items closed.now.words) name }
 {
     for name in 0..count {
         words.push_reserved(closed.word(name as usize));
@@ -126,7 +129,9 @@ impl<A: Allocator> WordCells<A> {
     pub fn settle<B: Allocator>(self, passes: Vec<WordPass, B>) -> Result<Forwards<A>, SettleError>
         requires passes { All (λ p. p.id ≡ self.id) passes.items }
         requires all { length passes.items ≡ self.passes }
-        ensures settled { IfOk result (λ f. IsSettled (λ p. known_in p.known) (λ p. p.won) passes.items self.count (λ name. slice_index_or f name None)) }
+        ensures settled { IfOk result
+            (λ f. IsSettled (λ p. known_in p.known) (λ p. p.won) passes.items self.count
+            (λ name. slice_index_or f name None)) }
         ensures many { IfOk result (λ f. length f ≡ self.count) }
         ensures agree { OnOk result (Agree (λ p. known_in p.known) passes.items) }
         ensures never_unsettled { result ≢ Err SettleError.Unsettled }

@@ -107,7 +107,8 @@ impl<A: Allocator> WordCells<A> {
         requires pass { pass.old.id ≡ self.now.id }
         requires name { name < self.now.count }
         ensures pass { pass.new.id ≡ pass.old.id }
-        ensures known { Learns (known_in pass.old.known) (known_in pass.new.known) name (Some (place_after result place)) }
+        ensures known { Learns (known_in pass.old.known) (known_in pass.new.known) name
+            (Some (place_after result place)) }
         ensures won { RaceEnds (known_in pass.old.known name) pass.old.won pass.new.won name place result }
     {
         let found = self

@@ -30,9 +30,11 @@ pub fn commit<A: Allocator + Clone>(
     requires settled { IsSettled (heap_of objects.old roots.old.slots)
         settled.collection settled.places settled.blocks.items (all_won settled.workers.items) }
     ensures ok { IfOk result (λ _. IsEnded (heap_of objects.old roots.old.slots) settled.collection.generation
-        (renaming_of (young_names (heap_of objects.old roots.old.slots).graph settled.collection.generation) (all_won settled.workers.items))
+        (renaming_of (young_names (heap_of objects.old roots.old.slots).graph settled.collection.generation)
+        (all_won settled.workers.items))
         (heap_of objects.new roots.new.slots)) }
-    ensures kept { IfOk result (λ report. LiveCount (heap_of objects.old roots.old.slots).graph settled.collection.generation report.kept) }
+    ensures kept { IfOk result
+        (λ report. LiveCount (heap_of objects.old roots.old.slots).graph settled.collection.generation report.kept) }
     ensures won { IfOk result (λ report. report.kept ≡ sum_by (λ w. length w.won) settled.workers.items) }
     ensures freed { IfOk result (λ report. report.kept + report.freed
         ≡ length (young_names (heap_of objects.old roots.old.slots).graph settled.collection.generation)) }

@@ -37,8 +37,10 @@ pub(crate) fn install<A: Allocator + Clone>(
     requires count { length places ≡ length (young_names (graph_in objects.old) g) }
     requires fields { All (CanWrite objects.old g places) (map field_write fields.now) }
     requires once { IsDistinct nat_eq (map (λ r. r.number) renamed.now) }
-    ensures objects { OnOk result (Installed objects.old g blocks.items places (map field_write fields.now) objects.new) }
-    ensures roots { OnOk result ((n : ℕ) → root_word roots.new.slots n ≡ renamed_word (map root_pair renamed.now) n (root_word roots.old.slots n)) }
+    ensures objects { OnOk result
+        (Installed objects.old g blocks.items places (map field_write fields.now) objects.new) }
+    ensures roots { OnOk result ((n : ℕ) →
+        root_word roots.new.slots n ≡ renamed_word (map root_pair renamed.now) n (root_word roots.old.slots n)) }
     ensures objects_as_before { OnErr result (objects.new ≡ objects.old) }
     ensures roots_as_before { OnErr result (roots.new ≡ roots.old) }
 {

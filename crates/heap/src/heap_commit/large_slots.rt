@@ -56,7 +56,8 @@ pub(crate) fn large_slots<A: Allocator + Clone>(
     requires closed { IsClosed (graph_in objects.now) }
     requires numbering { IsNumbering (graph_in objects.now) g numbering.now }
     requires count { length places.now ≡ length (young_names (graph_in objects.now) g) }
-    ensures { IfOk result (λ slots. (found : List OldSlot) × (map slot_value slots.items ≡ map field_slot_of found) × AreLargeSlots objects.now g places.now found) }
+    ensures { IfOk result (λ slots. (found : List OldSlot) × (map slot_value slots.items ≡ map field_slot_of found) ×
+        AreLargeSlots objects.now g places.now found) }
 {
     let mut slots = Vec::new(alloc);
     let mut from = 0;

@@ -33,11 +33,14 @@ pub(crate) fn moved_fields<A: Allocator + Clone>(
     requires numbering { IsNumbering (graph_in objects.now) g numbering.now }
     requires leads { SlotsLeadToObjects objects.now (map slot_value slots.now) }
     requires count { length places.now ≡ length (young_names (graph_in objects.now) g) }
-    requires named { All (λ slot. (number : ℕ) → IsNumbered objects.now g (target_of_slot slot) number → IsSome (slice_index_or places.now number None)) (map slot_value slots.now) }
-    requires large_named { (slot : OldSlot) → IsLargeSlot objects.now g places.now slot → (number : ℕ) → IsNumbered objects.now g slot.target number → IsSome (slice_index_or places.now number None) }
+    requires named { All (λ slot. (number : ℕ) → IsNumbered objects.now g (target_of_slot slot) number →
+        IsSome (slice_index_or places.now number None)) (map slot_value slots.now) }
+    requires large_named { (slot : OldSlot) → IsLargeSlot objects.now g places.now slot → (number : ℕ) →
+        IsNumbered objects.now g slot.target number → IsSome (slice_index_or places.now number None) }
     ensures { IfOk result (λ fields. (found : List OldSlot) × AreLargeSlots objects.now g places.now found
         × ((f : ℕ → ℕ) → Moves objects.now g places.now f
-        → map field_write fields.items ≡ writes_by f (map slot_value slots.now) ++ writes_by f (map field_slot_of found))) }
+        → map field_write fields.items ≡
+        writes_by f (map slot_value slots.now) ++ writes_by f (map field_slot_of found))) }
 {
     let mut fields = Vec::new(alloc.clone()?);
     push_renamed(&mut fields, objects, slots, numbering, g, places)?;

@@ -44,7 +44,8 @@ fn place_after<A: Allocator + Clone>(
     requires numbering { IsNumbering (graph_in objects.now) g numbering.now }
     requires there { IsSome (get objects.now.objects (place_word place)) }
     requires count { length places.now ≡ length (young_names (graph_in objects.now) g) }
-    requires named { (number : ℕ) → IsNumbered objects.now g (place_word place) number → IsSome (slice_index_or places.now number None) }
+    requires named { (number : ℕ) → IsNumbered objects.now g (place_word place) number →
+        IsSome (slice_index_or places.now number None) }
     ensures { (f : ℕ → ℕ) → Moves objects.now g places.now f → place_word result ≡ f (place_word place) }
 {
     let (_object, _step, number) = objects.find(numbering, g, place);
@@ -66,7 +67,8 @@ pub(crate) fn renamed_roots<A: Allocator + Clone>(
     requires numbering { IsNumbering (graph_in objects.now) g numbering.now }
     requires leads { SlotsLeadToObjects objects.now (map slot_value slots.now) }
     requires count { length places.now ≡ length (young_names (graph_in objects.now) g) }
-    requires named { All (λ slot. (number : ℕ) → IsNumbered objects.now g (target_of_slot slot) number → IsSome (slice_index_or places.now number None)) (map slot_value slots.now) }
+    requires named { All (λ slot. (number : ℕ) → IsNumbered objects.now g (target_of_slot slot) number →
+        IsSome (slice_index_or places.now number None)) (map slot_value slots.now) }
     ensures { IfOk result (λ renamed. (f : ℕ → ℕ) → Moves objects.now g places.now f
         → map root_pair renamed.items ≡ roots_by f (map slot_value slots.now)) }
 {
@@ -94,9 +96,11 @@ pub(crate) fn push_renamed<A: Allocator + Clone>(
     requires numbering { IsNumbering (graph_in objects.now) g numbering.now }
     requires leads { SlotsLeadToObjects objects.now (map slot_value slots.now) }
     requires count { length places.now ≡ length (young_names (graph_in objects.now) g) }
-    requires named { All (λ slot. (number : ℕ) → IsNumbered objects.now g (target_of_slot slot) number → IsSome (slice_index_or places.now number None)) (map slot_value slots.now) }
+    requires named { All (λ slot. (number : ℕ) → IsNumbered objects.now g (target_of_slot slot) number →
+        IsSome (slice_index_or places.now number None)) (map slot_value slots.now) }
     ensures { OnOk result ((f : ℕ → ℕ) → Moves objects.now g places.now f
-        → map field_write renamed.new.items ≡ map field_write renamed.old.items ++ writes_by f (map slot_value slots.now)) }
+        → map field_write renamed.new.items ≡
+        map field_write renamed.old.items ++ writes_by f (map slot_value slots.now)) }
 {
     for slot in slots {
         if let Slot::Field {
@@ -120,7 +124,8 @@ pub(crate) fn write_fields<A: Allocator + Clone>(
     objects: &mut HeapObjects<A>,
     fields: &[RenamedField],
 )
-    requires { All (λ w. IsSomeAnd (get objects.old.objects w.0) (λ o. w.1.0 < length o.pointers)) (map field_write fields.now) }
+    requires { All (λ w. IsSomeAnd (get objects.old.objects w.0) (λ o. w.1.0 < length o.pointers))
+        (map field_write fields.now) }
     ensures config { objects.new.config ≡ objects.old.config }
     ensures rooms { objects.new.rooms ≡ objects.old.rooms }
     ensures free { objects.new.free ≡ objects.old.free }

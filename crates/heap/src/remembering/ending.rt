@@ -31,11 +31,14 @@ fn note_all<A: Allocator + Clone>(
     sets: &mut Remembered<A>,
     settled: &Settled<A>,
 ) -> Result<(), AllocError>
-    requires numbering { IsNumbering (graph_in objects.now) settled.now.collection.generation settled.now.collection.numbering }
-    requires count { length settled.now.places ≡ length (young_names (graph_in objects.now) settled.now.collection.generation) }
+    requires numbering { IsNumbering
+        (graph_in objects.now) settled.now.collection.generation settled.now.collection.numbering }
+    requires count { length settled.now.places ≡
+        length (young_names (graph_in objects.now) settled.now.collection.generation) }
     ensures grown { AreGrown sets.old sets.new }
     ensures copies { OnOk result (AreNoted sets.new (copies_of settled.now.blocks.items)) }
-    ensures large { OnOk result (AreLargeNoted sets.new objects.now settled.now.collection.generation settled.now.places) }
+    ensures large { OnOk result
+        (AreLargeNoted sets.new objects.now settled.now.collection.generation settled.now.places) }
 {
     note_copies(sets, &settled.blocks)?;
     note_large(sets, objects, &settled.collection, &settled.places)
@@ -55,10 +58,14 @@ pub fn commit<A: Allocator + Clone>(
         settled.collection settled.places settled.blocks.items (all_won settled.workers.items) }
     requires covers { CoversYounger (heap_with objects.old roots.old.slots sets.old).graph sets.old }
     requires generations { length sets.old ≡ objects.old.config.shape.generations }
-    ensures ok { IfOk result (λ _. CollectedHeap (heap_with objects.old roots.old.slots sets.old) settled.collection.generation
-        (renaming_of (young_names (heap_with objects.old roots.old.slots sets.old).graph settled.collection.generation) (all_won settled.workers.items))
+    ensures ok { IfOk result
+        (λ _. CollectedHeap (heap_with objects.old roots.old.slots sets.old) settled.collection.generation
+        (renaming_of (young_names (heap_with objects.old roots.old.slots sets.old).graph settled.collection.generation)
+        (all_won settled.workers.items))
         (heap_with objects.new roots.new.slots sets.new)) }
-    ensures kept { IfOk result (λ report. LiveCount (heap_with objects.old roots.old.slots sets.old).graph settled.collection.generation report.kept) }
+    ensures kept { IfOk result
+        (λ report. LiveCount
+        (heap_with objects.old roots.old.slots sets.old).graph settled.collection.generation report.kept) }
     ensures won { IfOk result (λ report. report.kept ≡ sum_by (λ w. length w.won) settled.workers.items) }
     ensures freed { IfOk result (λ report. report.kept + report.freed
         ≡ length (young_names (heap_with objects.old roots.old.slots sets.old).graph settled.collection.generation)) }

@@ -102,8 +102,10 @@ impl<A: Allocator> Roots<A> {
 
     /// Has a root lead to a place. A number that is not in use stays so.
     pub fn set(&mut self, number: usize, place: Place)
-        ensures changed { slice_index_or self.new.slots number None ≡ option_map (λ _. place) (slice_index_or self.old.slots number None) }
-        ensures others { (n : ℕ) → n ≢ number → slice_index_or self.new.slots n None ≡ slice_index_or self.old.slots n None }
+        ensures changed { slice_index_or self.new.slots number None ≡
+            option_map (λ _. place) (slice_index_or self.old.slots number None) }
+        ensures others { (n : ℕ) → n ≢ number →
+            slice_index_or self.new.slots n None ≡ slice_index_or self.old.slots n None }
         ensures next { self.new.next ≡ self.old.next }
     {
         if let Some(root) = self.slab.get_mut(number) {
@@ -113,7 +115,8 @@ impl<A: Allocator> Roots<A> {
 
     /// The root of the lowest number from this one on. None says that there is none from there on.
     pub fn first_from(&self, from: usize) -> Option<(usize, Place)>
-        ensures first { MatchOption result (NoneFrom self.now.slots from) (λ root. IsFirstFrom self.now.slots from root.0 root.1) }
+        ensures first { MatchOption result (NoneFrom self.now.slots from)
+            (λ root. IsFirstFrom self.now.slots from root.0 root.1) }
         ensures in_range { IfSome result (λ root. root.0 + 1 < 2 ^ 64) }
     {
         let _capacity = self.slab.capacity();

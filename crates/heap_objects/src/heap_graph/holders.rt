@@ -24,7 +24,8 @@ fn small_of_generation<A: Allocator>(
     requires short { length table.now ≤ 65535 }
     ensures object { (graph : Graph) (large : LargeValue) → IsHeapGraph graph table.now large
         → MatchOption result (object_of_generation graph h (small_word at.block at.offset) ≡ None)
-        (λ object. IsSomeAnd (object_of_generation graph h (small_word at.block at.offset)) (λ o. IsShownAs o (raw_of object))) }
+        (λ object. IsSomeAnd (object_of_generation graph h (small_word at.block at.offset))
+        (λ o. IsShownAs o (raw_of object))) }
     ensures closed { (graph : Graph) (large : LargeValue) → IsHeapGraph graph table.now large
         → IfSome result (λ object. All (IsClosedWord graph) (raw_of object).pointers) }
 {
@@ -44,10 +45,13 @@ fn large_of_generation<A: Allocator>(
     h: u8,
     number: LargeNumber,
 ) -> Option<ObjectRef<'_>>
-    ensures object { (graph : Graph) (table : List (Option BlockValue)) → length table ≤ 65535 → IsHeapGraph graph table large.now
+    ensures object { (graph : Graph) (table : List (Option BlockValue)) → length table ≤ 65535 →
+        IsHeapGraph graph table large.now
         → MatchOption result (object_of_generation graph h (large_word number.number) ≡ None)
-        (λ object. IsSomeAnd (object_of_generation graph h (large_word number.number)) (λ o. IsShownAs o (raw_of object))) }
-    ensures closed { (graph : Graph) (table : List (Option BlockValue)) → length table ≤ 65535 → IsHeapGraph graph table large.now
+        (λ object. IsSomeAnd (object_of_generation graph h (large_word number.number))
+        (λ o. IsShownAs o (raw_of object))) }
+    ensures closed { (graph : Graph) (table : List (Option BlockValue)) → length table ≤ 65535 →
+        IsHeapGraph graph table large.now
         → IfSome result (λ object. All (IsClosedWord graph) (raw_of object).pointers) }
 {
     let Some((generation, _step)) = large.step_of(number) else {

@@ -57,7 +57,8 @@ fn push_fields<A: Allocator, B: Allocator>(
 ) -> Result<(), AllocError>
     requires short { length table.now ≤ 65535 }
     requires few { length pointers.now < 2 ^ 32 }
-    ensures { OnOk result ((graph : Graph) → IsHeapGraph graph table.now large.now → All (IsClosedWord graph) pointers.now
+    ensures { OnOk result ((graph : Graph) → IsHeapGraph graph table.now large.now →
+        All (IsClosedWord graph) pointers.now
         → map slot_value slots.new.items ≡ map slot_value slots.old.items
         ++ map field_slot_of (slots_of_fields graph g (place_word holder) 0 (map target_of_word pointers.now))) }
 {
@@ -87,7 +88,9 @@ pub fn push_slots_of<A: Allocator, B: Allocator>(
 ) -> Result<(), AllocError>
     requires short { length table.now ≤ 65535 }
     ensures { OnOk result ((graph : Graph) → IsHeapGraph graph table.now large.now
-        → map slot_value slots.new.items ≡ map slot_value slots.old.items ++ map field_slot_of (slots_at graph generation holder_generation (place_word place))) }
+        → map slot_value slots.new.items ≡
+        map slot_value slots.old.items ++ map field_slot_of
+        (slots_at graph generation holder_generation (place_word place))) }
 {
     match object_of_generation(table, large, holder_generation, place) {
         Some(object) => push_fields(slots, table, large, generation, place, object.pointers),

@@ -46,7 +46,8 @@ fn points_below<A: Allocator>(
 ) -> bool
     requires short { length table.now ≤ 65535 }
     ensures { (graph : Graph) → IsHeapGraph graph table.now large.now → All (IsClosedWord graph) pointers.now
-        → result ≡ list_any (points_to (λ target. nat_lt target.generation generation) (object_at graph)) (map target_of_word pointers.now) }
+        → result ≡ list_any (points_to (λ target. nat_lt target.generation generation) (object_at graph))
+        (map target_of_word pointers.now) }
 {
     for word in pointers {
         if leads_below(table, large, *word, generation) {
@@ -64,7 +65,8 @@ pub fn is_holder<A: Allocator>(
     place: Place,
 ) -> bool
     requires short { length table.now ≤ 65535 }
-    ensures { (graph : Graph) → IsHeapGraph graph table.now large.now → result ≡ is_holder graph holder_generation (place_word place) }
+    ensures { (graph : Graph) → IsHeapGraph graph table.now large.now →
+        result ≡ is_holder graph holder_generation (place_word place) }
 {
     match object_of_generation(table, large, holder_generation, place) {
         Some(object) => points_below(table, large, object.pointers, holder_generation),
@@ -80,7 +82,8 @@ fn count_block<A: Allocator>(
 ) -> u64
     requires short { length table.now ≤ 65535 }
     ensures few { result ≤ 512 }
-    ensures value { (graph : Graph) (number : ℕ) → IsHeapGraph graph table.now large.now → slot_at table.now number ≡ Some block.now
+    ensures value { (graph : Graph) (number : ℕ) → IsHeapGraph graph table.now large.now →
+        slot_at table.now number ≡ Some block.now
         → result ≡ count_by (points_younger (object_at graph)) (map (λ e. e.1) (block_objects number block.now)) }
 {
     let _words = block.words();
@@ -103,7 +106,8 @@ fn count_older<A: Allocator>(
     requires in_range { number < length table.now }
     ensures few { result ≤ 512 }
     ensures value { (graph : Graph) → IsHeapGraph graph table.now large.now
-        → result ≡ count_by (points_younger (object_at graph)) (map (λ e. e.1) (slot_objects number (slot_at table.now number))) }
+        → result ≡ count_by (points_younger (object_at graph))
+        (map (λ e. e.1) (slot_objects number (slot_at table.now number))) }
 {
     match &table[number] {
         Some(block) => {
@@ -137,7 +141,8 @@ fn large_points_younger<A: Allocator>(
     number: LargeNumber,
 ) -> bool
     requires short { length table.now ≤ 65535 }
-    ensures { (graph : Graph) (object : LargeObject) → IsHeapGraph graph table.now large.now → large_at large.now number.number ≡ Some object
+    ensures { (graph : Graph) (object : LargeObject) → IsHeapGraph graph table.now large.now →
+        large_at large.now number.number ≡ Some object
         → result ≡ points_younger (object_at graph) (large_object object) }
 {
     let Some((generation, _step)) = large.step_of(number) else {

@@ -74,7 +74,8 @@ fn nursery_blocks(config: Config) -> usize
 fn flag_first<A: Allocator>(areas: &mut AreaFlags<A>, number: usize, offset: usize)
     requires some { 0 < length areas.old }
     requires room { (len : ℕ) × HasRoom areas.old len × (number < len) }
-    ensures flags { (g n : ℕ) → is_flagged areas.new g n ≡ ((nat_eq offset 0 && nat_eq n number) || is_flagged areas.old g n) }
+    ensures flags { (g n : ℕ) →
+        is_flagged areas.new g n ≡ ((nat_eq offset 0 && nat_eq n number) || is_flagged areas.old g n) }
     ensures room { (len : ℕ) → HasRoom areas.old len → HasRoom areas.new len }
     ensures generations { length areas.new ≡ length areas.old }
 {
@@ -124,7 +125,8 @@ impl<A: Allocator + Clone> Space<A> {
         requires mutator { mutator < self.old.config.mutators }
         requires small { 1 + pointers + plain_words ≤ self.old.config.block_words / 4 }
         ensures room { IsSome result ↔ IsSome (room_in self.old mutator (1 + pointers + plain_words)) }
-        ensures some { IfSome result (λ place. SpaceAllocates self.old mutator pointers plain_words (place_word place) self.new) }
+        ensures some { IfSome result
+            (λ place. SpaceAllocates self.old mutator pointers plain_words (place_word place) self.new) }
         ensures none { IfNone result (self.new ≡ self.old) }
     {
         let Ok(place) = self.nurseries[mutator].alloc(&mut self.table, pointers, plain_words) else {
@@ -195,7 +197,10 @@ impl<A: Allocator + Clone> Space<A> {
     pub fn set_pointer(&mut self, place: Place, i: usize, target: Option<Place>)
         requires { IsSomeAnd (get self.old.objects (place_word place)) (λ o. i < length o.pointers) }
         ensures { (o : Object) → get self.old.objects (place_word place) ≡ Some o
-            → self.new ≡ record self.old { objects = insert self.old.objects (place_word place) (with_pointer o i (option_map place_word target)) } }
+            → self.new ≡ record self.old {
+              objects = insert self.old.objects (place_word place)
+                  (with_pointer o i (option_map place_word target));
+            } }
     {
         let word = word_of(target);
         match place {
@@ -216,7 +221,10 @@ impl<A: Allocator + Clone> Space<A> {
     pub fn set_plain(&mut self, place: Place, i: usize, word: u64)
         requires { IsSomeAnd (get self.old.objects (place_word place)) (λ o. i < length o.plain) }
         ensures { (o : Object) → get self.old.objects (place_word place) ≡ Some o
-            → self.new ≡ record self.old { objects = insert self.old.objects (place_word place) (record o { plain = slice_set o.plain i word }) } }
+            → self.new ≡ record self.old {
+              objects = insert self.old.objects (place_word place)
+                  (record o { plain = slice_set o.plain i word });
+            } }
     {
         match place {
             Place::Small(at) => {
@@ -287,7 +295,8 @@ impl<A: Allocator + Clone> Space<A> {
         ensures object { IsSomeAnd (get self.now.objects (place_word place)) (λ o. IsShownAs o (raw_of result.0)) }
         ensures step { Some (step_pair result.1) ≡ option_map stands_at (get self.now.objects (place_word place)) }
         ensures number { MatchOption result.2 (IsYoung (graph_in self.now) generation (place_word place) → ⊥)
-            (λ n. IsYoung (graph_in self.now) generation (place_word place) × IsNumbered self.now generation (place_word place) n) }
+            (λ n. IsYoung (graph_in self.now) generation (place_word place) ×
+            IsNumbered self.now generation (place_word place) n) }
     {
         let table = &self.table;
         let Place::Small(at) = place else {
@@ -332,9 +341,17 @@ impl<A: Allocator + Clone> Space<A> {
         requires plain { plain_words ≤ 100000 }
         requires blocks { ArePoolBlocks large.old (pool_in self.old) }
         ensures number { IfOk result (λ of. of.number ≡ large.old.next) }
-        ensures added { IfOk result (λ of. IsAdded large.old large.new of.number (made pointers plain_words (take (block_count (size_of pointers plain_words) self.old.config.block_words) self.old.free))) }
-        ensures granted { OnOk result (self.new ≡ record self.old { free = drop (block_count (size_of pointers plain_words) self.old.config.block_words) self.old.free }) }
-        ensures full { (result ≡ Err GrantError.HeapFull) ↔ (length self.old.free < block_count (size_of pointers plain_words) self.old.config.block_words) }
+        ensures added { IfOk result
+            (λ of. IsAdded large.old large.new of.number
+            (made pointers plain_words
+            (take (block_count (size_of pointers plain_words) self.old.config.block_words) self.old.free))) }
+        ensures granted { OnOk result
+            (self.new ≡ record self.old {
+              free = drop
+                  (block_count (size_of pointers plain_words) self.old.config.block_words) self.old.free;
+            }) }
+        ensures full { (result ≡ Err GrantError.HeapFull) ↔
+            (length self.old.free < block_count (size_of pointers plain_words) self.old.config.block_words) }
         ensures large_kept { OnErr result (large.new ≡ large.old) }
         ensures kept { OnErr result (self.new ≡ self.old) }
         ensures pool_blocks { ArePoolBlocks large.new (pool_in self.new) }
@@ -352,9 +369,11 @@ impl<A: Allocator + Clone> Space<A> {
     pub fn remove_large(&mut self, large: &mut LargeTable<A>, number: LargeNumber)
         requires in_use { InUse large.old number.number }
         requires blocks { ArePoolBlocks large.old (pool_in self.old) }
-        requires apart { (n : ℕ) → has (blocks_at large.old number.number) n ≡ true → (nursery_count self.old.config ≤ n) × HoldsNone self.old n }
+        requires apart { (n : ℕ) → has (blocks_at large.old number.number) n ≡ true →
+            (nursery_count self.old.config ≤ n) × HoldsNone self.old n }
         ensures removed { large.new ≡ without_object large.old number.number }
-        ensures free { (n : ℕ) → has self.new.free n ≡ (has (blocks_at large.old number.number) n || has self.old.free n) }
+        ensures free { (n : ℕ) →
+            has self.new.free n ≡ (has (blocks_at large.old number.number) n || has self.old.free n) }
         ensures others { self.new ≡ record self.old { free = self.new.free } }
         ensures pool_blocks { ArePoolBlocks large.new (pool_in self.new) }
     {

@@ -28,7 +28,8 @@ fn push_workers<A: Allocator, B: Allocator>(
     text: &mut String<A>,
     workers: &[WorkerReport<B>],
 ) -> Result<(), AllocError>
-    ensures { OnOk result (string_bytes text.new ≡ string_bytes text.old ++ flat_map worker_line (enumerate_from 0 workers.now)) }
+    ensures { OnOk result
+        (string_bytes text.new ≡ string_bytes text.old ++ flat_map worker_line (enumerate_from 0 workers.now)) }
 {
     for (number, worker) in workers.iter().enumerate() {
         push_worker(text, number, worker)?;
@@ -87,7 +88,9 @@ pub fn write_report<W: Sink>(
     writer: &mut W,
 ) -> Result<(), WriteFailed>
     requires { W.failed_writes writer.old < 2 ^ 64 - 1 }
-    ensures bytes { OnOk result (Appends (W.output writer.old) (W.output writer.new) (collection_line (cause_word cause) generation kept freed ++ workers.now)) }
+    ensures bytes { OnOk result
+        (Appends (W.output writer.old) (W.output writer.new)
+        (collection_line (cause_word cause) generation kept freed ++ workers.now)) }
     ensures ok { OnOk result (W.failed_writes writer.new ≡ W.failed_writes writer.old) }
     ensures failed { OnErr result (W.failed_writes writer.new ≡ W.failed_writes writer.old + 1) }
 {

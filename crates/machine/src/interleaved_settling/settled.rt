@@ -40,10 +40,13 @@ fn gathered<A: Allocator + Clone>(
     requires heap { heap.now ≡ workers.heap }
     requires collection { collection ≡ workers.collection }
     requires ended { AllEnded (system_of workers) }
-    ensures settled { IfOk result (λ s. IsSettled workers.heap s.collection s.places s.blocks.items (all_won s.workers.items)) }
+    ensures settled { IfOk result
+        (λ s. IsSettled workers.heap s.collection s.places s.blocks.items (all_won s.workers.items)) }
     ensures collection { IfOk result (λ s. s.collection ≡ workers.collection) }
     ensures once { IfOk result (λ s. ScansOnce workers.heap workers.collection.generation s.workers.items) }
-    ensures reports { IfOk result (λ s. Reports workers.heap workers.collection.generation (system_of workers) s.workers.items s.deliveries.items) }
+    ensures reports { IfOk result
+        (λ s. Reports workers.heap workers.collection.generation
+        (system_of workers) s.workers.items s.deliveries.items) }
     ensures reached { OnOk result (HasReached workers) }
 {
     let InterleavedParts {
@@ -80,10 +83,13 @@ pub fn settle<A: Allocator + Clone>(
     requires heap { heap.now ≡ workers.heap }
     requires collection { collection ≡ workers.collection }
     ensures ended { (result ≡ Err SettleError.NotEnded) ↔ ¬ AllEnded (system_of workers) }
-    ensures settled { IfOk result (λ s. IsSettled workers.heap s.collection s.places s.blocks.items (all_won s.workers.items)) }
+    ensures settled { IfOk result
+        (λ s. IsSettled workers.heap s.collection s.places s.blocks.items (all_won s.workers.items)) }
     ensures collection { IfOk result (λ s. s.collection ≡ workers.collection) }
     ensures once { IfOk result (λ s. ScansOnce workers.heap workers.collection.generation s.workers.items) }
-    ensures reports { IfOk result (λ s. Reports workers.heap workers.collection.generation (system_of workers) s.workers.items s.deliveries.items) }
+    ensures reports { IfOk result
+        (λ s. Reports workers.heap workers.collection.generation
+        (system_of workers) s.workers.items s.deliveries.items) }
     ensures reached { OnOk result (HasReached workers) }
 {
     if !workers.all_ended() {

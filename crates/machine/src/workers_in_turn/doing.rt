@@ -24,7 +24,8 @@ impl<A: Allocator> Member<A> {
 
     /// Whether it can take its allocation block for a destination in hand.
     pub(crate) fn may_own(&self, d: usize) -> bool
-        ensures { IsTrue result ↔ IsFree self.now.workspace.worker × (has_open_work self.now.workspace.worker d ≡ true) }
+        ensures { IsTrue result ↔ IsFree self.now.workspace.worker ×
+            (has_open_work self.now.workspace.worker d ≡ true) }
     {
         self.is_free() && self.workspace.has_open(d)
     }
@@ -91,7 +92,8 @@ impl<A: Allocator + Clone> Member<A> {
         requires closed { IsClosed heap.now.graph }
         requires places { NamesArePlaces heap.now.graph }
         requires untouched { IsUntouched (objects_of heap.now) self.now.workspace.worker }
-        ensures { (queue : List Block) → (IsTrue queued → queue ≢ []) → (queue ≢ [] → IsTrue queued) → event_of result ≡ next_of_worker (objects_of heap.now) t self.now.workspace.worker queue }
+        ensures { (queue : List Block) → (IsTrue queued → queue ≢ []) → (queue ≢ [] → IsTrue queued) →
+            event_of result ≡ next_of_worker (objects_of heap.now) t self.now.workspace.worker queue }
     {
         if self.workspace.has_proposal() {
             return Event::Race(t);

@@ -73,7 +73,8 @@ impl<A: Allocator> InterleavedCollection<A> {
 
     /// Whether there is a worker `t` that is idle and hasn't ended.
     fn is_resting(&self, t: u32) -> bool
-        ensures { IsTrue result ↔ (slice_get (system_of self.now).idle t ≡ Some true) × (slice_get (system_of self.now).ended t ≡ Some false) }
+        ensures { IsTrue result ↔ (slice_get (system_of self.now).idle t ≡ Some true) ×
+            (slice_get (system_of self.now).ended t ≡ Some false) }
     {
         match self.members.get(t as usize) {
             Some(member) => member.idle && !member.ended,

@@ -49,7 +49,9 @@ impl<A: Allocator + Clone> InterleavedCollection<A> {
     fn next_of(&self, heap: &Heap<A>, t: u32) -> Event
         requires heap { heap.now ≡ self.now.heap }
         requires there { t < self.now.workers }
-        ensures { Some (event_of result) ≡ option_map (λ w. next_of_worker (setting_in self.now) t w (queue_at (system_of self.now) t)) (slice_get (system_of self.now).workers t) }
+        ensures { Some (event_of result) ≡
+            option_map (λ w. next_of_worker (setting_in self.now) t w (queue_at (system_of self.now) t))
+            (slice_get (system_of self.now).workers t) }
     {
         self.members[t as usize].next(heap, t, self.has_queued(t))
     }

@@ -24,7 +24,8 @@ impl<A: Allocator + Clone> InterleavedCollection<A> {
         requires lawful { IsLawful (setting_in self.old) (system_of self.old) (Look t) }
         ensures ok { OnOk result (Goes (Look t) self.old self.new) }
         ensures full { result ≡ Err LookError.HeapFull → WantsDraw self.old t × (self.new.draws.out ≡ true) }
-        ensures refused { result ≡ Err LookError.HeapFull → IsRefused (setting_in self.old) (system_of self.old) (Look t) }
+        ensures refused { result ≡ Err LookError.HeapFull →
+            IsRefused (setting_in self.old) (system_of self.old) (Look t) }
         ensures err { OnErr result (Stays self.old self.new) }
     {
         if let Err(error) = scavenge::look(

@@ -84,7 +84,8 @@ impl<A: Allocator> AreaFlags<A> {
         ensures none { IfNone result ((n : ℕ) → from ≤ n → is_flagged self.now generation n ≡ false) }
         ensures from { IfSome result (λ number. from ≤ number) }
         ensures flag { IfSome result (λ number. is_flagged self.now generation number ≡ true) }
-        ensures first { IfSome result (λ number. (n : ℕ) → from ≤ n → n < number → is_flagged self.now generation n ≡ false) }
+        ensures first { IfSome result (λ number. (n : ℕ) → from ≤ n → n < number →
+            is_flagged self.now generation n ≡ false) }
     {
         let last = self.young.len() - 1;
         self.young[last.min(generation as usize)].next(from)

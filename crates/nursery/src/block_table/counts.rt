@@ -115,8 +115,10 @@ pub fn bases<A: Allocator, B: Allocator>(
     requires short { length table.now ≤ 65535 }
     requires areas { AreAreas table.now areas.now }
     ensures len { IfOk result (λ r. length r.0.items ≤ length table.now) }
-    ensures covers { IfOk result (λ r. (b : ℕ) → holds_young generation (slot_at table.now b) ≡ true → b < length r.0.items) }
-    ensures bases { IfOk result (λ r. (b : ℕ) → b < length r.0.items → slice_index r.0.items b ≡ objects_before (young_table generation table.now) b) }
+    ensures covers { IfOk result (λ r. (b : ℕ) → holds_young generation (slot_at table.now b) ≡ true →
+        b < length r.0.items) }
+    ensures bases { IfOk result (λ r. (b : ℕ) → b < length r.0.items →
+        slice_index r.0.items b ≡ objects_before (young_table generation table.now) b) }
     ensures all { IfOk result (λ r. r.1 ≡ sum_by slot_len (young_table generation table.now)) }
 {
     let mut bases = Vec::new(alloc);

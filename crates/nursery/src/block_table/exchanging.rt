@@ -46,7 +46,8 @@ fn give_up<A: Allocator>(
     requires in_table { number < length table.old }
     requires in_pool { count ≤ number → number < pool.old.limit }
     requires not_free { count ≤ number → has pool.old.free number ≡ false }
-    ensures table { table.new ≡ slice_set table.old number (if nat_lt number count then cleared (slot_at table.old number) else None) }
+    ensures table { table.new ≡
+        slice_set table.old number (if nat_lt number count then cleared (slot_at table.old number) else None) }
     ensures free { (n : ℕ) → has pool.new.free n ≡ ((nat_le count number && nat_eq n number) || has pool.old.free n) }
     ensures limit { pool.new.limit ≡ pool.old.limit }
 {
@@ -71,7 +72,8 @@ fn give_up_area<A: Allocator>(
     requires not_free { (n : ℕ) → has area.now n ≡ true → count ≤ n → has pool.old.free n ≡ false }
     requires once { IsDistinct nat_eq area.now }
     ensures table { (n : ℕ) → slot_at table.new n
-        ≡ (if has area.now n then (if nat_lt n count then cleared (slot_at table.old n) else None) else slot_at table.old n) }
+        ≡ (if has area.now n then
+        (if nat_lt n count then cleared (slot_at table.old n) else None) else slot_at table.old n) }
     ensures free { (n : ℕ) → has pool.new.free n ≡ ((nat_le count n && has area.now n) || has pool.old.free n) }
     ensures limit { pool.new.limit ≡ pool.old.limit }
 {
@@ -151,7 +153,8 @@ pub fn exchange<A: Allocator>(
         else (if has old_area.now n then (if nat_lt n count then cleared (slot_at table.old n) else None)
         else slot_at table.old n)) }
     ensures free { (n : ℕ) → has pool.new.free n
-        ≡ (((nat_le count n && has old_area.now n) || has pool.old.free n) && not (is_some (installed blocks.items n))) }
+        ≡ (((nat_le count n && has old_area.now n) || has pool.old.free n) && not
+        (is_some (installed blocks.items n))) }
     ensures limit { pool.new.limit ≡ pool.old.limit }
 {
     give_up_area(table, pool, count, old_area, spare);

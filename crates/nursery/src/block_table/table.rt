@@ -65,10 +65,12 @@ pub fn set_pointer<A: Allocator>(
 )
     requires there { HasObjectAt table.old number offset }
     requires field { (block : BlockValue) (k : ℕ) (raw : Raw) → slice_index_or table.old number None ≡ Some block
-        → k < length block.objects → offset_of block.objects k ≡ offset → slice_get block.objects k ≡ Some raw → i < length raw.pointers }
+        → k < length block.objects → offset_of block.objects k ≡ offset → slice_get block.objects k ≡ Some raw →
+        i < length raw.pointers }
     ensures { (block : BlockValue) (k : ℕ) (raw : Raw) → slice_index_or table.old number None ≡ Some block
         → k < length block.objects → offset_of block.objects k ≡ offset → slice_get block.objects k ≡ Some raw
-        → table.new ≡ slice_set table.old number (Some (record block { objects = slice_set block.objects k (with_pointer_word raw i word) })) }
+        → table.new ≡ slice_set table.old number
+        (Some (record block { objects = slice_set block.objects k (with_pointer_word raw i word) })) }
 {
     let slot = &mut table[number];
     match slot {
@@ -88,10 +90,12 @@ pub fn set_plain<A: Allocator>(
 )
     requires there { HasObjectAt table.old number offset }
     requires field { (block : BlockValue) (k : ℕ) (raw : Raw) → slice_index_or table.old number None ≡ Some block
-        → k < length block.objects → offset_of block.objects k ≡ offset → slice_get block.objects k ≡ Some raw → i < length raw.plain }
+        → k < length block.objects → offset_of block.objects k ≡ offset → slice_get block.objects k ≡ Some raw →
+        i < length raw.plain }
     ensures { (block : BlockValue) (k : ℕ) (raw : Raw) → slice_index_or table.old number None ≡ Some block
         → k < length block.objects → offset_of block.objects k ≡ offset → slice_get block.objects k ≡ Some raw
-        → table.new ≡ slice_set table.old number (Some (record block { objects = slice_set block.objects k (with_plain_word raw i word) })) }
+        → table.new ≡ slice_set table.old number
+        (Some (record block { objects = slice_set block.objects k (with_plain_word raw i word) })) }
 {
     let slot = &mut table[number];
     match slot {
@@ -115,7 +119,8 @@ pub fn ordinal_at<A: Allocator>(table: &[Option<Block<A>>], number: usize, offse
 /// The generation and step of a block.
 pub fn step_at<A: Allocator>(table: &[Option<Block<A>>], number: usize) -> StepId
     requires in_range { number < length table.now }
-    ensures { (block : BlockValue) → slice_index_or table.now number None ≡ Some block → step_pair result ≡ (block.generation, block.step) }
+    ensures { (block : BlockValue) → slice_index_or table.now number None ≡ Some block →
+        step_pair result ≡ (block.generation, block.step) }
 {
     match &table[number] {
         Some(block) => StepId {

@@ -167,7 +167,8 @@ impl<C: Cargo, A: Allocator> PlainPending<C, A> {
         requires { exporter < length self.old.lanes }
         ensures seat { seat.new ≡ seat.old }
         ensures front { IfOk result (λ r. r ≡ front_of (lane_at self.old exporter)) }
-        ensures pending { MatchResult result (λ r. self.new ≡ after_take self.old exporter seat.old r) (λ _. self.new ≡ self.old) }
+        ensures pending { MatchResult result (λ r. self.new ≡ after_take self.old exporter seat.old r)
+            (λ _. self.new ≡ self.old) }
         ensures fact { IfOk result (λ r. IfSome r (C.fits self.old.key)) }
     {
         self.queues[exporter as usize].pop(seat.index)

@@ -73,7 +73,8 @@ impl<C: Cargo, A: Allocator> PlainQueue<C, A> {
     // Takes the block at the front, where there is one.
     pub fn pop(&mut self, taker: u32) -> Result<Option<Block<A>>, AllocError>
         ensures front { IfOk result (λ r. r ≡ front_of self.old.lane) }
-        ensures lane { MatchResult result (λ r. self.new ≡ record self.old { lane = with_taker self.old.lane taker r }) (λ _. self.new ≡ self.old) }
+        ensures lane { MatchResult result (λ r. self.new ≡ record self.old { lane = with_taker self.old.lane taker r })
+            (λ _. self.new ≡ self.old) }
         ensures fact { IfOk result (λ r. IfSome r (C.fits self.old.key)) }
     {
         self.takers.reserve(1)?;

@@ -53,7 +53,8 @@ pub fn reached<A: Allocator + Clone>(
     rows: &[Vec<usize, A>],
     start: &[usize],
 ) -> Result<Vec<usize, A>, AllocError>
-    ensures { IfOk result (λ v. v.items ≡ reached_list (row (map (λ r. r.items) rows.now)) (length rows.now) start.now) }
+    ensures { IfOk result
+        (λ v. v.items ≡ reached_list (row (map (λ r. r.items) rows.now)) (length rows.now) start.now) }
 {
     let mut found = fresh_of(alloc.clone()?, &[], start)?;
     let mut done = 0;

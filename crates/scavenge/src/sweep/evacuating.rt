@@ -84,7 +84,9 @@ fn race_in<A: Allocator, C: Cells>(
     ensures apart { (other : C.Pass) → C.apart pass.old other → C.apart pass.new other }
     ensures apart_back { (other : C.Pass) → C.apart other pass.old → C.apart other pass.new }
     ensures limit { C.limit cells.new ≡ C.limit cells.old }
-    ensures ok { OnOk result (RacesAt number (λ number at outcome. C.race_gives cells.old number at outcome cells.new) (C.known pass.old) (C.known pass.new) (C.won pass.old) (C.won pass.new) sweep.old sweep.new) }
+    ensures ok { OnOk result
+        (RacesAt number (λ number at outcome. C.race_gives cells.old number at outcome cells.new) (C.known pass.old)
+        (C.known pass.new) (C.won pass.old) (C.won pass.new) sweep.old sweep.new) }
     ensures err { OnErr result ((sweep.new ≡ sweep.old) × (cells.new ≡ cells.old) × (pass.new ≡ pass.old)) }
 {
     let Some(bid) = sweep.bid() else {
@@ -121,7 +123,8 @@ impl<A: Allocator + Clone> Sweep<A> {
         requires config { self.old.config ≡ heap.now.config }
         requires names { self.old.names ≡ young_names heap.now.graph collection.now.generation }
         requires proposal { self.old.worker.proposal ≡ None }
-        requires slot { IsSome (current_slot (seen heap.now collection.now) self.old.worker) → CanFinish self.old.worker self.old.worker.starts }
+        requires slot { IsSome (current_slot (seen heap.now collection.now) self.old.worker) →
+            CanFinish self.old.worker self.old.worker.starts }
         requires few { self.old.worker.fields < 4294967296 }
         requires untouched { IsUntouched (seen heap.now collection.now) self.old.worker }
         requires pass { C.fits cells.old pass.old }
@@ -141,8 +144,13 @@ impl<A: Allocator + Clone> Sweep<A> {
         ensures held { result ≡ NoSlot → self.old.worker.hand ≢ Nothing }
         ensures looked_slot { result ≡ Looked → IsSome (current_slot (seen heap.now collection.now) self.old.worker) }
         ensures raced_slot { result ≡ Raced → IsSome (current_slot (seen heap.now collection.now) self.old.worker) }
-        ensures looked { result ≡ Looked → (seat : SeatValue) → Looks heap.now collection.now (C.look_gives cells.old) (C.known pass.old) (C.known pass.new) seat seat self.old self.new }
-        ensures raced { result ≡ Raced → LooksAndRaces heap.now collection.now (C.fits cells.old) C.known C.won (C.look_gives cells.old) (λ number at outcome. C.race_gives cells.old number at outcome cells.new) pass.old pass.new self.old self.new }
+        ensures looked { result ≡ Looked → (seat : SeatValue) →
+            Looks heap.now collection.now (C.look_gives cells.old) (C.known pass.old)
+            (C.known pass.new) seat seat self.old self.new }
+        ensures raced { result ≡ Raced →
+            LooksAndRaces heap.now collection.now (C.fits cells.old) C.known C.won (C.look_gives cells.old)
+            (λ number at outcome. C.race_gives cells.old number at outcome cells.new) pass.old pass.new self.old
+            self.new }
     {
         let Some(target) = slot_in(self, heap) else {
             return Evacuated::NoSlot;

@@ -94,8 +94,14 @@ impl<A: Allocator> Sweep<A> {
     #[inline(always)]
     pub fn push_copy(&mut self, name: Place, object: ObjectRef<'_>, d: usize) -> bool
         requires { self.old.worker.proposal ≡ None }
-        ensures fits { result ≡ true → has_place_for self.old.config.block_words (raw_size (raw_of object.entry)) (allocation_at self.old.worker d) ≡ true }
-        ensures some { result ≡ true → self.new ≡ record self.old { worker = with_copy_proposed self.old.worker (place_word name) (raw_of object.entry) d } }
+        ensures fits { result ≡ true →
+            has_place_for self.old.config.block_words (raw_size (raw_of object.entry))
+            (allocation_at self.old.worker d) ≡ true }
+        ensures some { result ≡ true →
+            self.new ≡ record self.old {
+              worker = with_copy_proposed self.old.worker (place_word name)
+                  (raw_of object.entry) d;
+            } }
         ensures none { result ≡ false → self.new ≡ self.old }
     {
         if d != self.destination || !self.into.fits(object.size() as usize) {
@@ -124,7 +130,12 @@ impl<A: Allocator> Sweep<A> {
         requires proposal { IsSome self.old.worker.proposal }
         requires slot { CanFinish self.old.worker self.old.worker.starts }
         requires few { self.old.worker.fields < 4294967296 }
-        ensures { self.new ≡ record self.old { worker = after_race self.old.worker (Some (lost_to (place_word first) self.old.worker.proposal)); won_room = self.old.won_room - 1 } }
+        ensures { self.new ≡
+            record self.old {
+              worker = after_race self.old.worker
+                  (Some (lost_to (place_word first) self.old.worker.proposal));
+              won_room = self.old.won_room - 1;
+            } }
     {
         let Some(_copied) = self.copied else {
             return;
@@ -144,7 +155,8 @@ impl<A: Allocator> Sweep<A> {
         requires name { slice_index self.old.names number ≡ name_of self.old.worker.proposal }
         requires slot { CanFinish self.old.worker self.old.worker.starts }
         requires few { self.old.worker.fields < 4294967296 }
-        ensures { self.new ≡ record self.old { worker = after_race self.old.worker None; won_room = self.old.won_room - 1 } }
+        ensures { self.new ≡
+            record self.old { worker = after_race self.old.worker None; won_room = self.old.won_room - 1 } }
     {
         let Some(copied) = self.copied else {
             return;

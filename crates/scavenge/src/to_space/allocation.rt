@@ -31,7 +31,8 @@ impl<A: Allocator> Model for AllocationBlocks<A> {
 
 #[inline(always)]
 pub(crate) fn take_back<A: Allocator>(block: &mut Block<A>)
-    ensures { block.old.front < length block.old.objects → block.new ≡ record block.old { objects = without_last block.old.objects } }
+    ensures { block.old.front < length block.old.objects →
+        block.new ≡ record block.old { objects = without_last block.old.objects } }
 {
     if block.front() < block.len() {
         block.take_back_last();
@@ -128,7 +129,8 @@ impl<A: Allocator> AllocationBlocks<A> {
     pub fn write_front(&mut self, d: usize, i: usize, word: u64)
         ensures { (block : BlockValue) (raw : Raw) → slot_at self.old d ≡ Some block
             → slice_get block.objects block.front ≡ Some raw → i < length raw.pointers
-            → self.new ≡ slice_set self.old d (Some (record block { objects = slice_set block.objects block.front (with_pointer_word raw i word) })) }
+            → self.new ≡ slice_set self.old d
+            (Some (record block { objects = slice_set block.objects block.front (with_pointer_word raw i word) })) }
     {
         if d >= self.blocks.len() {
             return;
@@ -146,9 +148,12 @@ impl<A: Allocator> AllocationBlocks<A> {
     pub fn pass_front(&mut self, d: usize) -> (Place, bool)
         requires there { d < length self.old }
         requires some { IsSomeAnd (slot_at self.old d) (λ b. b.front < length b.objects) }
-        ensures place { (block : BlockValue) → slot_at self.old d ≡ Some block → place_word result.0 ≡ small_word block.number (offset_of block.objects block.front) }
-        ensures more { (block : BlockValue) → slot_at self.old d ≡ Some block → result.1 ≡ nat_lt (block.front + 1) (length block.objects) }
-        ensures table { (block : BlockValue) → slot_at self.old d ≡ Some block → self.new ≡ slice_set self.old d (Some (record block { front = block.front + 1 })) }
+        ensures place { (block : BlockValue) → slot_at self.old d ≡ Some block →
+            place_word result.0 ≡ small_word block.number (offset_of block.objects block.front) }
+        ensures more { (block : BlockValue) → slot_at self.old d ≡ Some block →
+            result.1 ≡ nat_lt (block.front + 1) (length block.objects) }
+        ensures table { (block : BlockValue) → slot_at self.old d ≡ Some block →
+            self.new ≡ slice_set self.old d (Some (record block { front = block.front + 1 })) }
     {
         let slot = &mut self.blocks[d];
         match slot {
@@ -188,9 +193,11 @@ impl<A: Allocator> AllocationBlocks<A> {
     #[inline(always)]
     pub fn push(&mut self, d: usize, object: ObjectRef<'_>) -> Place
         requires { fits_at (raw_size (raw_of object)) (slot_at self.old d) ≡ true }
-        ensures place { (block : BlockValue) → slot_at self.old d ≡ Some block → place_word result ≡ small_word block.number (used_of block) }
+        ensures place { (block : BlockValue) → slot_at self.old d ≡ Some block →
+            place_word result ≡ small_word block.number (used_of block) }
         ensures table { (block : BlockValue) → slot_at self.old d ≡ Some block
-            → self.new ≡ slice_set self.old d (Some (record block { objects = block.objects ++ raw_of object.entry ∷ [] })) }
+            → self.new ≡ slice_set self.old d
+            (Some (record block { objects = block.objects ++ raw_of object.entry ∷ [] })) }
     {
         if d >= self.blocks.len() {
             unreachable!();
@@ -220,7 +227,8 @@ impl<A: Allocator> AllocationBlocks<A> {
     /// Notes, for contracts alone, what the last object of the block for a destination is a copy of.
     #[inline(always)]
     pub fn note(&mut self, d: usize, origin: u64)
-        requires { (block : BlockValue) → slot_at self.old d ≡ Some block → length block.origins < length block.objects }
+        requires { (block : BlockValue) → slot_at self.old d ≡ Some block →
+            length block.origins < length block.objects }
         ensures { (block : BlockValue) → slot_at self.old d ≡ Some block
             → self.new ≡ slice_set self.old d (Some (record block { origins = block.origins ++ origin ∷ [] })) }
     {

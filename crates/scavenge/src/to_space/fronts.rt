@@ -40,7 +40,10 @@ pub fn front_pointer<A: Allocator>(block: &Block<A>, i: usize) -> Option<Option<
 #[inline(always)]
 pub fn write_front<A: Allocator>(block: &mut Block<A>, i: usize, word: u64)
     ensures { (raw : Raw) → slice_get block.old.objects block.old.front ≡ Some raw → i < length raw.pointers
-        → block.new ≡ record block.old { objects = slice_set block.old.objects block.old.front (with_pointer_word raw i word) } }
+        → block.new ≡ record block.old {
+          objects = slice_set block.old.objects block.old.front
+              (with_pointer_word raw i word);
+        } }
 {
     let front = block.front();
     if front < block.len() && i < block.pointer_count(front) {

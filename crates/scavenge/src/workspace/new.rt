@@ -40,7 +40,9 @@ impl<A: Allocator + Clone> Workspace<A> {
         ensures spare { IfOk result (λ made. made.spare ≡ false) }
         ensures won_room { IfOk result (λ made. made.won_room ≡ 0) }
         ensures block_room { IfOk result (λ made. made.block_room ≡ 0) }
-        ensures worker { IfOk result (λ made. made.worker ≡ opening_worker (dest_count heap.now.config.shape collection.now.generation) n (map target_of_slot collection.now.slots) t) }
+        ensures worker { IfOk result
+            (λ made. made.worker ≡ opening_worker (dest_count heap.now.config.shape collection.now.generation) n
+            (map target_of_slot collection.now.slots) t) }
     {
         let config = heap.config();
         let starts = every_target(alloc.clone()?, collection.slots(), t, n)?;

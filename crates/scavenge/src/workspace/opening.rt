@@ -17,7 +17,8 @@ pub(crate) fn every_target<A: Allocator>(
     n: u32,
 ) -> Result<Vec<Place, A>, AllocError>
     requires { t < n }
-    ensures { IfOk result (λ targets. map place_word targets.items ≡ every n t 0 (map target_of_slot (map slot_value slots.now))) }
+    ensures { IfOk result
+        (λ targets. map place_word targets.items ≡ every n t 0 (map target_of_slot (map slot_value slots.now))) }
 {
     let mut targets = Vec::new(alloc);
     for i in 0..slots.len() {

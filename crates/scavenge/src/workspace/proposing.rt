@@ -21,7 +21,8 @@ impl<A: Allocator> Workspace<A> {
     #[inline(always)]
     pub fn fits(&self, d: usize, size: usize) -> bool
         requires { self.now.worker.proposal ≡ None }
-        ensures { IsTrue result ↔ (has_place_for self.now.config.block_words size (allocation_at self.now.worker d) ≡ true) }
+        ensures { IsTrue result ↔
+            (has_place_for self.now.config.block_words size (allocation_at self.now.worker d) ≡ true) }
     {
         self.allocation.fits(d, size)
     }
@@ -30,8 +31,10 @@ impl<A: Allocator> Workspace<A> {
     #[inline(always)]
     pub fn push_copy(&mut self, name: Place, object: ObjectRef<'_>, d: usize)
         requires proposal { self.old.worker.proposal ≡ None }
-        requires fits { has_place_for self.old.config.block_words (raw_size (raw_of object)) (allocation_at self.old.worker d) ≡ true }
-        ensures { self.new ≡ record self.old { worker = with_copy_proposed self.old.worker (place_word name) (raw_of object.entry) d } }
+        requires fits { has_place_for self.old.config.block_words (raw_size (raw_of object))
+            (allocation_at self.old.worker d) ≡ true }
+        ensures { self.new ≡
+            record self.old { worker = with_copy_proposed self.old.worker (place_word name) (raw_of object.entry) d } }
     {
         let place = self.allocation.push(d, object);
         self.proposed = Some(Proposed {
@@ -44,7 +47,9 @@ impl<A: Allocator> Workspace<A> {
     /// Proposes a large object. An error says that memory ran out, and changes nothing.
     pub fn propose_large(&mut self, name: Place) -> Result<(), AllocError>
         requires { self.old.worker.proposal ≡ None }
-        ensures ok { OnOk result (self.new ≡ record self.old { worker = record self.old.worker { proposal = Some (Claimed (place_word name)) } }) }
+        ensures ok { OnOk result
+            (self.new ≡ record self.old
+            { worker = record self.old.worker { proposal = Some (Claimed (place_word name)) } }) }
         ensures err { OnErr result (self.new ≡ self.old) }
     {
         self.claimed.reserve(1)?;
@@ -64,7 +69,12 @@ impl<A: Allocator> Workspace<A> {
         requires room { d < length self.old.worker.allocation }
         requires whole { IsWhole self.old.config.shape self.old.config.block_words block }
         requires empty { named self.old.config.shape block ≡ empty_block block.number d }
-        ensures { self.new ≡ record self.old { worker = with_new_block self.old.worker d block.number; block_room = self.old.block_room - 1 } }
+        ensures { self.new ≡
+            record self.old {
+              worker = with_new_block self.old.worker d block.number;
+              block_room = self.old.block_room -
+                  1;
+            } }
     {
         self.block_room -= 1;
         let Some(full) = self.allocation.replace(d, block) else {

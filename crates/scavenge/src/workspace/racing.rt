@@ -12,7 +12,8 @@ use std::alloc::Allocator;
 impl<A: Allocator> Workspace<A> {
     /// The object that is proposed, where one is.
     pub fn proposed(&self) -> Option<Place>
-        ensures { MatchOption result (self.now.worker.proposal ≡ None) (λ name. place_word name ≡ name_of self.now.worker.proposal) }
+        ensures { MatchOption result (self.now.worker.proposal ≡ None)
+            (λ name. place_word name ≡ name_of self.now.worker.proposal) }
     {
         match self.proposed {
             Some(p) => Some(p.name),
@@ -38,7 +39,12 @@ impl<A: Allocator> Workspace<A> {
         requires proposal { IsSome self.old.worker.proposal }
         requires slot { CanFinish self.old.worker self.old.worker.starts }
         requires few { self.old.worker.fields < 4294967296 }
-        ensures { self.new ≡ record self.old { worker = after_race self.old.worker (Some (lost_to (place_word first) self.old.worker.proposal)); won_room = self.old.won_room - 1 } }
+        ensures { self.new ≡
+            record self.old {
+              worker = after_race self.old.worker
+                  (Some (lost_to (place_word first) self.old.worker.proposal));
+              won_room = self.old.won_room - 1;
+            } }
     {
         let Some(p) = self.proposed else {
             return;
@@ -64,7 +70,8 @@ impl<A: Allocator> Workspace<A> {
         requires name { slice_index self.old.names number ≡ name_of self.old.worker.proposal }
         requires slot { CanFinish self.old.worker self.old.worker.starts }
         requires few { self.old.worker.fields < 4294967296 }
-        ensures { self.new ≡ record self.old { worker = after_race self.old.worker None; won_room = self.old.won_room - 1 } }
+        ensures { self.new ≡
+            record self.old { worker = after_race self.old.worker None; won_room = self.old.won_room - 1 } }
     {
         let Some(p) = self.proposed else {
             return;

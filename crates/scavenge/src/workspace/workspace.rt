@@ -154,7 +154,8 @@ impl<A: Allocator> Workspace<A> {
         requires free { IsFree self.old.worker }
         requires whole { IsWhole self.old.config.shape self.old.config.block_words block }
         requires unscanned { has_unscanned (named self.old.config.shape block) ≡ true }
-        ensures { self.new ≡ record self.old { worker = after_take self.old.worker (named self.old.config.shape block) } }
+        ensures { self.new ≡
+            record self.old { worker = after_take self.old.worker (named self.old.config.shape block) } }
     {
         self.hand = Hand::Holding(block);
     }
@@ -162,7 +163,8 @@ impl<A: Allocator> Workspace<A> {
     /// Hands out the oldest block aside, and leaves room to put it back.
     pub fn aside(&mut self) -> Option<Block<A>>
         ensures worker { self.new ≡ record self.old { worker = after_aside self.old.worker; spare = is_some result } }
-        ensures block { MatchOption result (self.old.worker.aside ≡ []) (Begins self.old.config.shape self.old.worker.aside) }
+        ensures block { MatchOption result (self.old.worker.aside ≡ [])
+            (Begins self.old.config.shape self.old.worker.aside) }
         ensures whole { IfSome result (IsWhole self.old.config.shape self.old.config.block_words) }
     {
         let block = self.aside.pop_front();
@@ -174,7 +176,12 @@ impl<A: Allocator> Workspace<A> {
     pub fn unaside(&mut self, block: Block<A>)
         requires room { self.old.spare ≡ true }
         requires whole { IsWhole self.old.config.shape self.old.config.block_words block }
-        ensures { self.new ≡ record self.old { worker = record self.old.worker { aside = named self.old.config.shape block ∷ self.old.worker.aside }; spare = false } }
+        ensures { self.new ≡
+            record self.old {
+              worker = record self.old.worker
+                  { aside = named self.old.config.shape block ∷ self.old.worker.aside };
+              spare = false;
+            } }
     {
         self.spare = false;
         self.aside.push_front_reserved(block);
@@ -183,9 +190,11 @@ impl<A: Allocator> Workspace<A> {
     /// What the worker brings back.
     pub fn into_parts(self) -> Parts<A>
         requires { self.worker.proposal ≡ None }
-        ensures allocation { map (option_map (named self.config.shape)) result.allocation.items ≡ self.worker.allocation }
+        ensures allocation { map (option_map (named self.config.shape)) result.allocation.items ≡
+            self.worker.allocation }
         ensures done { map (named self.config.shape) result.done.items ≡ self.worker.done }
-        ensures allocation_whole { (d : ℕ) → OnSome (IsWhole self.config.shape self.config.block_words) (slot_at result.allocation.items d) }
+        ensures allocation_whole { (d : ℕ) →
+            OnSome (IsWhole self.config.shape self.config.block_words) (slot_at result.allocation.items d) }
         ensures done_whole { Each (IsWhole self.config.shape self.config.block_words) result.done.items }
         ensures large { map place_word result.large.items ≡ self.worker.large_done }
         ensures won { renaming_of self.names (map won_value result.won.items) ≡ self.worker.won }

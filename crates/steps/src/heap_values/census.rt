@@ -53,7 +53,14 @@ impl Census {
         roots: u64,
         remembered: u64,
     ) -> Census
-        ensures { result ≡ record { steps = map step_value steps.items; large_objects = large.objects; large_words = large.words; roots = roots; remembered = remembered } }
+        ensures { result ≡ record {
+          steps = map step_value steps.items;
+          large_objects = large.objects;
+          large_words = large.words;
+          roots =
+              roots;
+          remembered = remembered;
+        } }
     {
         Census {
             steps,

@@ -80,7 +80,14 @@ impl<A: Allocator> Collection<A> {
         numbering: Numbering<A>,
         cells: u32,
     ) -> Self
-        ensures { result ≡ record { generation = generation; slots = map slot_value slots.items; free = free; numbering = numbering; cells = cells } }
+        ensures { result ≡ record {
+          generation = generation;
+          slots = map slot_value slots.items;
+          free = free;
+          numbering = numbering;
+          cells =
+              cells;
+        } }
     {
         Collection {
             generation,

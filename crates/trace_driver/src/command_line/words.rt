@@ -207,7 +207,8 @@ fn sizes_of(matches: &ArgMatches<'_>) -> Option<Sizes>
 fn options_of(name: &str, matches: &ArgMatches<'_>) -> Option<Options>
     ensures run { IfSome result (λ options. (options.task ≡ Run) ↔ (name.now ≡ codes "run")) }
     ensures replay { IfSome result (λ options. (options.task ≡ Replay) ↔ (name.now ≡ codes "replay")) }
-    ensures cells { IfSome result (λ options. AreCellsOf (first_value (found_of matches.now) (codes "cells")) options.cells) }
+    ensures cells { IfSome result
+        (λ options. AreCellsOf (first_value (found_of matches.now) (codes "cells")) options.cells) }
     ensures threads { IfSome result (λ options. HasNumber (found_of matches.now) (codes "threads") options.threads) }
     ensures sizes { IfSome result (λ options. HasSizes (found_of matches.now) options.sizes) }
 {

@@ -22,7 +22,9 @@ pub fn settled_by_itself<A: Allocator + Clone>(
     requires generation { generation < heap.now.config.shape.generations }
     requires some { 0 < workers }
     requires most { workers ≤ 16 }
-    ensures ok { IfOk result (λ s. ComesToCommit heap.now generation workers s.collection s.places s.blocks.items s.workers.items s.deliveries.items) }
+    ensures ok { IfOk result
+        (λ s. ComesToCommit heap.now generation workers s.collection s.places s.blocks.items s.workers.items
+        s.deliveries.items) }
     ensures err { IfErr result (λ e. MatchEachFault e
         (λ _ _. ⊥) (λ _ _. ⊥)
         (λ at. (at ≡ Some number) × IsFullInTurn heap.now generation workers)

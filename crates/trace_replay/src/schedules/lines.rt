@@ -33,7 +33,8 @@ fn come<A: Allocator + Clone>(
     ensures ok { OnOk result (Comes (meant named) machine.old machine.new) }
     ensures err { IfErr result (λ e. MatchEachFault e
         (λ _ _. ⊥)
-        (λ at kind. (at ≡ number) × (kind ≡ ScheduleKind.NotLawful) × ¬ IsLawful (setting_in machine.old) machine.old.system (meant named))
+        (λ at kind. (at ≡ number) × (kind ≡ ScheduleKind.NotLawful) ×
+        ¬ IsLawful (setting_in machine.old) machine.old.system (meant named))
         (λ at. (at ≡ Some number) × IsFullForEvent (meant named) machine.old)
         (λ at. (at ≡ Some number) × IsLawful (setting_in machine.old) machine.old.system (meant named))
         ⊥ ⊥) }

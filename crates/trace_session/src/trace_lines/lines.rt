@@ -116,7 +116,8 @@ impl<A: Allocator> Lines<A> {
         ensures counts { OnOk result (S.failed_reads reader.new ≡ S.failed_reads reader.old) }
         ensures waits { OnErr result (Waits self.old self.new (S.input reader.old) (S.input reader.new)) }
         ensures err { OnErr result ((S.failed_reads reader.new ≡ S.failed_reads reader.old + 1)
-            ⊎ ((S.failed_reads reader.new ≡ S.failed_reads reader.old) × IsOutOfReads self.old.reads (S.input reader.old) (S.input reader.new))) }
+            ⊎ ((S.failed_reads reader.new ≡ S.failed_reads reader.old) ×
+            IsOutOfReads self.old.reads (S.input reader.old) (S.input reader.new))) }
     {
         loop {
             if self.cut() {
@@ -135,7 +136,8 @@ impl<A: Allocator> Lines<A> {
 
     /// Cuts off the first line of what is pending, and says whether there is one.
     fn cut(&mut self) -> bool
-        ensures line { IsTrue result → (self.old.pending ≡ self.new.line ++ 10 ∷ self.new.pending) × HasNoFeed self.new.line × (self.new.reads ≡ self.old.reads) }
+        ensures line { IsTrue result → (self.old.pending ≡ self.new.line ++ 10 ∷ self.new.pending) ×
+            HasNoFeed self.new.line × (self.new.reads ≡ self.old.reads) }
         ensures none { (result ≡ false) → HasNoFeed self.old.pending × (self.new ≡ self.old) }
     {
         let (_, pending) = self.text.as_slice().split_at(self.start);
@@ -157,7 +159,9 @@ impl<A: Allocator> Lines<A> {
         ensures end { IfOk result (λ n. (n ≡ 0) ↔ IsTrue (S.input reader.new).ended) }
         ensures counts { OnOk result (S.failed_reads reader.new ≡ S.failed_reads reader.old) }
         ensures same { OnErr result ((self.new.pending ≡ self.old.pending) × (self.new.reads ≡ self.old.reads)) }
-        ensures err { OnErr result (((S.failed_reads reader.new ≡ S.failed_reads reader.old + 1) × Gives (S.input reader.old) (S.input reader.new) [])
+        ensures err { OnErr result
+            (((S.failed_reads reader.new ≡ S.failed_reads reader.old + 1) ×
+            Gives (S.input reader.old) (S.input reader.new) [])
             ⊎ ((reader.new ≡ reader.old) × (self.old.reads ≡ 0))) }
     {
         self.text.copy_within(self.start.., 0);

@@ -38,14 +38,24 @@ pub fn collect_apart<
 ) -> Result<(), Fault>
     requires { W.failed_writes writer.old < 2 ^ 64 - 1 }
     ensures ok { OnOk result (AtEach (Stands session.old)
-        (λ config store. StepsTo (Stands session.new) config (command_step config store (Collect generation)) (W.output writer.old) (W.output writer.new))) }
+        (λ config store. StepsTo (Stands session.new) config (command_step config store (Collect generation))
+        (W.output writer.old) (W.output writer.new))) }
     ensures counts { OnOk result (W.failed_writes writer.new ≡ W.failed_writes writer.old) }
     ensures rises { W.failed_writes writer.new ≤ W.failed_writes writer.old + 1 }
     ensures err { IfErr result (λ e. MatchFaultApart e
-        (λ at kind. (at ≡ number) × AtEach (Stands session.old) (λ config store. command_step config store (Collect generation) ≡ Err kind) × (writer.new ≡ writer.old))
-        (λ at. (at ≡ Some number) × IsFullToCollect session.old.heap generation crew.now.workers × AtEach (Stands session.old) (λ config store. CommandMayBeFull crew.now.workers config store (Collect generation)) × (writer.new ≡ writer.old))
-        (λ at. (at ≡ Some number) × AtEach (Stands session.old) (λ config store. IsSoundCommand config store (Collect generation)) × (writer.new ≡ writer.old))
-        (λ at. (at ≡ number) × (crew.now.kind ≡ Box) × AtEach (Stands session.old) (λ config store. IsSoundCommand config store (Collect generation)) × (writer.new ≡ writer.old))
+        (λ at kind. (at ≡ number) ×
+        AtEach (Stands session.old) (λ config store. command_step config store (Collect generation) ≡ Err kind) ×
+        (writer.new ≡ writer.old))
+        (λ at. (at ≡ Some number) × IsFullToCollect session.old.heap generation crew.now.workers ×
+        AtEach (Stands session.old)
+        (λ config store. CommandMayBeFull crew.now.workers config store (Collect generation)) ×
+        (writer.new ≡ writer.old))
+        (λ at. (at ≡ Some number) ×
+        AtEach (Stands session.old) (λ config store. IsSoundCommand config store (Collect generation)) ×
+        (writer.new ≡ writer.old))
+        (λ at. (at ≡ number) × (crew.now.kind ≡ Box) ×
+        AtEach (Stands session.old) (λ config store. IsSoundCommand config store (Collect generation)) ×
+        (writer.new ≡ writer.old))
         ⊥
         (W.failed_writes writer.new ≡ W.failed_writes writer.old + 1)) }
     ensures before { IfErr result (λ e. UnlessOfWrite e (session.new ≡ session.old)) }
@@ -86,11 +96,13 @@ pub fn make_room_apart<
 ) -> Result<(), Fault>
     requires { W.failed_writes writer.old < 2 ^ 64 - 1 }
     ensures ok { OnOk result (AtEach (Stands session.old)
-        (λ config store. Stands session.new config (collected config 0 store) × Appends (W.output writer.old) (W.output writer.new) (auto_line store))) }
+        (λ config store. Stands session.new config (collected config 0 store) ×
+        Appends (W.output writer.old) (W.output writer.new) (auto_line store))) }
     ensures counts { OnOk result (W.failed_writes writer.new ≡ W.failed_writes writer.old) }
     ensures rises { W.failed_writes writer.new ≤ W.failed_writes writer.old + 1 }
     ensures err { IfErr result (λ e. MatchFaultApart e (λ _ _. ⊥)
-        (λ at. (at ≡ Some number) × IsFullToCollect session.old.heap 0 crew.now.workers × (session.new ≡ session.old) × (writer.new ≡ writer.old))
+        (λ at. (at ≡ Some number) × IsFullToCollect session.old.heap 0 crew.now.workers × (session.new ≡ session.old) ×
+        (writer.new ≡ writer.old))
         (λ at. (at ≡ Some number) × (session.new ≡ session.old) × (writer.new ≡ writer.old))
         (λ at. (at ≡ number) × (crew.now.kind ≡ Box) × (session.new ≡ session.old) × (writer.new ≡ writer.old))
         ⊥

@@ -26,7 +26,8 @@ use std::alloc::Allocator;
 
 /// The fault of a text that was not written in a line.
 fn not_written(number: u128, error: WriteError) -> Fault
-    ensures { MatchFault result (λ _ _. ⊥) (λ _. ⊥) (λ at. (at ≡ Some number) × (error ≡ WriteError.NoMemory)) ⊥ (error ≡ WriteError.WriteFailed) }
+    ensures { MatchFault result (λ _ _. ⊥) (λ _. ⊥) (λ at. (at ≡ Some number) × (error ≡ WriteError.NoMemory)) ⊥
+        (error ≡ WriteError.WriteFailed) }
 {
     match error {
         WriteError::NoMemory => Fault::NoMemory(Some(number)),
@@ -42,11 +43,13 @@ pub fn census<A: Allocator + Clone, W: Sink>(
 ) -> Result<(), Fault>
     requires { W.failed_writes writer.old < 2 ^ 64 - 1 }
     ensures ok { OnOk result (AtEach (Stands session.old)
-        (λ config store. StepsTo (Stands session.new) config (command_step config store Census) (W.output writer.old) (W.output writer.new))) }
+        (λ config store. StepsTo (Stands session.new) config (command_step config store Census) (W.output writer.old)
+        (W.output writer.new))) }
     ensures counts { OnOk result (W.failed_writes writer.new ≡ W.failed_writes writer.old) }
     ensures rises { W.failed_writes writer.new ≤ W.failed_writes writer.old + 1 }
     ensures err { IfErr result (λ e. MatchFault e (λ _ _. ⊥) (λ _. ⊥)
-        (λ at. (at ≡ Some number) × AtEach (Stands session.old) (λ config store. IsSoundCommand config store Census) × (writer.new ≡ writer.old))
+        (λ at. (at ≡ Some number) × AtEach (Stands session.old) (λ config store. IsSoundCommand config store Census) ×
+        (writer.new ≡ writer.old))
         ⊥
         (W.failed_writes writer.new ≡ W.failed_writes writer.old + 1)) }
     ensures kept { session.new ≡ session.old }
@@ -72,13 +75,20 @@ pub fn collect<A: Allocator + Clone, W: Sink>(
 ) -> Result<(), Fault>
     requires { W.failed_writes writer.old < 2 ^ 64 - 1 }
     ensures ok { OnOk result (AtEach (Stands session.old)
-        (λ config store. StepsTo (Stands session.new) config (command_step config store (Collect generation)) (W.output writer.old) (W.output writer.new))) }
+        (λ config store. StepsTo (Stands session.new) config (command_step config store (Collect generation))
+        (W.output writer.old) (W.output writer.new))) }
     ensures counts { OnOk result (W.failed_writes writer.new ≡ W.failed_writes writer.old) }
     ensures rises { W.failed_writes writer.new ≤ W.failed_writes writer.old + 1 }
     ensures err { IfErr result (λ e. MatchFault e
-        (λ at kind. (at ≡ number) × AtEach (Stands session.old) (λ config store. command_step config store (Collect generation) ≡ Err kind) × (writer.new ≡ writer.old))
-        (λ at. (at ≡ Some number) × IsFullToCollect session.old.heap generation 1 × AtEach (Stands session.old) (λ config store. CommandMayBeFull 1 config store (Collect generation)) × (writer.new ≡ writer.old))
-        (λ at. (at ≡ Some number) × AtEach (Stands session.old) (λ config store. IsSoundCommand config store (Collect generation)) × (writer.new ≡ writer.old))
+        (λ at kind. (at ≡ number) ×
+        AtEach (Stands session.old) (λ config store. command_step config store (Collect generation) ≡ Err kind) ×
+        (writer.new ≡ writer.old))
+        (λ at. (at ≡ Some number) × IsFullToCollect session.old.heap generation 1 ×
+        AtEach (Stands session.old) (λ config store. CommandMayBeFull 1 config store (Collect generation)) ×
+        (writer.new ≡ writer.old))
+        (λ at. (at ≡ Some number) ×
+        AtEach (Stands session.old) (λ config store. IsSoundCommand config store (Collect generation)) ×
+        (writer.new ≡ writer.old))
         ⊥
         (W.failed_writes writer.new ≡ W.failed_writes writer.old + 1)) }
     ensures before { IfErr result (λ e. UnlessOfWrite e (session.new ≡ session.old)) }
@@ -111,11 +121,13 @@ pub fn make_room<A: Allocator + Clone, W: Sink>(
 ) -> Result<(), Fault>
     requires { W.failed_writes writer.old < 2 ^ 64 - 1 }
     ensures ok { OnOk result (AtEach (Stands session.old)
-        (λ config store. Stands session.new config (collected config 0 store) × Appends (W.output writer.old) (W.output writer.new) (auto_line store))) }
+        (λ config store. Stands session.new config (collected config 0 store) ×
+        Appends (W.output writer.old) (W.output writer.new) (auto_line store))) }
     ensures counts { OnOk result (W.failed_writes writer.new ≡ W.failed_writes writer.old) }
     ensures rises { W.failed_writes writer.new ≤ W.failed_writes writer.old + 1 }
     ensures err { IfErr result (λ e. MatchFault e (λ _ _. ⊥)
-        (λ at. (at ≡ Some number) × IsFullToCollect session.old.heap 0 1 × (session.new ≡ session.old) × (writer.new ≡ writer.old))
+        (λ at. (at ≡ Some number) × IsFullToCollect session.old.heap 0 1 × (session.new ≡ session.old) ×
+        (writer.new ≡ writer.old))
         (λ at. (at ≡ Some number) × (session.new ≡ session.old) × (writer.new ≡ writer.old))
         ⊥
         (W.failed_writes writer.new ≡ W.failed_writes writer.old + 1)) }
@@ -151,13 +163,18 @@ pub fn show_heap<A: Allocator + Clone, W: Sink>(
 ) -> Result<(), Fault>
     requires { W.failed_writes writer.old < 2 ^ 64 - 1 }
     ensures ok { OnOk result (AtEach (Stands session.old)
-        (λ config store. StepsTo (Stands session.new) config (command_step config store meant.Heap) (W.output writer.old) (W.output writer.new))) }
+        (λ config store. StepsTo (Stands session.new) config (command_step config store meant.Heap)
+        (W.output writer.old) (W.output writer.new))) }
     ensures counts { OnOk result (W.failed_writes writer.new ≡ W.failed_writes writer.old) }
     ensures rises { W.failed_writes writer.new ≤ W.failed_writes writer.old + 1 }
     ensures err { IfErr result (λ e. MatchFault e
-        (λ at kind. (at ≡ number) × AtEach (Stands session.old) (λ config store. command_step config store meant.Heap ≡ Err kind) × (writer.new ≡ writer.old))
+        (λ at kind. (at ≡ number) ×
+        AtEach (Stands session.old) (λ config store. command_step config store meant.Heap ≡ Err kind) ×
+        (writer.new ≡ writer.old))
         (λ _. ⊥)
-        (λ at. (at ≡ Some number) × AtEach (Stands session.old) (λ config store. IsSoundCommand config store meant.Heap) × (writer.new ≡ writer.old))
+        (λ at. (at ≡ Some number) ×
+        AtEach (Stands session.old) (λ config store. IsSoundCommand config store meant.Heap) ×
+        (writer.new ≡ writer.old))
         ⊥
         (W.failed_writes writer.new ≡ W.failed_writes writer.old + 1)) }
     ensures kept { session.new ≡ session.old }

@@ -38,17 +38,28 @@ pub fn carry_out_apart<
 ) -> Result<(), Fault>
     requires { W.failed_writes writer.old < 2 ^ 64 - 1 }
     ensures ok { OnOk result (AtEach (Stands session.old)
-        (λ config store. StepsTo (Stands session.new) config (line_step config store line.now) (W.output writer.old) (W.output writer.new))) }
+        (λ config store. StepsTo (Stands session.new) config (line_step config store line.now) (W.output writer.old)
+        (W.output writer.new))) }
     ensures counts { OnOk result (W.failed_writes writer.new ≡ W.failed_writes writer.old) }
     ensures rises { W.failed_writes writer.new ≤ W.failed_writes writer.old + 1 }
     ensures err { IfErr result (λ e. MatchFaultApart e
-        (λ at kind. (at ≡ number) × AtEach (Stands session.old) (λ config store. (line_step config store line.now ≡ Err kind) × (writer.new ≡ writer.old)))
-        (λ at. (at ≡ Some number) × AtEach (Stands session.old) (λ config store. MayBeFull crew.now.workers config store line.now × (writer.new ≡ writer.old)))
-        (λ at. (at ≡ Some number) × AtEach (Stands session.old) (λ config store. Writes (IsSoundSoFar config store line.now) (W.output writer.old) (W.output writer.new)))
-        (λ at. (at ≡ number) × (crew.now.kind ≡ Box) × AtEach (Stands session.old) (λ config store. IsSoundTraceLine config store line.now × (writer.new ≡ writer.old)))
+        (λ at kind. (at ≡ number) ×
+        AtEach (Stands session.old) (λ config store. (line_step config store line.now ≡ Err kind) ×
+        (writer.new ≡ writer.old)))
+        (λ at. (at ≡ Some number) ×
+        AtEach (Stands session.old) (λ config store. MayBeFull crew.now.workers config store line.now ×
+        (writer.new ≡ writer.old)))
+        (λ at. (at ≡ Some number) ×
+        AtEach (Stands session.old)
+        (λ config store. Writes (IsSoundSoFar config store line.now) (W.output writer.old) (W.output writer.new)))
+        (λ at. (at ≡ number) × (crew.now.kind ≡ Box) ×
+        AtEach (Stands session.old) (λ config store. IsSoundTraceLine config store line.now ×
+        (writer.new ≡ writer.old)))
         ⊥
         (W.failed_writes writer.new ≡ W.failed_writes writer.old + 1)) }
-    ensures full { (at : Option ℕ) → result ≡ Err (Fault.HeapFull at) → AtEach (Stands session.old) (λ config store. IsFullForLine crew.now.workers session.old.heap config store line.now) }
+    ensures full { (at : Option ℕ) → result ≡ Err (Fault.HeapFull at) →
+        AtEach (Stands session.old)
+        (λ config store. IsFullForLine crew.now.workers session.old.heap config store line.now) }
 {
     if let Some(generation) = collected(line) {
         return collect_apart(crew, session, number, generation, writer);

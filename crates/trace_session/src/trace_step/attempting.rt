@@ -30,15 +30,23 @@ fn carry_out_command<A: Allocator + Clone, W: Sink>(
     requires old { MakesNone (command_of command) }
     requires countable { W.failed_writes writer.old < 2 ^ 64 - 1 }
     ensures ok { OnOk result (AtEach (Stands session.old)
-        (λ config store. StepsTo (Stands session.new) config (command_step config store (command_of command.entry)) (W.output writer.old) (W.output writer.new))) }
+        (λ config store. StepsTo (Stands session.new) config (command_step config store (command_of command.entry))
+        (W.output writer.old) (W.output writer.new))) }
     ensures own { OnOk result (IsNoCollection (Ok (Some (command_of command.entry)))
         → Does session.old.heap session.old.names (command_of command.entry) session.new.heap session.new.names) }
     ensures counts { OnOk result (W.failed_writes writer.new ≡ W.failed_writes writer.old) }
     ensures rises { W.failed_writes writer.new ≤ W.failed_writes writer.old + 1 }
     ensures err { IfErr result (λ e. MatchFault e
-        (λ at kind. (at ≡ number) × AtEach (Stands session.old) (λ config store. command_step config store (command_of command.entry) ≡ Err kind) × (writer.new ≡ writer.old))
-        (λ at. (at ≡ Some number) × MakesNone (command_of command.entry) × IsFullFor 1 session.old.heap (Ok (Some (command_of command.entry))) × AtEach (Stands session.old) (λ config store. CommandMayBeFull 1 config store (command_of command.entry)) × (writer.new ≡ writer.old))
-        (λ at. (at ≡ Some number) × AtEach (Stands session.old) (λ config store. IsSoundCommand config store (command_of command.entry)) × (writer.new ≡ writer.old))
+        (λ at kind. (at ≡ number) ×
+        AtEach (Stands session.old) (λ config store. command_step config store (command_of command.entry) ≡
+        Err kind) × (writer.new ≡ writer.old))
+        (λ at. (at ≡ Some number) × MakesNone (command_of command.entry) ×
+        IsFullFor 1 session.old.heap (Ok (Some (command_of command.entry))) ×
+        AtEach (Stands session.old) (λ config store. CommandMayBeFull 1 config store (command_of command.entry)) ×
+        (writer.new ≡ writer.old))
+        (λ at. (at ≡ Some number) ×
+        AtEach (Stands session.old) (λ config store. IsSoundCommand config store (command_of command.entry)) ×
+        (writer.new ≡ writer.old))
         ⊥
         (W.failed_writes writer.new ≡ W.failed_writes writer.old + 1)) }
 {
@@ -72,17 +80,25 @@ pub fn attempt_line<A: Allocator + Clone, W: Sink>(
 ) -> Result<Attempt, Fault>
     requires { W.failed_writes writer.old < 2 ^ 64 - 1 }
     ensures ok { IfOk result (λ attempt. AtEach (Stands session.old) (λ config store. MatchAttempt attempt
-        (StepsTo (Stands session.new) config (line_step config store line.now) (W.output writer.old) (W.output writer.new) × ¬ LineCollectsFirst config store line.now)
+        (StepsTo (Stands session.new) config (line_step config store line.now) (W.output writer.old)
+        (W.output writer.new) × ¬ LineCollectsFirst config store line.now)
         (IsSoundTraceLine config store line.now × LineCollectsFirst config store line.now))) }
     ensures own { IfOk result (λ attempt. MatchAttempt attempt (IsNoCollection (entry_of line.now)
-        → LineDoes session.old.heap session.old.names (entry_of line.now) session.new.heap session.new.names) (Unit {0})) }
+        → LineDoes session.old.heap session.old.names (entry_of line.now) session.new.heap session.new.names)
+        (Unit {0})) }
     ensures full { result ≡ Ok Attempt.NurseryFull → (session.new ≡ session.old) × (writer.new ≡ writer.old) }
     ensures counts { OnOk result (W.failed_writes writer.new ≡ W.failed_writes writer.old) }
     ensures rises { W.failed_writes writer.new ≤ W.failed_writes writer.old + 1 }
     ensures err { IfErr result (λ e. MatchFault e
-        (λ at kind. (at ≡ number) × AtEach (Stands session.old) (λ config store. line_step config store line.now ≡ Err kind) × (writer.new ≡ writer.old))
-        (λ at. (at ≡ Some number) × IsFullFor 1 session.old.heap (entry_of line.now) × AtEach (Stands session.old) (λ config store. MayBeFull 1 config store line.now × ¬ LineCollectsFirst config store line.now) × (writer.new ≡ writer.old))
-        (λ at. (at ≡ Some number) × AtEach (Stands session.old) (λ config store. IsSoundTraceLine config store line.now) × (writer.new ≡ writer.old))
+        (λ at kind. (at ≡ number) ×
+        AtEach (Stands session.old) (λ config store. line_step config store line.now ≡ Err kind) ×
+        (writer.new ≡ writer.old))
+        (λ at. (at ≡ Some number) × IsFullFor 1 session.old.heap (entry_of line.now) ×
+        AtEach (Stands session.old) (λ config store. MayBeFull 1 config store line.now ×
+        ¬ LineCollectsFirst config store line.now) × (writer.new ≡ writer.old))
+        (λ at. (at ≡ Some number) ×
+        AtEach (Stands session.old) (λ config store. IsSoundTraceLine config store line.now) ×
+        (writer.new ≡ writer.old))
         ⊥
         (W.failed_writes writer.new ≡ W.failed_writes writer.old + 1)) }
 {

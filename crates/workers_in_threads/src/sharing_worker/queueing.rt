@@ -37,8 +37,10 @@ impl<'a, C: Cells, A: Allocator> SharingWorker<'a, C, A> {
         requires exporter { exporter < self.old.workers }
         ensures same { IsSame C.at_home self.old self.new }
         ensures none { result ≡ Ok false → worker_of self.new ≡ worker_of self.old }
-        ensures own { result ≡ Ok false → exporter ≡ self.old.seat.index → self.new.seat.cleared ≡ length self.new.seat.sent }
-        ensures others { result ≡ Ok false → self.old.seat.cleared ≡ length self.old.seat.sent → self.new.seat.cleared ≡ length self.new.seat.sent }
+        ensures own { result ≡ Ok false → exporter ≡ self.old.seat.index →
+            self.new.seat.cleared ≡ length self.new.seat.sent }
+        ensures others { result ≡ Ok false → self.old.seat.cleared ≡ length self.old.seat.sent →
+            self.new.seat.cleared ≡ length self.new.seat.sent }
         ensures err { OnErr result (worker_of self.new ≡ worker_of self.old) }
     {
         match self.queues.take(rt, &mut self.seat, exporter)? {

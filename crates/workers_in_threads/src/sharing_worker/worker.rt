@@ -79,7 +79,18 @@ impl<'a, C: Cells, A: Allocator> SharingWorker<'a, C, A> {
         requires config { workspace.config ≡ heap.now.config }
         requires names { workspace.names ≡ young_names heap.now.graph collection.now.generation }
         requires worker { workspace.worker ≡ begins heap.now collection.now workers seat.index }
-        ensures { result ≡ record { heap = heap.now; collection = collection.now; claims = claims.now; queues = queues.now; workers = workers; cells = cells; pass = pass; draws = draws; seat = seat; workspace = workspace } }
+        ensures { result ≡ record {
+          heap = heap.now;
+          collection = collection.now;
+          claims = claims.now;
+          queues = queues.now;
+          workers = workers;
+          cells = cells;
+          pass = pass;
+          draws = draws;
+          seat = seat;
+          workspace = workspace;
+        } }
     {
         SharingWorker {
             heap,

@@ -84,7 +84,8 @@ impl<'a, C: Cells, A: Allocator + Clone> SharingWorker<'a, C, A> {
     fn take_any<R: Wait, G: Gate>(&mut self, rt: &R, gate: &G) -> Result<bool, AllocError>
         requires { IsFree self.old.workspace.worker }
         ensures same { IsSame C.at_home self.old self.new }
-        ensures none { result ≡ Ok false → (worker_of self.new ≡ worker_of self.old) × (self.new.seat.cleared ≡ length self.new.seat.sent) }
+        ensures none { result ≡ Ok false →
+            (worker_of self.new ≡ worker_of self.old) × (self.new.seat.cleared ≡ length self.new.seat.sent) }
     {
         let own = self.number();
         gate.before(own, StepKind::Take);

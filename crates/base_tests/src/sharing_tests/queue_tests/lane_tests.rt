@@ -38,7 +38,8 @@ impl Cargo for Any {
 type Pair = (Lane<Any>, LanePass<Numbers>, LanePass<Numbers>);
 
 fn open_pair(alloc: Global) -> Result<Pair, Fail>
-    ensures sender { IfOk result (λ p. (p.1.lane ≡ p.0) × (p.1.parts ≡ 1) × (p.1.senders ≡ 1) × (p.1.about.exporter ≡ 5) × (p.1.about.seats ≡ 2) × (length p.1.sent ≡ 0)) }
+    ensures sender { IfOk result (λ p. (p.1.lane ≡ p.0) × (p.1.parts ≡ 1) × (p.1.senders ≡ 1) ×
+        (p.1.about.exporter ≡ 5) × (p.1.about.seats ≡ 2) × (length p.1.sent ≡ 0)) }
     ensures taker { IfOk result (λ p. (p.2.lane ≡ p.0) × (p.2.parts ≡ 1) × (p.2.about.seats ≡ 2)) }
 {
     let list = Vec::new(alloc);
@@ -142,7 +143,8 @@ fn send_three<R: Wait>(
     pass: &mut LanePass<Numbers>,
 ) -> Result<(), Fail>
     requires lane { pass.old.lane ≡ lane.now }
-    requires sends { (0 < pass.old.parts) × (pass.old.senders ≡ 1) × (pass.old.about.exporter ≡ 5) × (length pass.old.sent ≡ 0) }
+    requires sends { (0 < pass.old.parts) × (pass.old.senders ≡ 1) × (pass.old.about.exporter ≡ 5) ×
+        (length pass.old.sent ≡ 0) }
     ensures { IfOk result (λ _. pass.new ≡ record pass.old { sent = pass.new.sent }) }
 {
     send_next(rt, alloc, lane, pass, 0, 40)?;
@@ -221,7 +223,8 @@ fn send_all<R: Wait>(
     pass: &mut LanePass<Numbers>,
 ) -> Result<(), Fail>
     requires lane { pass.old.lane ≡ lane.now }
-    requires sends { (0 < pass.old.parts) × (pass.old.senders ≡ 1) × (pass.old.about.exporter ≡ 5) × (length pass.old.sent ≡ 0) }
+    requires sends { (0 < pass.old.parts) × (pass.old.senders ≡ 1) × (pass.old.about.exporter ≡ 5) ×
+        (length pass.old.sent ≡ 0) }
     ensures { IfOk result (λ _. pass.new ≡ record pass.old { sent = pass.new.sent }) }
 {
     for position in 0..BLOCKS {
@@ -238,16 +241,20 @@ fn send_and_take<R: Threads + Wait + Sync>(
     mut sender: LanePass<Numbers>,
     taker: LanePass<Numbers>,
 ) -> Result<(LanePass<Numbers>, Done), Fail>
-    requires sender { (sender.lane ≡ lane.now) × (sender.parts ≡ 1) × (sender.senders ≡ 1) × (sender.about.exporter ≡ 5) × (length sender.sent ≡ 0) }
+    requires sender { (sender.lane ≡ lane.now) × (sender.parts ≡ 1) × (sender.senders ≡ 1) ×
+        (sender.about.exporter ≡ 5) × (length sender.sent ≡ 0) }
     requires taker { (taker.lane ≡ lane.now) × (taker.parts ≡ 1) }
-    ensures { IfOk result (λ r. (r.0 ≡ record sender { sent = r.0.sent }) × (r.1.pass ≡ record taker { taken = r.1.pass.taken })) }
+    ensures { IfOk result (λ r. (r.0 ≡ record sender { sent = r.0.sent }) ×
+        (r.1.pass ≡ record taker { taken = r.1.pass.taken })) }
 {
     thread::scope(
         thread::scope_env(),
         rt,
         |scope| -> Result<(LanePass<Numbers>, Done), Fail>
-            requires { (sender.lane ≡ lane.now) × (sender.parts ≡ 1) × (sender.senders ≡ 1) × (sender.about.exporter ≡ 5) × (length sender.sent ≡ 0) × (taker.lane ≡ lane.now) × (taker.parts ≡ 1) }
-            ensures { IfOk result (λ r. (r.0 ≡ record sender { sent = r.0.sent }) × (r.1.pass ≡ record taker { taken = r.1.pass.taken })) }
+            requires { (sender.lane ≡ lane.now) × (sender.parts ≡ 1) × (sender.senders ≡ 1) ×
+                (sender.about.exporter ≡ 5) × (length sender.sent ≡ 0) × (taker.lane ≡ lane.now) × (taker.parts ≡ 1) }
+            ensures { IfOk result (λ r. (r.0 ≡ record sender { sent = r.0.sent }) ×
+                (r.1.pass ≡ record taker { taken = r.1.pass.taken })) }
         {
             let child = scope.spawn_with(OnlyTakes(Snapshot::of(&taker)), move || {
                 take_some(rt, lane, taker)

@@ -123,7 +123,8 @@ fn export_and_take<R: Threads + Wait + Sync>(
     requires exporter { IsSeatOf pending.now trio.exporter }
     requires takers { IsSeatOf pending.now trio.first × IsSeatOf pending.now trio.second }
     requires key { pending.now.key ≡ 16 }
-    ensures { IfOk result (λ r. IsSeatOf pending.now r.0 × IsSeatOf pending.now r.1.seat × IsSeatOf pending.now r.2.seat) }
+    ensures { IfOk result (λ r. IsSeatOf pending.now r.0 × IsSeatOf pending.now r.1.seat ×
+        IsSeatOf pending.now r.2.seat) }
 {
     let Trio {
         mut exporter,
@@ -137,7 +138,8 @@ fn export_and_take<R: Threads + Wait + Sync>(
             requires runtime { IsSync R.row }
             requires key { pending.now.key ≡ 16 }
             requires seats { IsSeatOf pending.now exporter × IsSeatOf pending.now first × IsSeatOf pending.now second }
-            ensures { IfOk result (λ r. IsSeatOf pending.entry.now r.0 × IsSeatOf pending.entry.now r.1.seat × IsSeatOf pending.entry.now r.2.seat) }
+            ensures { IfOk result (λ r. IsSeatOf pending.entry.now r.0 × IsSeatOf pending.entry.now r.1.seat ×
+                IsSeatOf pending.entry.now r.2.seat) }
         {
             let one = scope.spawn_with(OfQueues(Snapshot::of(pending)), move || {
                 take_some(rt, pending, first)
