@@ -1,6 +1,6 @@
 -- A command that writes nothing, or that wants no blocks, as one of all commands.
 use Rattle.std.proofs.Common.{◌≡◌, ℕ, [], Option, Some, Result, Ok, Err}
-use Rattle.std.specs.Prelude.{OnOk, IfErr, IsOk}
+use Rattle.std.specs.Prelude.{OnOk, OnErr, IfErr, IsOk}
 use Rattle.heap_text.specs.Streams.{Output}
 use Rattle.heap_text.proofs.Streams.{Appends-nil}
 use Rattle.model.specs.declared.kind.Kind.{Kind}
@@ -61,3 +61,13 @@ unless_any (NoMemory line) fact holds = holds
 unless_any (Unsettled line) fact holds = holds
 unless_any ReadFailed fact holds = holds
 unless_any WriteFailed fact holds = tt
+
+-- what holds at each fault holds where it was no write's
+pub as_before : {X : Type 0} (r : Result X Fault) (fact : Type 0) → OnErr r fact → IfErr r (λ e. UnlessOfWrite e fact)
+as_before (Ok x) fact holds = tt
+as_before (Err e) fact holds = unless_any e fact holds
+
+-- and so does what holds always
+pub as_ever : {X : Type 0} (r : Result X Fault) (fact : Type 0) → fact → IfErr r (λ e. UnlessOfWrite e fact)
+as_ever (Ok x) fact holds = tt
+as_ever (Err e) fact holds = unless_any e fact holds

@@ -1,7 +1,12 @@
 -- What a new name for what a pointer leads to does to a session that stands for a store.
-use Rattle.std.proofs.Common.{◌≡◌, ℕ, List, [], length, Option, Some, None, Ok, Err, refl, sym, ap, subst, ⊎_elim}
-use Rattle.std.specs.Prelude.{IsSome, IsSomeAnd, is_ok}
+use Rattle.std.proofs.Common.{◌≡◌, ◌∙◌, ℕ, List, [], length, Option, Some, None, Ok, Err, refl, sym, ap, subst, ⊎_elim}
+use Rattle.std.specs.Prelude.{◌↔◌, IsSome, IsSomeAnd, IsOk, OnOk, is_ok, is_some, Result}
+use Rattle.std.proofs.lemmas.Bool.{cases_eq}
 use Rattle.std.proofs.str.Laws.{order}
+use Rattle.std.specs.Ordering.{nat_cmp}
+use Rattle.std.specs.FinMap.{FinMap, get, insert, remove}
+use Rattle.model.specs.Graph.{root_at, without_root}
+use Rattle.model.proofs.NatMap.{get-insert_same, get-insert_other, get-remove_same, get-remove_other, same_nat_map}
 use Rattle.std.proofs.lemmas.Option.{slice_get_past}
 use Rattle.model.specs.declared.kind.Kind.TheVariants.{NameInUse, UnknownName, NoField, NilPointer}
 use Rattle.model.specs.Config.{Config}
@@ -17,6 +22,29 @@ use Rattle.trace_session.specs.Stands.{StandsFor, LeadsTo}
 use Rattle.trace_session.proofs.StandsLoaded.{Pointed, pointed, nil_there, stands_loaded}
 use Rattle.trace_session.proofs.NamedLemmas.{added}
 use Rattle.trace_session.proofs.FieldSteps.{has_pointer}
+
+-- a root that was not there is taken out again
+removed_again : (m : FinMap nat_cmp ℕ) (k v : ℕ) → get m k ≡ None → remove (insert m k v) k ≡ m
+removed_again m k v free =
+    same_nat_map _ _ (λ q. ⊎_elim
+    (λ e. rw e (get-remove_same (insert m k v) k ∙ sym free))
+    (λ ne. get-remove_other (insert m k v) k q ne ∙ get-insert_other m k v q ne)
+    (cases_eq q k))
+
+-- the heap is as before once the root that a load made is given up
+pub given_up : (heap after : HeapValue) (root i new_root : ℕ) → Loads heap root i (Some new_root) after → record after { graph = without_root after.graph new_root } ≡ heap
+given_up heap after root i new_root loads =
+    let adds = loads.2 in
+    rw adds.change (ap (λ roots. record heap { graph = record heap.graph { roots = roots } }) (removed_again heap.graph.roots new_root loads.0 adds.new_root))
+
+-- and it is given up, since it was there
+pub is_given_up : {X E : Type 0} (r : Result X E) (heap after last : HeapValue) (root i new_root : ℕ) → Loads heap root i (Some new_root) after → IsOk r ↔ IsSome (root_at after.graph new_root) → OnOk r (last ≡ record after { graph = without_root after.graph new_root }) → last ≡ heap
+is_given_up (Ok x) heap after last root i new_root loads known gone = gone ∙ given_up heap after root i new_root loads
+is_given_up (Err e) heap after last root i new_root loads known gone =
+    let adds = loads.2 in
+    let there : IsSome (root_at after.graph new_root) = rw adds.change (ap is_some (get-insert_same heap.graph.roots new_root loads.0)) in
+    let bad = known.1 there in
+    absurd (cc)
 
 module _ (heap : HeapValue) (names : List (List ℕ × ℕ)) (config : Config) (store : Store) (stands : StandsFor heap names config store) (new_text text : List ℕ) (i : ℕ) where
   pub get_in_use : (root : ℕ) → named names new_text ≡ Some root → command_step config store (Get new_text text i) ≡ Err NameInUse

@@ -90,3 +90,10 @@ taken_named es fs text moved apart after =
     sym (moved-in_order (map name_entry (remove_entry (is_named text) es)) (map name_entry fs) m (keys_moved _ _ m d) d)
     ∙ ap in_order (remove_named text es)
     ∙ removed-in_order (map name_entry es) text (distinct_named es apart)
+
+-- the same entries in another order
+pub reordered_named : {A : Type 0} (es fs : List (Vec ℕ A × RootId)) → IsPermutation es fs → AreApart fs → in_order (map name_entry fs) ≡ in_order (map name_entry es)
+reordered_named es fs moved apart =
+    let d = distinct_named fs apart in
+    let m = IsPermutation-map name_entry es fs moved in
+    sym (moved-in_order (map name_entry es) (map name_entry fs) m (keys_moved _ _ m d) d)

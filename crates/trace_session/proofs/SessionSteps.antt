@@ -1,10 +1,11 @@
 -- What a new object and a dropped name do to a session that stands for a store.
-use Rattle.std.proofs.Common.{◌≡◌, ℕ, ◌+◌, ◌<◌, true, false, List, [], length, Option, Some, None, Ok, Err, refl, sym, ap, subst, inl, inr}
+use Rattle.std.proofs.Common.{◌≡◌, ℕ, ◌+◌, ◌<◌, true, false, List, [], length, Option, Some, None, Ok, Err, refl, sym, ap, subst, inl, inr, ⊎_elim}
 use Rattle.std.specs.Prelude.{nat_lt, not, is_some, is_ok, slice_set}
 use Rattle.std.specs.Option.{option_map}
 use Rattle.std.specs.Ordering.{nat_cmp}
 use Rattle.std.specs.FinMap.{get-empty, len-empty}
-use Rattle.std.proofs.lemmas.Bool.{true≢false, lt-ltb, and_parts}
+use Rattle.std.proofs.lemmas.Bool.{true≢false, lt-ltb, le-ltb, and_parts, cases_Bool}
+use Rattle.model.specs.declared.kind.Kind.{Kind}
 use Rattle.model.specs.declared.kind.Kind.TheVariants.{NameInUse}
 use Rattle.model.specs.Graph.{Graph, root_at, without_root}
 use Rattle.model.specs.Config.{Config}
@@ -16,8 +17,9 @@ use Rattle.heap.specs.Commands.{Allocates, AllocatesSmall, AllocatesLarge}
 use Rattle.steps.specs.declared.heap_values.root_id.RootId.{RootId}
 use Rattle.trace_session.specs.CollectsFirst.{CollectsFirst}
 use Rattle.trace_session.specs.Outcome.{command_step}
-use Rattle.trace_session.specs.Sound.{IsSoundCommand}
+use Rattle.trace_session.specs.Sound.{IsSoundCommand, IsFaultOfNew}
 use Rattle.trace_session.specs.Stepped.{StepsQuietly}
+use Rattle.trace_session.specs.declared.session.Session.{Session}
 use Rattle.trace_session.specs.NamesView.{named}
 use Rattle.trace_session.specs.Refusals.{CommandMayBeFull, LacksBlocks}
 use Rattle.trace_session.specs.Made.{MadeByCalls, made, allocated, released}
@@ -72,6 +74,13 @@ IsNamed-rooms store place heap names rooms before = record {
   count = before.count;
 }
 
+-- sessions that are the same have the same heap and names
+pub heap_of : {A : Type 0} (a b : Session A) → a ≡ b → a.heap ≡ b.heap
+heap_of a b same = ap (λ s. s.heap) same
+
+pub names_of : {A : Type 0} (a b : Session A) → a ≡ b → a.names ≡ b.names
+names_of a b same = ap (λ s. s.names) same
+
 -- a name is in use in the session exactly where it is in the store
 pub root_known : (r : Option RootId) (names : List (List ℕ × ℕ)) (text : List ℕ) → option_map (λ (x : RootId). x.number) r ≡ named names text → is_some r ≡ true → (root : ℕ) × (named names text ≡ Some root)
 root_known None names text is known = absurd (true≢false (sym known))
@@ -96,6 +105,33 @@ module _ (heap : HeapValue) (names : List (List ℕ × ℕ)) (config : Config) (
   new_large text m p q free in_range fits large =
       let known : nat_lt m config.mutators ≡ true = lt-ltb m config.mutators in_range in
       rw (free, known, fits, large) refl
+
+  -- a new object whose own fault comes before all that the store holds
+  pub fault_of_new : (text : List ℕ) (m p q : ℕ) (kind : Kind) → named names text ≡ None → IsFaultOfNew heap.config m p q kind → command_step config store (New text m p q) ≡ Err kind
+  fault_of_new text m p q kind free (inl lacks) =
+      let unused = stands.names_are.free text free in
+      let unknown : nat_lt m config.mutators ≡ false = le-ltb m config.mutators (rw (← stands.config_is) lacks.1) in
+      rw (unused, unknown, lacks.0) refl
+  fault_of_new text m p q kind free (inr big) =
+      let unused = stands.names_are.free text free in
+      let known : nat_lt m config.mutators ≡ true = lt-ltb m config.mutators (rw (← stands.config_is) big.1) in
+      rw (unused, known, big.2, big.0) refl
+
+  sound_by_room : (text : List ℕ) (m p q : ℕ) (room : Option Room) → named store.names text ≡ None → m < config.mutators → is_too_big p q ≡ false → is_large_size config (1 + p + q) ≡ false → room_in config m (1 + p + q) store ≡ room → IsSoundCommand config store (New text m p q)
+  sound_by_room text m p q None unused in_range fits small none =
+      let known : nat_lt m config.mutators ≡ true = lt-ltb m config.mutators in_range in
+      rw (unused, known, fits, small, none) refl
+  sound_by_room text m p q (Some room) unused in_range fits small some = ap is_ok (new_step text m p q room unused in_range fits small some)
+
+  -- one that has none has no fault at all
+  pub new_is_sound : (text : List ℕ) (m p q : ℕ) → named names text ≡ None → m < heap.config.mutators → is_too_big p q ≡ false → IsSoundCommand config store (New text m p q)
+  new_is_sound text m p q free in_range fits =
+      let unused = stands.names_are.free text free in
+      let here : m < config.mutators = rw (← stands.config_is) in_range in
+      ⊎_elim
+      (λ large. ap is_ok (new_large text m p q unused here fits large))
+      (λ small. sound_by_room text m p q (room_in config m (1 + p + q) store) unused here fits small refl)
+      (cases_Bool (is_large_size config (1 + p + q)))
 
   steps_small : (text : List ℕ) (m p q root : ℕ) (heap' : HeapValue) (names' : List (List ℕ × ℕ)) → named names text ≡ None → AllocatesSmall heap m p q root heap' → names' ≡ added names text root → m < heap.config.mutators → is_too_big p q ≡ false → StepsQuietly (StandsFor heap' names') config (command_step config store (New text m p q))
   steps_small text m p q root heap' names' free allocates names_are in_range fits =

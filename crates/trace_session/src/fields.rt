@@ -117,8 +117,8 @@ impl<A: Allocator + Clone> Session<A> {
         }
     }
 
-    /// A free name leads from now on to what pointer `field` of the other name's object leads to. At each fault but want of memory,
-    /// which may leave a root without a name, the session is as before.
+    /// A free name leads from now on to what pointer `field` of the other name's object leads to. At a fault the session is as
+    /// before.
     pub fn get(
         &mut self,
         number: u128,
@@ -139,7 +139,7 @@ impl<A: Allocator + Clone> Session<A> {
             AtEach (Stands self.old)
             (λ config store. IsSoundCommand config store (Get new_name.now name.now field)))
             ⊥ ⊥) }
-        ensures before { IfErr result (λ e. MatchFault e (λ _ _. self.new ≡ self.old) (λ _. ⊥) (λ _. Unit {0}) ⊥ ⊥) }
+        ensures before { OnErr result (self.new ≡ self.old) }
     {
         if self.names.get(new_name).is_some() {
             return Err(Fault::BadTrace(number, Kind::NameInUse));
@@ -156,12 +156,13 @@ impl<A: Allocator + Clone> Session<A> {
         let Some(root) = loaded else {
             return Err(Fault::BadTrace(number, Kind::NilPointer));
         };
-        let Ok(alloc) = self.alloc.clone() else {
-            return Err(Fault::NoMemory(Some(number)));
-        };
-        match self.names.insert(alloc, new_name, root) {
+        match self.names.insert(&self.alloc, new_name, root) {
             Ok(()) => Ok(()),
-            Err(_) => Err(Fault::NoMemory(Some(number))),
+            Err(_) => {
+                // No name leads to the new root.
+                let _known = self.heap.release(root);
+                Err(Fault::NoMemory(Some(number)))
+            }
         }
     }
 }

@@ -1,21 +1,39 @@
 //! What a run keeps between lines.
-ghost use Rattle.std.specs.Prelude.{◌≡◌, ◌+◌, ◌*◌, ◌<◌, ◌≤◌, ◌++◌, [], Some, None, Ok, Err, IfOk, OnOk, IfErr, OnErr};
+ghost use Rattle.std.specs.Prelude.{false, ◌≡◌, ◌+◌, ◌*◌, ◌<◌, ◌≤◌, ◌++◌, [], Some, None, Ok, Err, IfOk, OnOk, IfErr, OnErr};
 ghost use Rattle.model.specs.Store.{empty_store};
-ghost use Rattle.model.specs.Commands.{New, Drop};
+ghost use Rattle.model.specs.Commands.{New, Drop, is_too_big};
 ghost use Rattle.heap.specs.HeapValue.{empty_heap};
 ghost use Rattle.trace_session.specs.Attempts.{MatchAttempt};
 ghost use Rattle.trace_session.specs.CollectsFirst.{CollectsFirst};
 ghost use Rattle.trace_session.specs.Does.{Does};
 ghost use Rattle.trace_session.specs.Faults.{MatchFault};
 ghost use Rattle.trace_session.specs.Outcome.{command_step};
-ghost use Rattle.trace_session.specs.Sound.{IsSoundCommand};
+ghost use Rattle.trace_session.specs.Sound.{IsSoundCommand, IsFaultOfNew};
 ghost use Rattle.trace_session.specs.Stepped.{AtEach, StepsQuietly};
 
 use crate::trace_lines::{Attempt, Fault};
-use crate::trace_names::Names;
+use crate::trace_names::{Names, put_in, room_for};
 use heap::{AllocateError, Config, Heap, MakeError, NoRoot};
+use layout::MOST_FIELDS;
 use model::Kind;
 use std::alloc::{Allocator, Global};
+
+/// The fault of a new object where memory is wanting: its own comes first.
+fn without_memory(number: u128, config: Config, mutator: u64, pointers: u64, plain: u64) -> Fault
+    ensures { MatchFault result
+        (λ at kind. (at ≡ number) × IsFaultOfNew config mutator pointers plain kind)
+        (λ _. ⊥)
+        (λ at. (at ≡ Some number) × (mutator < config.mutators) × (is_too_big pointers plain ≡ false))
+        ⊥ ⊥ }
+{
+    if mutator >= config.mutators() as u64 {
+        return Fault::BadTrace(number, Kind::NoMutator);
+    }
+    if pointers > MOST_FIELDS as u64 || plain > MOST_FIELDS as u64 {
+        return Fault::BadTrace(number, Kind::TooBig);
+    }
+    Fault::NoMemory(Some(number))
+}
 
 /// A heap, and the names that lead into it. It isn't used again after a fault.
 #[derive(Drop)]
@@ -57,8 +75,7 @@ impl<A: Allocator + Clone> Session<A> {
     }
 
     /// A new object, to which a free name leads. Where its nursery has no room, nothing has changed. `HeapFull` says that a
-    /// large one takes more blocks than are free in this heap. At each fault but want of memory, which may leave an object without a
-    /// name, the session is as before.
+    /// large one takes more blocks than are free in this heap. At a fault the session is as before.
     pub fn add(
         &mut self,
         number: u128,
@@ -88,12 +105,14 @@ impl<A: Allocator + Clone> Session<A> {
             AtEach (Stands self.old)
             (λ config store. IsSoundCommand config store (New name.now mutator pointers plain)))
             ⊥ ⊥) }
-        ensures before { IfErr result
-            (λ e. MatchFault e (λ _ _. self.new ≡ self.old) (λ _. self.new ≡ self.old) (λ _. Unit {0}) ⊥ ⊥) }
+        ensures before { OnErr result (self.new ≡ self.old) }
     {
         if self.names.get(name).is_some() {
             return Err(Fault::BadTrace(number, Kind::NameInUse));
         }
+        let Ok(text) = room_for(&mut self.names.roots, &self.alloc, name) else {
+            return Err(without_memory(number, self.heap.config(), mutator, pointers, plain));
+        };
         let root = match self.heap.allocate(mutator, pointers, plain) {
             Ok(root) => root,
             Err(AllocateError::NoMutator) => return Err(Fault::BadTrace(number, Kind::NoMutator)),
@@ -102,13 +121,8 @@ impl<A: Allocator + Clone> Session<A> {
             Err(AllocateError::HeapFull) => return Err(Fault::HeapFull(Some(number))),
             Err(AllocateError::NoMemory) => return Err(Fault::NoMemory(Some(number))),
         };
-        let Ok(alloc) = self.alloc.clone() else {
-            return Err(Fault::NoMemory(Some(number)));
-        };
-        match self.names.insert(alloc, name, root) {
-            Ok(()) => Ok(Attempt::Done),
-            Err(_) => Err(Fault::NoMemory(Some(number))),
-        }
+        put_in(&mut self.names.roots, text, root);
+        Ok(Attempt::Done)
     }
 
     /// The name leads to nothing any more. At a fault the session is as before.

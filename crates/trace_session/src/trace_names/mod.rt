@@ -3,3 +3,4 @@ mod hash;
 mod names;
 
 pub use names::Names;
+pub(crate) use names::{put_in, room_for};

@@ -4,7 +4,7 @@ ghost use Rattle.model.specs.Commands.{command_of};
 ghost use Rattle.trace_text.specs.Grammar.{entry_of};
 ghost use Rattle.trace_session.specs.Attempts.{MatchAttempt};
 ghost use Rattle.trace_session.specs.CollectsFirst.{LineCollectsFirst};
-ghost use Rattle.trace_session.specs.Faults.{MatchFault};
+ghost use Rattle.trace_session.specs.Faults.{MatchFault, UnlessOfWrite};
 ghost use Rattle.trace_session.specs.Outcome.{line_step, command_step};
 ghost use Rattle.trace_session.specs.Sound.{IsSoundTraceLine, IsSoundCommand};
 ghost use Rattle.trace_session.specs.Stepped.{AtEach, StepsTo};
@@ -36,6 +36,7 @@ fn carry_out_command<A: Allocator + Clone, W: Sink>(
         → Does session.old.heap session.old.names (command_of command.entry) session.new.heap session.new.names) }
     ensures counts { OnOk result (W.failed_writes writer.new ≡ W.failed_writes writer.old) }
     ensures rises { W.failed_writes writer.new ≤ W.failed_writes writer.old + 1 }
+    ensures before { IfErr result (λ e. UnlessOfWrite e (session.new ≡ session.old)) }
     ensures err { IfErr result (λ e. MatchFault e
         (λ at kind. (at ≡ number) ×
         AtEach (Stands session.old) (λ config store. command_step config store (command_of command.entry) ≡
@@ -89,6 +90,7 @@ pub fn attempt_line<A: Allocator + Clone, W: Sink>(
     ensures full { result ≡ Ok Attempt.NurseryFull → (session.new ≡ session.old) × (writer.new ≡ writer.old) }
     ensures counts { OnOk result (W.failed_writes writer.new ≡ W.failed_writes writer.old) }
     ensures rises { W.failed_writes writer.new ≤ W.failed_writes writer.old + 1 }
+    ensures before { IfErr result (λ e. UnlessOfWrite e (session.new ≡ session.old)) }
     ensures err { IfErr result (λ e. MatchFault e
         (λ at kind. (at ≡ number) ×
         AtEach (Stands session.old) (λ config store. line_step config store line.now ≡ Err kind) ×

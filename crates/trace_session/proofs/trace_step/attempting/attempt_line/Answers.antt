@@ -3,6 +3,7 @@ use Rattle.model.specs.Commands.{command_of}
 use Rattle.trace_text.specs.Answer.{view}
 use Rattle.trace_text.specs.Grammar.{entry_of}
 use Rattle.trace_session.specs.Session.{Stands}
+use Rattle.trace_session.proofs.CommandFaults.{as_before}
 use Rattle.trace_session.proofs.CommandLine.{command_does, nothing_does, new_does, line_fault, new_line, new_fault}
 use Rattle.trace_session.proofs.trace_step.attempting.attempt_line.Goals as goal
 
@@ -21,6 +22,7 @@ returns-in-Err-carry_out_command g c =
       full = λ is. absurd (cc);
       counts = tt;
       rises = c.in-Err-carry_out_command.ensures.rises;
+      before = c.in-Err-carry_out_command.ensures.before;
       err =
           line_fault c.args.session.now (Stands c.args.session.now) c.args.number c.args.line.now (command_of c.in-Ok-Command.command) says _ _ _
           c.in-Err-carry_out_command.fault c.in-Err-carry_out_command.ensures.err;
@@ -46,3 +48,6 @@ pub returns-in-Ok-clause-own : goal.returns-in-Ok-clause-own
 returns-in-Ok-clause-own g c =
     let says = subst (λ l. entry_of c.args.line.now ≡ Ok (view l)) c.in-Ok-Command.field-0-is c.in-Ok-Command.ensures in
     command_does c.args.session.now.heap c.args.session.now.names _ _ c.args.line.now (command_of c.in-Ok-Command.command) says c.in-Ok.ensures.own
+
+pub returns-in-Ok-Command-New-clause-before : goal.returns-in-Ok-Command-New-clause-before
+returns-in-Ok-Command-New-clause-before g c = as_before c.add.result _ c.add.ensures.before

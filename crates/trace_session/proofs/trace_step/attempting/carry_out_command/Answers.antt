@@ -4,7 +4,7 @@ use Rattle.std.proofs.lemmas.Result.{on_ok_weaker}
 use Rattle.model.specs.Commands.{Set, Put, Get, Drop, Census, Heap, target_of}
 use Rattle.trace_session.specs.Does.{counts, shows}
 use Rattle.trace_session.specs.Outcome.{command_step}
-use Rattle.trace_session.proofs.CommandFaults.{quiet_steps, quiet_faults, never_full}
+use Rattle.trace_session.proofs.CommandFaults.{quiet_steps, quiet_faults, never_full, as_before, as_ever}
 use Rattle.trace_session.proofs.CommandLine.{shows_unchanged}
 use Rattle.trace_session.proofs.NoMemory.{never_wanting}
 use Rattle.trace_session.proofs.trace_step.attempting.carry_out_command.Goals as goal
@@ -82,3 +82,21 @@ returns-in-Heap-clause-own g c = rw c.in-Heap.is (always c.show_heap.result (λ 
 
 pub returns-in-Collect-clause-own : goal.returns-in-Collect-clause-own
 returns-in-Collect-clause-own g c = rw c.in-Collect.is (always c.collect.result (λ plain. absurd plain))
+
+pub returns-in-Set-clause-before : goal.returns-in-Set-clause-before
+returns-in-Set-clause-before g c = as_before c.set.result _ c.set.ensures.before
+
+pub returns-in-Put-clause-before : goal.returns-in-Put-clause-before
+returns-in-Put-clause-before g c = as_before c.put.result _ c.put.ensures.before
+
+pub returns-in-Get-clause-before : goal.returns-in-Get-clause-before
+returns-in-Get-clause-before g c = as_before c.get.result _ c.get.ensures.before
+
+pub returns-in-Drop-clause-before : goal.returns-in-Drop-clause-before
+returns-in-Drop-clause-before g c = as_before c.remove.result _ c.remove.ensures.before
+
+pub returns-in-Census-clause-before : goal.returns-in-Census-clause-before
+returns-in-Census-clause-before g c = as_ever c.census.result _ c.census.ensures.kept
+
+pub returns-in-Heap-clause-before : goal.returns-in-Heap-clause-before
+returns-in-Heap-clause-before g c = as_ever c.show_heap.result _ c.show_heap.ensures.kept
