@@ -1,11 +1,10 @@
 -- What a new object and a dropped name do to a session that stands for a store.
-use Rattle.std.proofs.Common.{◌≡◌, ℕ, ◌+◌, ◌<◌, true, false, List, [], length, Option, Some, None, Ok, Err, refl, sym, ap, subst, inl, inr, ⊎_elim}
+use Rattle.std.proofs.Common.{◌≡◌, ℕ, ◌+◌, ◌<◌, true, false, List, [], length, Option, Some, None, Ok, Err, refl, sym, ap, subst, inl, inr}
 use Rattle.std.specs.Prelude.{nat_lt, not, is_some, is_ok, slice_set}
 use Rattle.std.specs.Option.{option_map}
 use Rattle.std.specs.Ordering.{nat_cmp}
 use Rattle.std.specs.FinMap.{get-empty, len-empty}
-use Rattle.std.proofs.lemmas.Bool.{true≢false, lt-ltb, le-ltb, and_parts, cases_Bool}
-use Rattle.model.specs.declared.kind.Kind.{Kind}
+use Rattle.std.proofs.lemmas.Bool.{true≢false, lt-ltb, and_parts}
 use Rattle.model.specs.declared.kind.Kind.TheVariants.{NameInUse}
 use Rattle.model.specs.Graph.{Graph, root_at, without_root}
 use Rattle.model.specs.Config.{Config}
@@ -17,7 +16,6 @@ use Rattle.heap.specs.Commands.{Allocates, AllocatesSmall, AllocatesLarge}
 use Rattle.steps.specs.declared.heap_values.root_id.RootId.{RootId}
 use Rattle.trace_session.specs.CollectsFirst.{CollectsFirst}
 use Rattle.trace_session.specs.Outcome.{command_step}
-use Rattle.trace_session.specs.Sound.{IsSoundCommand, IsFaultOfNew}
 use Rattle.trace_session.specs.Stepped.{StepsQuietly}
 use Rattle.trace_session.specs.declared.session.Session.{Session}
 use Rattle.trace_session.specs.NamesView.{named}
@@ -106,33 +104,6 @@ module _ (heap : HeapValue) (names : List (List ℕ × ℕ)) (config : Config) (
       let known : nat_lt m config.mutators ≡ true = lt-ltb m config.mutators in_range in
       rw (free, known, fits, large) refl
 
-  -- a new object whose own fault comes before all that the store holds
-  pub fault_of_new : (text : List ℕ) (m p q : ℕ) (kind : Kind) → named names text ≡ None → IsFaultOfNew heap.config m p q kind → command_step config store (New text m p q) ≡ Err kind
-  fault_of_new text m p q kind free (inl lacks) =
-      let unused = stands.names_are.free text free in
-      let unknown : nat_lt m config.mutators ≡ false = le-ltb m config.mutators (rw (← stands.config_is) lacks.1) in
-      rw (unused, unknown, lacks.0) refl
-  fault_of_new text m p q kind free (inr big) =
-      let unused = stands.names_are.free text free in
-      let known : nat_lt m config.mutators ≡ true = lt-ltb m config.mutators (rw (← stands.config_is) big.1) in
-      rw (unused, known, big.2, big.0) refl
-
-  sound_by_room : (text : List ℕ) (m p q : ℕ) (room : Option Room) → named store.names text ≡ None → m < config.mutators → is_too_big p q ≡ false → is_large_size config (1 + p + q) ≡ false → room_in config m (1 + p + q) store ≡ room → IsSoundCommand config store (New text m p q)
-  sound_by_room text m p q None unused in_range fits small none =
-      let known : nat_lt m config.mutators ≡ true = lt-ltb m config.mutators in_range in
-      rw (unused, known, fits, small, none) refl
-  sound_by_room text m p q (Some room) unused in_range fits small some = ap is_ok (new_step text m p q room unused in_range fits small some)
-
-  -- one that has none has no fault at all
-  pub new_is_sound : (text : List ℕ) (m p q : ℕ) → named names text ≡ None → m < heap.config.mutators → is_too_big p q ≡ false → IsSoundCommand config store (New text m p q)
-  new_is_sound text m p q free in_range fits =
-      let unused = stands.names_are.free text free in
-      let here : m < config.mutators = rw (← stands.config_is) in_range in
-      ⊎_elim
-      (λ large. ap is_ok (new_large text m p q unused here fits large))
-      (λ small. sound_by_room text m p q (room_in config m (1 + p + q) store) unused here fits small refl)
-      (cases_Bool (is_large_size config (1 + p + q)))
-
   steps_small : (text : List ℕ) (m p q root : ℕ) (heap' : HeapValue) (names' : List (List ℕ × ℕ)) → named names text ≡ None → AllocatesSmall heap m p q root heap' → names' ≡ added names text root → m < heap.config.mutators → is_too_big p q ≡ false → StepsQuietly (StandsFor heap' names') config (command_step config store (New text m p q))
   steps_small text m p q root heap' names' free allocates names_are in_range fits =
       let room = allocates.room in
@@ -182,10 +153,6 @@ module _ (heap : HeapValue) (names : List (List ℕ × ℕ)) (config : Config) (
   pub steps_new : (text : List ℕ) (m p q root : ℕ) (heap' : HeapValue) (names' : List (List ℕ × ℕ)) → named names text ≡ None → Allocates heap m p q root heap' → names' ≡ added names text root → m < heap.config.mutators → is_too_big p q ≡ false → StepsQuietly (StandsFor heap' names') config (command_step config store (New text m p q))
   steps_new text m p q root heap' names' free (inl small) names_are in_range fits = steps_small text m p q root heap' names' free small names_are in_range fits
   steps_new text m p q root heap' names' free (inr large) names_are in_range fits = steps_large text m p q root heap' names' free large names_are in_range fits
-
-  -- what was allocated has no fault
-  pub new_sound : (text : List ℕ) (m p q root : ℕ) (heap' : HeapValue) → named names text ≡ None → Allocates heap m p q root heap' → m < heap.config.mutators → is_too_big p q ≡ false → IsSoundCommand config store (New text m p q)
-  new_sound text m p q root heap' free allocates in_range fits = ap is_ok (steps_new text m p q root heap' (added names text root) free allocates refl in_range fits).steps
 
   not_first : (text : List ℕ) (m p q : ℕ) → is_large_size config (1 + p + q) ≡ true → ¬ CollectsFirst config store (New text m p q)
   not_first text m p q large first =

@@ -20,8 +20,8 @@ abbrev pub with_root_of : Rooted → List ℕ → ℕ → Rooted
 with_root_of names text root = map.put (slice_cmp nat_cmp) text root names
 
 -- the name leads to nothing
-abbrev pub without_name : Rooted → List ℕ → Rooted
-without_name names text = filter (λ e. not (eq_by_cmp (slice_cmp nat_cmp) text e.0)) names
+abbrev pub without_root_of : Rooted → List ℕ → Rooted
+without_root_of names text = filter (λ e. not (eq_by_cmp (slice_cmp nat_cmp) text e.0)) names
 
 -- what each command does that collects nothing
 pub data Does (heap : HeapValue) (names : Rooted) : Command → HeapValue → Rooted → Type 0 where
@@ -29,7 +29,7 @@ pub data Does (heap : HeapValue) (names : Rooted) : Command → HeapValue → Ro
   stores : {text : List ℕ} {i root : ℕ} {target : Option (List ℕ)} {value : Option ℕ} {after : HeapValue} → named names text ≡ Some root → IsRootOf names target value → Stores heap root i value after → Does heap names (Set text i target) after names
   writes : {text : List ℕ} {i value root : ℕ} {after : HeapValue} → named names text ≡ Some root → Changes heap root (λ o. record o { plain = slice_set o.plain i value }) after → Does heap names (Put text i value) after names
   loads : {new_text text : List ℕ} {i holder root : ℕ} {after : HeapValue} → named names new_text ≡ None → named names text ≡ Some holder → Loads heap holder i (Some root) after → Does heap names (Get new_text text i) after (with_root_of names new_text root)
-  releases : {text : List ℕ} {root : ℕ} → named names text ≡ Some root → Does heap names (Drop text) (record heap { graph = without_root heap.graph root }) (without_name names text)
+  releases : {text : List ℕ} {root : ℕ} → named names text ≡ Some root → Does heap names (Drop text) (record heap { graph = without_root heap.graph root }) (without_root_of names text)
   counts : Does heap names Census heap names
   shows : Does heap names Heap heap names
 
