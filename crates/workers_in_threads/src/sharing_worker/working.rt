@@ -103,8 +103,8 @@ impl<'a, C: Cells, A: Allocator + Clone> SharingWorker<'a, C, A> {
         Ok(false)
     }
 
-    /// Finds something else to scan: exports what is aside, else takes what lies in an allocation block or is large, else
-    /// takes of a queue. Tells whether there was one of these.
+    /// Finds something else to scan: exports what is aside, else takes of a queue, else takes what lies in an allocation block
+    /// or is large. Tells whether there was one of these.
     fn find_work<R: Wait, G: Gate>(&mut self, rt: &R, gate: &G) -> Result<bool, AllocError>
         requires { HasNothingInHand self.old }
         ensures same { IsSame C.at_home self.old self.new }
@@ -115,6 +115,9 @@ impl<'a, C: Cells, A: Allocator + Clone> SharingWorker<'a, C, A> {
             self.export(rt)?;
             return Ok(true);
         }
+        if self.take_any(rt, gate)? {
+            return Ok(true);
+        }
         if let Some(d) = self.lowest_open() {
             self.own(d);
             return Ok(true);
@@ -123,7 +126,7 @@ impl<'a, C: Cells, A: Allocator + Clone> SharingWorker<'a, C, A> {
             self.own_large();
             return Ok(true);
         }
-        self.take_any(rt, gate)
+        Ok(false)
     }
 
     /// What comes next: what `scavenge` can do, and then a step that may want a block or a queue, or a look at the verdict.
