@@ -95,11 +95,9 @@ fn sizes_for(objects: u32, spare: u64) -> Sizes {
     }
 }
 
-/// A heap with such a tree, and its root.
-pub(crate) fn wide_heap(alloc: Global, objects: u32, spare: u64) -> Result<(Heap, RootId), Fail> {
-    let mut heap = heap_of(alloc, sizes_for(objects, spare))?;
-    let top = add_tree(alloc, &mut heap, objects)?;
-    Ok((heap, top))
+/// A heap with room for such a tree.
+pub(crate) fn wide_heap(alloc: Global, objects: u32, spare: u64) -> Result<Heap, Fail> {
+    heap_of(alloc, sizes_for(objects, spare))
 }
 
 /// Names for these roots, all of one text.

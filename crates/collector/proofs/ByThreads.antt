@@ -1,14 +1,12 @@
 -- What workers on threads of their own brought back, as their cells settle it.
-use Rattle.std.proofs.Common.{◌≡◌, ◌≢◌, ℕ, zero, suc, ◌+◌, ◌*◌, ◌<◌, ◌≤◌, Bool, true, false, List, [], ◌∷◌, ◌||◌, All, map, length, Option, Some, None, Result, Ok, Err, refl, sym, ap, subst, ◌∙◌, arith, inl}
-use Rattle.std.proofs.Math.Nat.{mul-le-mul_right}
+use Rattle.std.proofs.Common.{◌≡◌, ◌≢◌, ℕ, zero, suc, ◌+◌, ◌≤◌, Bool, true, false, List, [], ◌∷◌, ◌||◌, All, map, length, Option, Some, None, Result, Ok, Err, refl, sym, ap, subst, ◌∙◌, arith, inl}
 use Rattle.std.proofs.lemmas.Option.{slice_get-get_or}
 use Rattle.std.specs.Prelude.{slice_get, slice_index_or, sum_by, AllPairs, IfOk}
 use Rattle.std.specs.List.{list_any}
-use Rattle.model.specs.LiveCount.{LiveCount, LiveWords}
-use Rattle.model.specs.Destination.{dest_count}
+use Rattle.model.specs.LiveCount.{LiveCount}
 use Rattle.layout.specs.declared.place.Place.{Place}
 use Rattle.block_pool.specs.ClaimsValue.{ClaimsValue, SeatValue, all_drawn, any_out}
-use Rattle.forwarding.specs.Noted.{NotedValue, IsPassOf, IsApart}
+use Rattle.forwarding.specs.Noted.{NotedValue, IsApart}
 use Rattle.forwarding.specs.Passes.{AtEach, IsBoxPass}
 use Rattle.forwarding.specs.Settled.{IsSettled, all_pairs, wins_of, ones}
 use Rattle.forwarding.specs.declared.cells.forwards.SettleError.{SettleError}
@@ -23,11 +21,11 @@ use Rattle.steps.specs.declared.heap_values.report.Delivery.{Delivery}
 use Rattle.scavenge.specs.Handed.{CopiesKeyValue}
 use Rattle.scavenge.specs.Shown.{WorkspaceValue}
 use Rattle.scavenge.specs.declared.looking.LookError.TheVariants.{HeapFull}
-use Rattle.settling.specs.Collects.{IsShortOfBlocks, ScansOnce}
+use Rattle.settling.specs.Collects.{ScansOnce}
 use Rattle.workers_in_threads.specs.declared.kit.Brought.{Brought}
 use Rattle.workers_in_threads.specs.declared.sharing_worker.resting.Outcome.{Outcome}
 use Rattle.workers_in_threads.specs.declared.sharing_worker.resting.Outcome.TheVariants.{Ended, Refused}
-use Rattle.workers_in_threads.specs.Kits.{IsBroughtBack, thread_of}
+use Rattle.workers_in_threads.specs.Kits.{thread_of}
 use Rattle.workers_in_threads.specs.Threads.{ThreadValue}
 use Rattle.workers_in_threads.specs.Refusing.{Refusing}
 use Rattle.workers_in_threads.specs.CameBack.{CameBack, WereSettled, ArePlaced}
@@ -75,13 +73,6 @@ out_there (x ∷ ss) (suc i) s e o = by x.out (out_there ss i s e o)
     by : (b : Bool) → list_any (λ (y : SeatValue). y.out) ss ≡ true → (b || list_any (λ (y : SeatValue). y.out) ss) ≡ true
     by true r = refl
     by false r = r
-
--- the bound for one worker is no more than that for several
-pub more_workers : (heap : HeapValue) (g n : ℕ) → 0 < n → IsShortOfBlocks heap g → IsShortOfBlocksFor heap g n
-more_workers heap g n some short words live =
-    let s = short words live in
-    let m : 1 * dest_count heap.config.shape g ≤ n * dest_count heap.config.shape g = mul-le-mul_right (dest_count heap.config.shape g) (let k : 1 ≤ n = omega (arith, some) in k) in
-    omega (arith, s, m)
 
 module _ {P A : Type 0} (is_pass : ℕ → P → Type 0) (known : P → ℕ → Option Place) (won : P → List (ℕ × Place)) (heap : HeapValue) (c : CollectionValue) (n : ℕ) (ending : Outcome) (passes : List P) (claims : ClaimsValue) (queues : Source A CopiesKeyValue)
     (draws : List SeatValue) (seats : List (QueueSeatValue A CopiesKeyValue)) (workspaces : List WorkspaceValue) (k : CameBack is_pass known won heap c n ending passes claims queues draws seats workspaces) where

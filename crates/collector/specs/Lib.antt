@@ -1,4 +1,3 @@
--- What a collection by one worker brings to its commit, and why a collection was not carried out.
-pub mod Settling
+-- How collections by threads are carried out, and why they were not.
 pub mod Errors
 pub mod CrewValue

@@ -4,7 +4,7 @@ ghost use Rattle.forwarding.specs.declared.cells.forwards.SettleError.TheVariant
 ghost use Rattle.steps.specs.ReportValue.{all_won};
 ghost use Rattle.steps.specs.SettledValue.{IsSettled};
 ghost use Rattle.scavenge.specs.ReadyToCollect.{IsReadyToCollect};
-ghost use Rattle.settling.specs.Collects.{ScansOnce};
+ghost use Rattle.settling.specs.Collects.{CollectsAlone, ScansOnce, IsShortOfBlocks, IsStuckAlone};
 ghost use Rattle.workers_in_threads.specs.declared.sharing_worker.resting.Outcome.TheVariants as Outcome;
 ghost use Rattle.workers_in_threads.specs.CameBack.{WereSettled};
 ghost use Rattle.workers_in_threads.specs.Reports.{CollectsApart, ReportsApart, IsShortOfBlocksFor, IsStuckApart, IsStuckFor};
@@ -320,9 +320,33 @@ fn scavenged_by<
     }
 }
 
-/// Collects the generations 0 to `generation` with `n` workers, 1 to 16, each on a thread of its own. The gate is called
-/// before each step that workers share. Where some worker leaves early, though none was refused anything, what all brought
-/// is dropped, and one worker collects alone.
+/// Collects the generations 0 to `generation`, where the heap has it, with one worker alone.
+fn alone<A: Allocator + Clone>(
+    alloc: A,
+    heap: &mut Heap<A>,
+    generation: u64,
+) -> Result<Report<A>, ThreadsError>
+    requires { generation < heap.old.config.shape.generations }
+    ensures ok { IfOk result
+        (λ report. CollectsAlone heap.old generation report.kept report.freed report.workers.items
+        report.deliveries.items heap.new) }
+    ensures full { result ≡ Err ThreadsError.HeapFull → IsShortOfBlocks heap.old generation }
+    ensures stuck { result ≡ Err ThreadsError.HeapFull → IsStuckAlone heap.old generation }
+    ensures others { (result ≢ Err ThreadsError.NoGeneration) × (result ≢ Err ThreadsError.BadConfig) ×
+        (result ≢ Err ThreadsError.Unsettled) }
+    ensures err { OnErr result (heap.new ≡ heap.old) }
+{
+    match collect_one(alloc, heap, generation) {
+        Ok(report) => Ok(report),
+        Err(CollectError::HeapFull) => Err(ThreadsError::HeapFull),
+        Err(CollectError::NoMemory) => Err(ThreadsError::NoMemory),
+        Err(CollectError::NoGeneration) => unreachable!(),
+    }
+}
+
+/// Collects the generations 0 to `generation` with `n` workers, 1 to 16, each on a thread of its own; one alone collects as
+/// `collect_one` does, and no thread is started. The gate is called before each step that workers share. Where some worker
+/// leaves early, though none was refused anything, what all brought is dropped, and one worker collects alone.
 pub fn collect<
     R: Threads + Wait + Sync + AllocGlobal,
     A: Allocator + Clone + Send + Sync,
@@ -353,16 +377,14 @@ pub fn collect<
     if generation >= heap.config().generations() as u64 {
         return Err(ThreadsError::NoGeneration);
     }
+    if n == 1 {
+        return alone(alloc, heap, generation);
+    }
     let spare = heap.take_spare();
     let collection = heap.open_collection(alloc.clone()?, generation)?;
     let brought = scavenged_by(rt, alloc.clone()?, heap, collection, n, kind, gate, spare)?;
     let Some(settled) = brought else {
-        return match collect_one(alloc, heap, generation) {
-            Ok(report) => Ok(report),
-            Err(CollectError::HeapFull) => Err(ThreadsError::HeapFull),
-            Err(CollectError::NoMemory) => Err(ThreadsError::NoMemory),
-            Err(CollectError::NoGeneration) => unreachable!(),
-        };
+        return alone(alloc, heap, generation);
     };
     let Ok(report) = heap.commit(alloc, settled) else {
         return Err(ThreadsError::NoMemory);

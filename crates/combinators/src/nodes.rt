@@ -5,8 +5,8 @@ ghost use Rattle.heap.specs.HeapValue.{empty_heap};
 ghost use Rattle.heap.specs.Commands.{Loads, Stores, HasPointer, MustNote};
 ghost use Rattle.combinators.specs.Nodes.{node_sizes, letter_of, WasCollected, MayBeCollected, HasChild, AreParts, IsWant, AddsNode, AddsSymbol, AddsApplication};
 
-use collector::{CollectError, collect_one};
 use heap::{AllocateError, Config, Heap, LoadError, MakeError, RootId, Sizes, StoreError};
+use one_worker::{CollectError, collect_one};
 use std::alloc::Global;
 use std::marker::Model;
 use thiserror::Error;

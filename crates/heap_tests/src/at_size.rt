@@ -1,53 +1,27 @@
 //! Heaps at a size at which real programs work: more objects, roots and blocks than a small table, or a number of 12 or 15 bits, tells.
-use crate::heaps::{allocated, assert_marks, collected, heap_of, marked_roots, release_others};
-use collector::{CellKind, collect};
-use forwarding::OpenGate;
+use crate::heaps::{
+    allocated, assert_collected, assert_marks, heap_of, marked_roots, release_others,
+};
 use heap::{AllocateError, Heap, RootId};
-use std::alloc::{AllocGlobal, Global};
+use std::alloc::Global;
 use std::process::Abort;
-use std::sync::Wait;
 use std::test::Fail;
-use std::thread::Threads;
 
 /// How many roots are made.
 const MANY: u64 = 60_000;
 
-/// What collects.
-#[derive(Clone, Copy)]
-enum By {
-    /// One worker, who starts no thread.
-    One,
-    /// Two threads.
-    Two(CellKind),
-}
-
-/// Collects, and tells how many objects were kept and freed.
-fn collected_by<R: Threads + Wait + Sync + AllocGlobal>(
-    rt: &R,
-    heap: &mut Heap<Global>,
-    by: By,
-) -> Result<(u64, u64), Fail> {
-    match by {
-        By::One => Ok(collected(rt.alloc(), heap)?),
-        By::Two(kind) => {
-            let report = collect(rt, rt.alloc(), heap, 0, 2, kind, &OpenGate)?;
-            Ok((report.kept, report.freed))
-        }
-    }
-}
-
 /// Makes 60,000 objects of so many words, collects them, gives up half of them, and collects again.
-fn assert_kept<R: Threads + Wait + Sync + AllocGlobal + Abort>(
-    rt: &R,
+fn assert_kept(
+    rt: &impl Abort,
+    alloc: Global,
     heap: &mut Heap<Global>,
     plain: u64,
-    by: By,
 ) -> Result<(), Fail> {
-    let roots = marked_roots(rt.alloc(), heap, MANY, plain)?;
-    assert_eq!(rt; collected_by(rt, heap, by)?, (60_000, 0));
+    let roots = marked_roots(alloc, heap, MANY, plain)?;
+    assert_collected(rt, alloc, heap, (60_000, 0));
     assert_marks(rt, heap, &roots, 1);
     release_others(heap, &roots, 2)?;
-    assert_eq!(rt; collected_by(rt, heap, by)?, (30_000, 30_000));
+    assert_collected(rt, alloc, heap, (30_000, 30_000));
     assert_marks(rt, heap, &roots, 2);
     Ok(())
 }
@@ -55,17 +29,14 @@ fn assert_kept<R: Threads + Wait + Sync + AllocGlobal + Abort>(
 #[test]
 fn sixty_thousand_small_objects_with_roots(rt: HostRuntime) -> Result<(), Fail> {
     let mut heap = heap_of(rt.alloc(), 512, 64, 65_535)?;
-    assert_kept(&rt, &mut heap, 2, By::One)
+    assert_kept(&rt, rt.alloc(), &mut heap, 2)
 }
 
 /// Each takes a block of 16 words.
 #[test]
 fn sixty_thousand_large_objects(rt: HostRuntime) -> Result<(), Fail> {
-    for by in [By::One, By::Two(CellKind::Word), By::Two(CellKind::Box)] {
-        let mut heap = heap_of(rt.alloc(), 16, 1, 65_535)?;
-        assert_kept(&rt, &mut heap, 9, by)?;
-    }
-    Ok(())
+    let mut heap = heap_of(rt.alloc(), 16, 1, 65_535)?;
+    assert_kept(&rt, rt.alloc(), &mut heap, 9)
 }
 
 /// A list of so many objects, whose first one has a root.
@@ -102,15 +73,24 @@ fn assert_list(
     Ok(())
 }
 
+/// Makes a list, collects it twice, gives up all but its last object, and collects again.
+fn assert_list_is_kept(
+    rt: &impl Abort,
+    alloc: Global,
+    heap: &mut Heap<Global>,
+) -> Result<(), Fail> {
+    let first = list_of(alloc, heap, 100_000)?;
+    assert_collected(rt, alloc, heap, (100_000, 0));
+    assert_collected(rt, alloc, heap, (100_000, 0));
+    assert_list(rt, heap, first, 100_000)?;
+    assert_collected(rt, alloc, heap, (1, 99_999));
+    Ok(())
+}
+
 #[test]
 fn a_list_of_a_hundred_thousand(rt: HostRuntime) -> Result<(), Fail> {
     let mut heap = heap_of(rt.alloc(), 512, 64, 2000)?;
-    let first = list_of(rt.alloc(), &mut heap, 100_000)?;
-    assert_eq!(&rt; collected(rt.alloc(), &mut heap), Ok((100_000, 0)));
-    assert_eq!(&rt; collected(rt.alloc(), &mut heap), Ok((100_000, 0)));
-    assert_list(&rt, &mut heap, first, 100_000)?;
-    assert_eq!(&rt; collected(rt.alloc(), &mut heap), Ok((1, 99_999)));
-    Ok(())
+    assert_list_is_kept(&rt, rt.alloc(), &mut heap)
 }
 
 /// Makes large objects of a block each until no block is free, and tells how many there are.
@@ -125,12 +105,17 @@ fn fill(heap: &mut Heap<Global>) -> Result<u64, Fail> {
     Err(Fail::from("the heap has more blocks than it was given"))
 }
 
+/// Asserts that 65,534 blocks can be filled, and no more after a collection.
+fn assert_filled(rt: &impl Abort, alloc: Global, heap: &mut Heap<Global>) -> Result<(), Fail> {
+    assert_eq!(rt; fill(heap)?, 65_534);
+    assert_collected(rt, alloc, heap, (65_534, 0));
+    assert_eq!(rt; heap.allocate(0, 0, 9).err(), Some(AllocateError::HeapFull));
+    Ok(())
+}
+
 /// One of the 65,535 blocks is the nursery's.
 #[test]
 fn every_block_can_be_used(rt: HostRuntime) -> Result<(), Fail> {
     let mut heap = heap_of(rt.alloc(), 16, 1, 65_535)?;
-    assert_eq!(&rt; fill(&mut heap)?, 65_534);
-    assert_eq!(&rt; collected(rt.alloc(), &mut heap), Ok((65_534, 0)));
-    assert_eq!(&rt; heap.allocate(0, 0, 9).err(), Some(AllocateError::HeapFull));
-    Ok(())
+    assert_filled(&rt, rt.alloc(), &mut heap)
 }

@@ -1,8 +1,8 @@
 //! Collections of a heap through its own calls, where blocks run out too.
 use crate::heaps::{add_objects, census_of, collected, config_of, heap_of};
-use collector::{CollectError, collect_one};
 use heap::{AllocateError, Heap, MakeError, NoRoot, OpenError, Report, RootId, StepId};
 use layout::Place;
+use one_worker::{CollectError, collect_one};
 use std::alloc::Global;
 use std::process::Abort;
 use std::test::Fail;
@@ -18,11 +18,9 @@ fn add_six(heap: &mut Heap<Global>) -> Result<RootId, Fail> {
     Ok(last)
 }
 
-/// A heap of six objects, and the root of the last.
-fn six_objects(alloc: Global) -> Result<(Heap<Global>, RootId), Fail> {
-    let mut heap = heap_of(alloc, 16, 2, 12)?;
-    let last = add_six(&mut heap)?;
-    Ok((heap, last))
+/// A heap for them.
+fn heap_for_six(alloc: Global) -> Result<Heap<Global>, Fail> {
+    heap_of(alloc, 16, 2, 12)
 }
 
 /// Asserts that a heap has this census.
@@ -39,8 +37,9 @@ fn assert_census(
 const FIVE: &[u8] =
     b"gen 0 step 0: 5 objects 80 words\nlarge: 0 objects 0 words\nroots: 5\nremembered: 0\n";
 
-/// Asserts that a collection of five objects finds no blocks, and leaves them as they are.
+/// Asserts that a collection of five new objects finds no blocks, and leaves them as they are.
 fn assert_five_stay(rt: &impl Abort, alloc: Global, heap: &mut Heap<Global>) -> Result<(), Fail> {
+    add_objects(heap, 5, 0, 15)?;
     assert_census(rt, alloc, heap, FIVE)?;
     assert_eq!(rt; collected(alloc, heap), Err(CollectError::HeapFull));
     assert_census(rt, alloc, heap, FIVE)
@@ -49,7 +48,6 @@ fn assert_five_stay(rt: &impl Abort, alloc: Global, heap: &mut Heap<Global>) -> 
 #[test]
 fn census_where_blocks_run_out(rt: HostRuntime) -> Result<(), Fail> {
     let mut heap = heap_of(rt.alloc(), 64, 2, 3)?;
-    add_objects(&mut heap, 5, 0, 15)?;
     assert_five_stay(&rt, rt.alloc(), &mut heap)
 }
 
@@ -68,11 +66,17 @@ fn opened(
     ))
 }
 
+/// Asserts what a collection of six objects tells.
+fn assert_opens(rt: &impl Abort, alloc: Global, heap: &mut Heap<Global>) -> Result<(), Fail> {
+    let _last = add_six(heap)?;
+    assert_eq!(rt; opened(alloc, heap, 0), Ok((0, 6, 5, 10)));
+    Ok(())
+}
+
 #[test]
 fn a_collection_opens(rt: HostRuntime) -> Result<(), Fail> {
-    let (heap, _) = six_objects(rt.alloc())?;
-    assert_eq!(rt; opened(rt.alloc(), &heap, 0), Ok((0, 6, 5, 10)));
-    Ok(())
+    let mut heap = heap_for_six(rt.alloc())?;
+    assert_opens(&rt, rt.alloc(), &mut heap)
 }
 
 /// Whether the one worker of a report won and scanned five objects, one of them at this place.
@@ -123,8 +127,8 @@ fn assert_objects_move(
     rt: &impl Abort,
     alloc: Global,
     heap: &mut Heap<Global>,
-    last: RootId,
 ) -> Result<(), Fail> {
+    let last = add_six(heap)?;
     let old_place = heap.target(last).ok_or("no target")?;
     let report = collect_one(alloc, heap, 0)?;
     assert_eq!(rt; (report.kept, report.freed), (5, 1));
@@ -138,8 +142,8 @@ fn assert_objects_move(
 
 #[test]
 fn objects_move(rt: HostRuntime) -> Result<(), Fail> {
-    let (mut heap, last) = six_objects(rt.alloc())?;
-    assert_objects_move(&rt, rt.alloc(), &mut heap, last)
+    let mut heap = heap_for_six(rt.alloc())?;
+    assert_objects_move(&rt, rt.alloc(), &mut heap)
 }
 
 #[test]

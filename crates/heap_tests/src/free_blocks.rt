@@ -1,8 +1,10 @@
 //! Collections with each number of free blocks, from none to as many as suffice in any order.
-use crate::heaps::{Ends, census_of, collected, free_count, heap_of, is_carried_out};
-use collector::CollectError;
+use crate::heaps::{
+    Ends, assert_collected, census_of, collected, free_count, heap_of, is_carried_out,
+};
 use heap::{Heap, RootId};
 use heap_text::{Counted, Name, write_heap};
+use one_worker::CollectError;
 use std::alloc::Global;
 use std::process::Abort;
 use std::test::Fail;
@@ -93,25 +95,6 @@ fn add_group(heap: &mut Heap<Global>, group: Group) -> Result<RootId, Fail> {
     Ok(top)
 }
 
-/// A group in a heap with so many free blocks.
-fn group_in_nursery(
-    alloc: Global,
-    group: Group,
-    free: u64,
-) -> Result<(Heap<Global>, RootId), Fail> {
-    let blocks = group.blocks.saturating_add(free);
-    let mut heap = heap_of(alloc, 64, group.blocks, blocks)?;
-    let top = add_group(&mut heap, group)?;
-    Ok((heap, top))
-}
-
-/// A group that a collection has moved out of the nursery, in a heap with so many free blocks.
-fn group_moved(alloc: Global, group: Group, free: u64) -> Result<(Heap<Global>, RootId), Fail> {
-    let (mut heap, top) = group_in_nursery(alloc, group, group.blocks.saturating_add(free))?;
-    let _counts = collected(alloc, &mut heap)?;
-    Ok((heap, top))
-}
-
 /// The text of all that a root leads to.
 fn text_of(alloc: Global, heap: &Heap<Global>, root: RootId) -> Result<Vec<u8>, Fail> {
     if heap.target(root).is_none() {
@@ -159,13 +142,14 @@ fn assert_kept_and_gone(
     rt: &impl Abort,
     alloc: Global,
     heap: &mut Heap<Global>,
-    top: RootId,
+    stands: Stands,
     group: Group,
     free: u64,
 ) -> Result<(), Fail> {
+    let top = add_there(alloc, heap, stands, group)?;
     assert_collection(rt, alloc, heap, top, group, free)?;
     heap.release(top)?;
-    assert_eq!(rt; collected(alloc, heap), Ok((0, group.kept)));
+    assert_collected(rt, alloc, heap, (0, group.kept));
     Ok(())
 }
 
@@ -177,17 +161,27 @@ enum Stands {
     Moved,
 }
 
-/// A group in a heap with so many free blocks.
-fn group_that(
+/// A heap in which so many blocks are free once a group stands there.
+fn heap_for(alloc: Global, stands: Stands, group: Group, free: u64) -> Result<Heap<Global>, Fail> {
+    let taken = match stands {
+        Stands::InNursery => group.blocks,
+        Stands::Moved => group.blocks.saturating_add(group.blocks),
+    };
+    heap_of(alloc, 64, group.blocks, taken.saturating_add(free))
+}
+
+/// Adds a group where it stands, and tells its root.
+fn add_there(
     alloc: Global,
+    heap: &mut Heap<Global>,
     stands: Stands,
     group: Group,
-    free: u64,
-) -> Result<(Heap<Global>, RootId), Fail> {
-    match stands {
-        Stands::InNursery => group_in_nursery(alloc, group, free),
-        Stands::Moved => group_moved(alloc, group, free),
+) -> Result<RootId, Fail> {
+    let top = add_group(heap, group)?;
+    if let Stands::Moved = stands {
+        let _counts = collected(alloc, heap)?;
     }
+    Ok(top)
 }
 
 fn assert_with_free(
@@ -197,8 +191,8 @@ fn assert_with_free(
     group: Group,
     free: u64,
 ) -> Result<(), Fail> {
-    let (mut heap, top) = group_that(alloc, stands, group, free)?;
-    assert_kept_and_gone(rt, alloc, &mut heap, top, group, free)
+    let mut heap = heap_for(alloc, stands, group, free)?;
+    assert_kept_and_gone(rt, alloc, &mut heap, stands, group, free)
 }
 
 /// Tries each number of free blocks, up to as many as suffice.
@@ -236,17 +230,23 @@ fn add_dead(heap: &mut Heap<Global>) -> Result<(), Fail> {
 fn assert_turn(rt: &impl Abort, alloc: Global, heap: &mut Heap<Global>) -> Result<(), Fail> {
     add_dead(heap)?;
     assert_eq!(rt; free_count(alloc, heap), Ok(4));
-    assert_eq!(rt; collected(alloc, heap), Ok((15, 16)));
+    assert_collected(rt, alloc, heap, (15, 16));
+    Ok(())
+}
+
+/// The same, twenty times.
+fn assert_turns(rt: &impl Abort, alloc: Global, heap: &mut Heap<Global>) -> Result<(), Fail> {
+    let _top = add_there(alloc, heap, Stands::Moved, LOOSE)?;
+    for _turn in 0..20 {
+        assert_turn(rt, alloc, heap)?;
+    }
     Ok(())
 }
 
 #[test]
 fn blocks_come_back(rt: HostRuntime) -> Result<(), Fail> {
-    let (mut heap, _top) = group_moved(rt.alloc(), LOOSE, 4)?;
-    for _turn in 0..20 {
-        assert_turn(&rt, rt.alloc(), &mut heap)?;
-    }
-    Ok(())
+    let mut heap = heap_for(rt.alloc(), Stands::Moved, LOOSE, 4)?;
+    assert_turns(&rt, rt.alloc(), &mut heap)
 }
 
 /// Makes four fields of the top object nil, which lead to the last four of eight.
@@ -258,21 +258,17 @@ fn cut_half(heap: &mut Heap<Global>, top: RootId) -> Result<(), Fail> {
 }
 
 /// Asserts that the one free block is free again after a refusal, and takes four objects.
-fn assert_half_fits(
-    rt: &impl Abort,
-    alloc: Global,
-    heap: &mut Heap<Global>,
-    top: RootId,
-) -> Result<(), Fail> {
+fn assert_half_fits(rt: &impl Abort, alloc: Global, heap: &mut Heap<Global>) -> Result<(), Fail> {
+    let top = add_group(heap, EIGHT)?;
     assert_eq!(rt; collected(alloc, heap), Err(CollectError::HeapFull));
     assert_eq!(rt; free_count(alloc, heap), Ok(1));
     cut_half(heap, top)?;
-    assert_eq!(rt; collected(alloc, heap), Ok((4, 4)));
+    assert_collected(rt, alloc, heap, (4, 4));
     Ok(())
 }
 
 #[test]
 fn refused_collection_gives_its_block_back(rt: HostRuntime) -> Result<(), Fail> {
-    let (mut heap, top) = group_in_nursery(rt.alloc(), EIGHT, 1)?;
-    assert_half_fits(&rt, rt.alloc(), &mut heap, top)
+    let mut heap = heap_for(rt.alloc(), Stands::InNursery, EIGHT, 1)?;
+    assert_half_fits(&rt, rt.alloc(), &mut heap)
 }

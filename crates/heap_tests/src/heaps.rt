@@ -1,7 +1,7 @@
 //! Heaps of any size, what is seen of them, and collections of them.
-use collector::{CollectError, collect_one};
 use heap::{AllocateError, Config, Heap, NoRoot, OpenError, RootId, Sizes};
 use heap_text::{Counted, write_census};
+use one_worker::{CollectError, collect_one};
 use std::alloc::{Allocator, Global};
 use std::process::Abort;
 use std::test::Fail;
@@ -57,6 +57,16 @@ pub(crate) fn collected<A: Allocator + Clone>(
 ) -> Result<(u64, u64), CollectError> {
     let report = collect_one(alloc, heap, 0)?;
     Ok((report.kept, report.freed))
+}
+
+/// Collects, and asserts how many objects were kept and freed.
+pub(crate) fn assert_collected<A: Allocator + Clone>(
+    rt: &impl Abort,
+    alloc: A,
+    heap: &mut Heap<A>,
+    counts: (u64, u64),
+) {
+    assert_eq!(rt; collected(alloc, heap), Ok(counts));
 }
 
 /// The two ends of a collection for which blocks may run out: so many objects are kept and freed, or this error.

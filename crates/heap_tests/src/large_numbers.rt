@@ -1,5 +1,5 @@
 //! Which numbers and blocks large objects get.
-use crate::heaps::{census_of, collected, free_count, heap_of};
+use crate::heaps::{assert_collected, census_of, free_count, heap_of};
 use heap::{AllocateError, Heap, RootId};
 use layout::Place;
 use std::alloc::Global;
@@ -20,22 +20,18 @@ fn new_place(heap: &mut Heap<Global>) -> Result<Option<Place>, AllocateError> {
     Ok(heap.target(root))
 }
 
-/// Four large objects of which the second and the third are gone.
-fn two_of_four(alloc: Global) -> Result<Heap<Global>, Fail> {
-    let mut heap = heap_of(alloc, 16, 1, 20)?;
-    add_large(&mut heap, 4)?;
+/// Makes four large objects, of which the second and the third are gone after a collection.
+fn leave_two_of_four(rt: &impl Abort, alloc: Global, heap: &mut Heap<Global>) -> Result<(), Fail> {
+    add_large(heap, 4)?;
     heap.release(RootId { number: 1 })?;
     heap.release(RootId { number: 2 })?;
-    let counts = collected(alloc, &mut heap)?;
-    if counts == (2, 2) {
-        Ok(heap)
-    } else {
-        Err(Fail::from("other objects are kept"))
-    }
+    assert_collected(rt, alloc, heap, (2, 2));
+    Ok(())
 }
 
 /// Asserts that dead numbers were given up by rising number: the highest is the first to be used again.
-fn assert_numbers(rt: &impl Abort, heap: &mut Heap<Global>) -> Result<(), AllocateError> {
+fn assert_numbers(rt: &impl Abort, alloc: Global, heap: &mut Heap<Global>) -> Result<(), Fail> {
+    leave_two_of_four(rt, alloc, heap)?;
     assert_eq!(rt; new_place(heap)?, Some(Place::large(2)));
     assert_eq!(rt; new_place(heap)?, Some(Place::large(1)));
     assert_eq!(rt; new_place(heap)?, Some(Place::large(4)));
@@ -44,19 +40,23 @@ fn assert_numbers(rt: &impl Abort, heap: &mut Heap<Global>) -> Result<(), Alloca
 
 #[test]
 fn the_highest_dead_number_is_the_first_again(rt: HostRuntime) -> Result<(), Fail> {
-    let mut heap = two_of_four(rt.alloc())?;
-    assert_numbers(&rt, &mut heap)?;
-    Ok(())
+    let mut heap = heap_of(rt.alloc(), 16, 1, 20)?;
+    assert_numbers(&rt, rt.alloc(), &mut heap)
 }
 
 const AFTER: &[u8] =
     b"gen 0 step 0: 0 objects 0 words\nlarge: 2 objects 20 words\nroots: 2\nremembered: 0\n";
 
+/// Asserts that the blocks of two dead ones are free.
+fn assert_blocks(rt: &impl Abort, alloc: Global, heap: &mut Heap<Global>) -> Result<(), Fail> {
+    leave_two_of_four(rt, alloc, heap)?;
+    assert_eq!(rt; census_of(alloc, heap)?.as_slice(), AFTER);
+    assert_eq!(rt; free_count(alloc, heap)?, 17);
+    Ok(())
+}
+
 #[test]
 fn the_blocks_of_dead_large_objects_are_free(rt: HostRuntime) -> Result<(), Fail> {
-    let heap = two_of_four(rt.alloc())?;
-    let census = census_of(rt.alloc(), &heap)?;
-    assert!(rt; census.as_slice() == AFTER);
-    assert_eq!(rt; free_count(rt.alloc(), &heap)?, 17);
-    Ok(())
+    let mut heap = heap_of(rt.alloc(), 16, 1, 20)?;
+    assert_blocks(&rt, rt.alloc(), &mut heap)
 }

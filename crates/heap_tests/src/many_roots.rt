@@ -1,5 +1,5 @@
 //! A heap in which many roots were made, and most of them given up.
-use crate::heaps::{assert_marks, collected, heap_of, marked_roots, release_others};
+use crate::heaps::{assert_collected, assert_marks, heap_of, marked_roots, release_others};
 use heap::{Heap, RootId, Slot};
 use std::alloc::{AllocError, Global};
 use std::process::Abort;
@@ -47,23 +47,28 @@ fn assert_start(
     Ok(())
 }
 
-/// Collects, and asserts which roots there are before and after.
-fn collect_between(
+/// Gives most roots up, collects, and asserts which there are before and after.
+fn assert_roots(
     rt: &impl Abort,
     alloc: Global,
     heap: &mut Heap<Global>,
     roots: &[RootId],
 ) -> Result<(), Fail> {
+    release_others(heap, roots, APART)?;
     assert_start(rt, alloc, heap, roots)?;
-    assert_eq!(rt; collected(alloc, heap), Ok((31, 2969)));
+    assert_collected(rt, alloc, heap, (31, 2969));
     assert_marks(rt, heap, roots, APART);
     assert_start(rt, alloc, heap, roots)
+}
+
+/// The same of new roots.
+fn assert_new_roots(rt: &impl Abort, alloc: Global, heap: &mut Heap<Global>) -> Result<(), Fail> {
+    let roots = marked_roots(alloc, heap, MADE, 1)?;
+    assert_roots(rt, alloc, heap, &roots)
 }
 
 #[test]
 fn roots_that_stay_lead_where_they_led(rt: HostRuntime) -> Result<(), Fail> {
     let mut heap = heap_of(rt.alloc(), 512, 16, 40)?;
-    let roots = marked_roots(rt.alloc(), &mut heap, MADE, 1)?;
-    release_others(&mut heap, &roots, APART)?;
-    collect_between(&rt, rt.alloc(), &mut heap, &roots)
+    assert_new_roots(&rt, rt.alloc(), &mut heap)
 }

@@ -1,8 +1,8 @@
 //! The fields of objects, and the order in which a collection copies what they lead to.
-use crate::heaps::{collected, heap_of};
-use collector::collect_one;
+use crate::heaps::{assert_collected, heap_of};
 use heap::{FieldError, Heap, LoadError, Report, RootId, StoreError, WorkerReport};
 use layout::Place;
+use one_worker::collect_one;
 use std::alloc::Global;
 use std::process::Abort;
 use std::test::Fail;
@@ -90,8 +90,8 @@ fn assert_tree_is_copied(
     rt: &impl Abort,
     alloc: Global,
     heap: &mut Heap<Global>,
-    top: RootId,
 ) -> Result<(), Fail> {
+    let top = add_tree(heap)?;
     let report = collect_one(alloc, heap, 0)?;
     assert_breadth_first(rt, heap, &report)?;
     assert_eq!(rt; heap.get(top, 0), Ok(0));
@@ -101,8 +101,7 @@ fn assert_tree_is_copied(
 #[test]
 fn breadth_first(rt: HostRuntime) -> Result<(), Fail> {
     let mut heap = small_heap(rt.alloc())?;
-    let top = add_tree(&mut heap)?;
-    assert_tree_is_copied(&rt, rt.alloc(), &mut heap, top)
+    assert_tree_is_copied(&rt, rt.alloc(), &mut heap)
 }
 
 /// Adds the next object of a chain, which leads to it alone.
@@ -137,21 +136,20 @@ fn assert_chain_is_kept(
     rt: &impl Abort,
     alloc: Global,
     heap: &mut Heap<Global>,
-    first: RootId,
 ) -> Result<(), Fail> {
+    let first = add_chain(heap)?;
     for _turn in 0..3 {
-        assert_eq!(rt; collected(alloc, heap), Ok((32, 0)));
+        assert_collected(rt, alloc, heap, (32, 0));
     }
     heap.store(first, 1, None)?;
-    assert_eq!(rt; collected(alloc, heap), Ok((1, 31)));
+    assert_collected(rt, alloc, heap, (1, 31));
     Ok(())
 }
 
 #[test]
 fn a_chain_over_many_blocks(rt: HostRuntime) -> Result<(), Fail> {
     let mut heap = small_heap(rt.alloc())?;
-    let first = add_chain(&mut heap)?;
-    assert_chain_is_kept(&rt, rt.alloc(), &mut heap, first)
+    assert_chain_is_kept(&rt, rt.alloc(), &mut heap)
 }
 
 /// Asserts the faults of pointers, by a root and by one that was released.
@@ -180,13 +178,18 @@ fn root_and_gone(heap: &mut Heap<Global>) -> Result<(RootId, RootId), Fail> {
     Ok((root, gone))
 }
 
+/// Asserts the faults of both.
+fn assert_no_fields(rt: &impl Abort, heap: &mut Heap<Global>) -> Result<(), Fail> {
+    let (root, gone) = root_and_gone(heap)?;
+    assert_no_pointers(rt, heap, root, gone);
+    assert_no_words(rt, heap, root, gone);
+    Ok(())
+}
+
 #[test]
 fn refused_fields(rt: HostRuntime) -> Result<(), Fail> {
     let mut heap = small_heap(rt.alloc())?;
-    let (root, gone) = root_and_gone(&mut heap)?;
-    assert_no_pointers(&rt, &mut heap, root, gone);
-    assert_no_words(&rt, &mut heap, root, gone);
-    Ok(())
+    assert_no_fields(&rt, &mut heap)
 }
 
 /// Two new objects, marked 8 and 9. Pointer 1 of the first leads to the second, whose root is released.
@@ -204,14 +207,19 @@ fn loaded(rt: &impl Abort, heap: &mut Heap<Global>, holder: RootId) -> Result<Ro
     Ok(heap.load(holder, 1)?.ok_or("nil")?)
 }
 
+/// Asserts that what was loaded leads to the object of mark 9, after a collection too.
+fn assert_nine(rt: &impl Abort, alloc: Global, heap: &mut Heap<Global>) -> Result<(), Fail> {
+    let holder = holder_of_nine(heap)?;
+    let root = loaded(rt, heap, holder)?;
+    assert_eq!(rt; heap.get(root, 0), Ok(9));
+    heap.release(holder)?;
+    assert_collected(rt, alloc, heap, (1, 1));
+    assert_eq!(rt; heap.get(root, 0), Ok(9));
+    Ok(())
+}
+
 #[test]
 fn a_pointer_is_loaded(rt: HostRuntime) -> Result<(), Fail> {
     let mut heap = small_heap(rt.alloc())?;
-    let holder = holder_of_nine(&mut heap)?;
-    let root = loaded(&rt, &mut heap, holder)?;
-    assert_eq!(rt; heap.get(root, 0), Ok(9));
-    heap.release(holder)?;
-    assert_eq!(rt; collected(rt.alloc(), &mut heap), Ok((1, 1)));
-    assert_eq!(rt; heap.get(root, 0), Ok(9));
-    Ok(())
+    assert_nine(&rt, rt.alloc(), &mut heap)
 }

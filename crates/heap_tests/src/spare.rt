@@ -1,7 +1,7 @@
 //! The memory that a heap keeps from one collection for the next.
 use crate::heaps::{allocated, collected, heap_of};
-use collector::collect_one;
 use heap::{Config, Heap, RootId, Sizes};
+use one_worker::collect_one;
 use refusing::Refusing;
 use std::alloc::Global;
 use std::process::Abort;
@@ -143,26 +143,35 @@ fn kept_after<'a>(
 }
 
 /// Asserts what a heap of 2,000,000 objects keeps, and what it keeps when it shrank to 1,000.
-fn assert_shrinks(rt: &impl Abort, refusing: &Refusing<Global>) -> Result<(), Fail> {
-    let mut heap = large_heap(refusing)?;
-    let (first, _tail) = long_list(refusing, &mut heap)?;
-    let _moved = kept_after(refusing, &mut heap)?;
+fn assert_shrinks<'a>(
+    rt: &impl Abort,
+    refusing: &'a Refusing<Global>,
+    heap: &mut Counting<'a>,
+) -> Result<(), Fail> {
+    let (first, _tail) = long_list(refusing, heap)?;
+    let _moved = kept_after(refusing, heap)?;
     // 128 objects fill a block: the copies take 15,625, and as many were given up. Two requests make each.
-    let (spare, held) = kept_after(refusing, &mut heap)?;
+    let (spare, held) = kept_after(refusing, heap)?;
     assert!(rt; spare >= 15_625 && spare <= 15_625 + 64);
     assert!(rt; held >= 62_500);
     // The nursery's 64 are in use then, and eight of copies.
     heap.release(first)?;
-    let (spare, held) = kept_after(refusing, &mut heap)?;
+    let (spare, held) = kept_after(refusing, heap)?;
     assert_eq!(rt; spare, 72);
     assert!(rt; held < 1_000);
     Ok(())
 }
 
+/// The same of a new heap.
+fn assert_new_shrinks(rt: &impl Abort, refusing: &Refusing<Global>) -> Result<(), Fail> {
+    let mut heap = large_heap(refusing)?;
+    assert_shrinks(rt, refusing, &mut heap)
+}
+
 #[test]
 fn a_heap_that_shrank_gives_memory_back(rt: HostRuntime) -> Result<(), Fail> {
     let refusing = Refusing::new(rt.alloc(), NONE);
-    assert_shrinks(&rt, &refusing)?;
+    assert_new_shrinks(&rt, &refusing)?;
     assert_eq!(rt; refusing.asked(), refusing.returned());
     Ok(())
 }

@@ -1,9 +1,9 @@
 //! Sizes that nobody gives, and the texts of errors.
-use collector::CollectError;
 use heap::{
     AllocateError, BadConfig, Config, FieldError, LoadError, MakeError, NoRoot, OpenError, Sizes,
     StoreError,
 };
+use one_worker::CollectError;
 use std::alloc::Global;
 use std::fmt::{Display, Write};
 use std::process::Abort;

@@ -9,3 +9,7 @@ pub mod Raced
 pub mod Readiness
 mod Order
 pub mod Going
+-- What the worker brings to the commit.
+mod SettleBrings
+mod SettleWhole
+mod Concluding

@@ -4,3 +4,6 @@ pub mod SerialValue
 pub mod IsSerial
 -- One event after another.
 pub mod Stepping
+-- What it brings to its commit, and why it was not carried out.
+pub mod Settling
+pub mod Errors

@@ -1,6 +1,7 @@
-//! A collection by one worker: event by event, and all events in their order to the end.
+//! A collection by one worker: event by event, all events in their order to the end, and from the opening to the commit.
 #![tactic(auto)]
 
+mod collecting;
 mod drawing;
 mod new;
 mod parts;
@@ -8,10 +9,9 @@ mod queueing;
 mod racing;
 mod readers;
 mod serial;
+mod serial_settling;
 mod serial_steps;
 mod sweep;
 mod taking;
 
-pub use parts::SerialParts;
-pub use serial::SerialCollection;
-pub use serial_steps::run_to_end;
+pub use collecting::{CollectError, collect_one};

@@ -64,7 +64,23 @@ fn take_blocks(heap: &mut Heap, count: u32) -> Result<(), Fail> {
     Ok(())
 }
 
-/// The graph of that seed, with cycles and shared objects in it, large ones and old ones.
+/// Fills a graph with cycles and shared objects, large ones and old ones, and takes blocks. Tells which generation is drawn to be
+/// collected.
+fn fill(
+    alloc: Global,
+    graph: &mut Graph,
+    draws: &mut Draws,
+    drawing: Drawing,
+    generations: u32,
+) -> Result<u64, Fail> {
+    let generation = draws.below(generations) as u64;
+    age(alloc, graph, draws, generations)?;
+    grow(alloc, graph, draws, growth_of(drawing.count))?;
+    take_blocks(&mut graph.heap, drawing.taken)?;
+    Ok(generation)
+}
+
+/// The graph of that seed.
 pub(crate) fn drawn_graph(alloc: Global, drawing: Drawing) -> Result<Drawn, Fail> {
     let mut draws = Draws::new(drawing.seed);
     let generations = draws.below(3).saturating_add(1);
@@ -73,22 +89,24 @@ pub(crate) fn drawn_graph(alloc: Global, drawing: Drawing) -> Result<Drawn, Fail
         heap: heap_of(alloc, drawn_sizes(generations, steps, drawing.blocks))?,
         roots: Vec::new(alloc),
     };
-    let generation = draws.below(generations) as u64;
-    age(alloc, &mut graph, &mut draws, generations)?;
-    grow(alloc, &mut graph, &mut draws, growth_of(drawing.count))?;
-    take_blocks(&mut graph.heap, drawing.taken)?;
+    let generation = fill(alloc, &mut graph, &mut draws, drawing, generations)?;
     Ok(Drawn { graph, generation })
 }
 
-/// How many blocks are free beside such a graph.
-pub(crate) fn free_beside(alloc: Global, drawing: Drawing) -> Result<u32, Fail> {
-    let mut drawn = drawn_graph(alloc, drawing)?;
+/// How many blocks large objects can still take.
+fn count_free(heap: &mut Heap) -> Result<u32, Fail> {
     for count in 0..100_000 {
-        match drawn.graph.heap.allocate(0, 0, 60) {
+        match heap.allocate(0, 0, 60) {
             Ok(_) => {}
             Err(AllocateError::HeapFull) => return Ok(count),
             Err(error) => return Err(Fail::from(error)),
         }
     }
     Err(Fail::from("no end of blocks"))
+}
+
+/// How many blocks are free beside such a graph.
+pub(crate) fn free_beside(alloc: Global, drawing: Drawing) -> Result<u32, Fail> {
+    let mut drawn = drawn_graph(alloc, drawing)?;
+    count_free(&mut drawn.graph.heap)
 }

@@ -149,24 +149,39 @@ struct Left {
     text: Vec<u8>,
 }
 
-/// What one worker leaves of such a graph.
-fn left_by_one(alloc: Global, drawing: Drawing) -> Result<Left, Fail> {
-    let mut drawn = drawn_graph(alloc, drawing)?;
+/// Collects with one worker, and tells what that leaves.
+fn leave_by_one(alloc: Global, drawn: &mut Drawn) -> Result<Left, Fail> {
     let report = collect_one(alloc, &mut drawn.graph.heap, drawn.generation)?;
     Ok(Left {
         counts: Some((report.kept, report.freed)),
-        text: text_of(alloc, &drawn)?,
+        text: text_of(alloc, drawn)?,
+    })
+}
+
+/// What one worker leaves of such a graph.
+fn left_by_one(alloc: Global, drawing: Drawing) -> Result<Left, Fail> {
+    let mut drawn = drawn_graph(alloc, drawing)?;
+    leave_by_one(alloc, &mut drawn)
+}
+
+/// Collects with so many workers, and tells what that leaves.
+fn leave_by_many(
+    alloc: Global,
+    drawn: &mut Drawn,
+    n: u32,
+    schedule: Schedule,
+) -> Result<Left, Fail> {
+    let counts = collected(alloc, drawn, n, schedule)?;
+    Ok(Left {
+        counts,
+        text: text_of(alloc, drawn)?,
     })
 }
 
 /// What so many workers leave of it.
 fn left_by_many(alloc: Global, drawing: Drawing, n: u32, schedule: Schedule) -> Result<Left, Fail> {
     let mut drawn = drawn_graph(alloc, drawing)?;
-    let counts = collected(alloc, &mut drawn, n, schedule)?;
-    Ok(Left {
-        counts,
-        text: text_of(alloc, &drawn)?,
-    })
+    leave_by_many(alloc, &mut drawn, n, schedule)
 }
 
 /// Whether so many workers in turn leave what one leaves.
@@ -208,6 +223,23 @@ struct Ends {
     refused: u32,
 }
 
+/// Whether that is what one worker leaves, who has a hundred blocks more.
+fn is_left_by_one(alloc: Global, few: Drawing, many: &Left) -> Result<bool, Fail> {
+    let more = Drawing {
+        blocks: AMPLE.saturating_add(100),
+        ..few
+    };
+    let one = left_by_one(alloc, more)?;
+    Ok(one == *many)
+}
+
+/// Whether that is the graph as it was drawn.
+fn is_drawn(alloc: Global, few: Drawing, many: &Left) -> Result<bool, Fail> {
+    let drawn = drawn_graph(alloc, few)?;
+    let text = text_of(alloc, &drawn)?;
+    Ok(text == many.text)
+}
+
 /// Whether a drawn schedule of 1 to 16 workers leaves what one leaves, or finds too few blocks and leaves the heap as it is.
 fn agrees_as_drawn(alloc: Global, seed: u64, ends: &mut Ends) -> Result<bool, Fail> {
     let mut draws = Draws::new(seed);
@@ -224,15 +256,10 @@ fn agrees_as_drawn(alloc: Global, seed: u64, ends: &mut Ends) -> Result<bool, Fa
     let many = left_by_many(alloc, few, n, Schedule::Drawn { seed, steps })?;
     if many.counts.is_some() {
         ends.ended = ends.ended.saturating_add(1);
-        let more = Drawing {
-            blocks: AMPLE.saturating_add(100),
-            ..few
-        };
-        return Ok(many == left_by_one(alloc, more)?);
+        return is_left_by_one(alloc, few, &many);
     }
     ends.refused = ends.refused.saturating_add(1);
-    let drawn = drawn_graph(alloc, few)?;
-    Ok(many.text == text_of(alloc, &drawn)?)
+    is_drawn(alloc, few, &many)
 }
 
 #[test]

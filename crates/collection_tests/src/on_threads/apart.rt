@@ -1,5 +1,5 @@
 //! Collections by threads leave what a collection by one worker leaves, and are refused as it is.
-use crate::heaps::{seen, wide_heap};
+use crate::heaps::{add_tree, seen, wide_heap};
 use crate::refused::shared_tree::shared_tree;
 use crate::ways::{Ended, Way, end_of};
 use collector::{CellKind, ThreadsError, collect};
@@ -11,14 +11,25 @@ use std::sync::Wait;
 use std::test::Fail;
 use std::thread::Threads;
 
-/// What comes of a collection of a wide heap.
+/// What comes of a collection of a new tree.
+fn end_of_tree<R: Threads + Wait + Sync + AllocGlobal>(
+    rt: &R,
+    heap: &mut Heap,
+    objects: u32,
+    way: Way,
+) -> Result<Ended, Fail> {
+    let top = add_tree(rt.alloc(), heap, objects)?;
+    end_of(rt, heap, top, 0, way)
+}
+
+/// The same in a heap of its own.
 fn end_of_wide<R: Threads + Wait + Sync + AllocGlobal>(
     rt: &R,
     objects: u32,
     way: Way,
 ) -> Result<Ended, Fail> {
-    let (mut heap, top) = wide_heap(rt.alloc(), objects, 200)?;
-    end_of(rt, &mut heap, top, 0, way)
+    let mut heap = wide_heap(rt.alloc(), objects, 200)?;
+    end_of_tree(rt, &mut heap, objects, way)
 }
 
 /// Asserts that so many threads leave what one worker leaves, with both kinds of cells.

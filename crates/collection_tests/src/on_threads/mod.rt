@@ -2,6 +2,8 @@
 #[cfg(test)]
 mod apart;
 #[cfg(test)]
+mod at_size;
+#[cfg(test)]
 mod drawn;
 #[cfg(test)]
 mod in_a_row;

@@ -50,13 +50,28 @@ fn add_old<A: Allocator + Clone>(alloc: A, heap: &mut Heap<A>) -> Result<Vec<Roo
     Ok(old)
 }
 
-/// Such a heap, with as many old objects as a command is carried out.
-fn aged_heap<A: Allocator + Clone>(alloc: A) -> Result<Aged<A>, Fail> {
-    let mut heap = heap_of(alloc.clone()?, SIZES)?;
-    let old = add_old(alloc.clone()?, &mut heap)?;
-    let _report = collect_one(alloc, &mut heap, 0)?;
+/// A collection makes what is there old; then comes a young object that leads to itself.
+fn add_young<A: Allocator + Clone>(alloc: A, heap: &mut Heap<A>) -> Result<RootId, Fail> {
+    let _report = collect_one(alloc, heap, 0)?;
     let young = heap.allocate(0, 1, 1)?;
     heap.store(young, 0, Some(young))?;
+    Ok(young)
+}
+
+/// As many old objects as a command is carried out, and a young one.
+fn add_aged<A: Allocator + Clone>(
+    alloc: A,
+    heap: &mut Heap<A>,
+) -> Result<(Vec<RootId, A>, RootId), Fail> {
+    let old = add_old(alloc.clone()?, heap)?;
+    let young = add_young(alloc, heap)?;
+    Ok((old, young))
+}
+
+/// A heap with these.
+fn aged_heap<A: Allocator + Clone>(alloc: A) -> Result<Aged<A>, Fail> {
+    let mut heap = heap_of(alloc.clone()?, SIZES)?;
+    let (old, young) = add_aged(alloc, &mut heap)?;
     Ok(Aged { heap, old, young })
 }
 
@@ -121,12 +136,22 @@ fn carried_out<A: Allocator + Clone>(
     Ok(count)
 }
 
-/// What a heap is in which a command was carried out so many times.
-fn seen_after(alloc: Global, command: Command, times: usize) -> Result<Vec<u8>, Fail> {
-    let mut aged = aged_heap(alloc)?;
+/// Carries a command out so many times, and tells what the heap is then.
+fn see_after(
+    alloc: Global,
+    aged: &mut Aged<Global>,
+    command: Command,
+    times: usize,
+) -> Result<Vec<u8>, Fail> {
     let (old, _rest) = aged.old.split_at(times.min(aged.old.len()));
     let _times = carried_out(&mut aged.heap, old, aged.young, command)?;
     seen(alloc, alloc, &aged.heap, &aged.old)
+}
+
+/// What a heap of its own is then.
+fn seen_after(alloc: Global, command: Command, times: usize) -> Result<Vec<u8>, Fail> {
+    let mut aged = aged_heap(alloc)?;
+    see_after(alloc, &mut aged, command, times)
 }
 
 /// Asserts that a heap in which a request was refused is as one in which a command was carried out so many times.

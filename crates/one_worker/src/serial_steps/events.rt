@@ -3,7 +3,7 @@ ghost use Rattle.std.specs.Prelude.{◌≡◌, true, false, Ok, Err, OnErr};
 ghost use Rattle.one_worker.specs.SerialValue.{Stays};
 ghost use Rattle.one_worker.specs.Stepping.{IsOf, GoesOn, HasNothingInHand, IsDone, IsFullForLook};
 
-use crate::SerialCollection;
+use crate::serial::SerialCollection;
 use heap::{Collection, Heap};
 use scavenge::LookError;
 use std::alloc::Allocator;

@@ -4,7 +4,7 @@ ghost use Rattle.one_worker.specs.SerialValue.{Stays};
 ghost use Rattle.scavenge.specs.ReadyToCollect.{IsReadyToCollect};
 ghost use Rattle.one_worker.specs.Stepping.{IsOf, IsDone, IsFullForLook, IsLeftToStep, ScansNext, ScavengesAndSteps, HasStepped, left_to_do};
 
-use crate::SerialCollection;
+use crate::serial::SerialCollection;
 use crate::serial_steps::events::step;
 use crate::serial_steps::sweeping::swept;
 use heap::{Collection, Heap};

@@ -3,7 +3,7 @@ ghost use Rattle.std.specs.Prelude.{◌≡◌, ◌<◌, ◌≤◌, true, false};
 ghost use Rattle.scavenge.specs.ReadyToCollect.{IsReadyToCollect};
 ghost use Rattle.one_worker.specs.Stepping.{IsOf, HasStepped, left_to_do};
 
-use crate::SerialCollection;
+use crate::serial::SerialCollection;
 use crate::sweep::SerialSweep;
 use heap::{Collection, Heap};
 use scavenge::Evacuated;

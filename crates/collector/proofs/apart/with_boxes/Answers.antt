@@ -5,7 +5,6 @@ use Rattle.forwarding.specs.declared.cells.forwards.SettleError.TheVariants.{NoM
 use Rattle.std.specs.Prelude.{IfOk, IfSome}
 use Rattle.forwarding.specs.Boxed.{names_of}
 use Rattle.forwarding.specs.Noted.{IsPassOf}
-use Rattle.forwarding.specs.Passes.{IsBoxPass}
 use Rattle.forwarding.proofs.Fresh.{numbered, unused}
 use Rattle.steps.specs.declared.heap_values.collection.Settled.{Settled}
 use Rattle.workers_in_threads.specs.Reports.{ReportsApart, IsShortOfBlocksFor, IsStuckApart}

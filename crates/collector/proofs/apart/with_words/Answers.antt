@@ -1,4 +1,4 @@
-use Rattle.std.proofs.Common.{◌≡◌, length, ap, subst, ◌∙◌, arith}
+use Rattle.std.proofs.Common.{◌≡◌, ap, subst, ◌∙◌, arith}
 use Rattle.std.specs.Prelude.{IfOk, IfSome}
 use Rattle.forwarding.specs.Words.{WordPassValue, fresh_pass}
 use Rattle.steps.specs.declared.heap_values.collection.Settled.{Settled}

@@ -2,8 +2,8 @@ use Rattle.std.proofs.Common.{refl, sym, ap, subst, ◌∙◌, arith}
 use Rattle.model.specs.Config.{Config}
 use Rattle.steps.specs.CollectionValue.{CollectionValue}
 use Rattle.settling.specs.Collects.{ScansAlone, ScansOnce}
-use Rattle.collector.proofs.Concluding.{collects}
-use Rattle.collector.proofs.collect_one.Goals as goal
+use Rattle.one_worker.proofs.Concluding.{collects}
+use Rattle.one_worker.proofs.collecting.collect_one.Goals as goal
 
 pub returns-clause-ok : goal.returns-clause-ok
 returns-clause-ok g c =

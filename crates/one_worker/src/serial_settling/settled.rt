@@ -9,12 +9,13 @@ ghost use Rattle.workers.specs.Finish.{IsReached};
 ghost use Rattle.workers.specs.WorkerSteps.{IsOutOfWork};
 ghost use Rattle.one_worker.specs.SerialValue.{lane_of, system_of, setting_in, targets_in, destinations_in};
 ghost use Rattle.scavenge.specs.Waiting.{waiting_in};
-ghost use Rattle.collector.specs.Settling.{IsReportOf, ScansWhatItWon, exports_of};
+ghost use Rattle.one_worker.specs.Settling.{IsReportOf, ScansWhatItWon, exports_of};
 ghost use Rattle.settling.specs.OwnDeliveries.{deliveries_of_sizes, own_deliveries};
 
+use crate::parts::SerialParts;
+use crate::serial::SerialCollection;
 use heap::{Collection, Delivery, Settled, Won, WorkerReport};
 use layout::Place;
-use one_worker::{SerialCollection, SerialParts};
 use pending_queues::{Delivery as Outcome, PlainPending, PlainSeat};
 use scavenge::{Copies, Parts};
 use settling::{in_one_list, show_large};

@@ -32,7 +32,7 @@ use Rattle.one_worker.specs.SerialValue.{SerialValue, lane_of, system_of, settin
 use Rattle.scavenge.specs.Waiting.{waiting_in}
 use Rattle.one_worker.specs.IsSerial.{IsSerial}
 use Rattle.scavenge.proofs.Starts.{has_starts, targets_live}
-use Rattle.collector.specs.Settling.{ScansWhatItWon}
+use Rattle.one_worker.specs.Settling.{ScansWhatItWon}
 use Rattle.settling.specs.Shown.{shown_after}
 use Rattle.settling.proofs.ShownLarge.{places_show}
 use Rattle.settling.proofs.Blocks.{stands_has, times-places}

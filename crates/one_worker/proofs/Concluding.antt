@@ -32,7 +32,7 @@ use Rattle.scavenge.specs.Named.{named}
 use Rattle.one_worker.specs.SerialValue.{SerialValue, system_of, setting_in, targets_in, destinations_in, lane_of}
 use Rattle.scavenge.specs.Waiting.{waiting_in}
 use Rattle.scavenge.specs.ReadyToCollect.{IsReadyToCollect}
-use Rattle.collector.specs.Settling.{IsReportOf, ScansWhatItWon, exports_of}
+use Rattle.one_worker.specs.Settling.{IsReportOf, ScansWhatItWon, exports_of}
 use Rattle.settling.specs.OwnDeliveries.{own_deliveries}
 use Rattle.scavenge.proofs.OpenBlocks.{none_open}
 use Rattle.scavenge.proofs.Starts.{targets_live}

@@ -2,7 +2,7 @@ use Rattle.std.proofs.Common.{◌≡◌, ◌≤◌, length, map, take}
 use Rattle.std.specs.Vec.{vec_capacity}
 use Rattle.std.specs.List.{enumerate_from}
 use Rattle.settling.specs.OwnDeliveries.{own_delivery}
-use Rattle.collector.proofs.serial_settling.settled.delivered.Given as goal
+use Rattle.one_worker.proofs.serial_settling.settled.delivered.Given as goal
 
 abbrev pub invariant-loop-export : goal.invariant-loop-export
 invariant-loop-export g l = record {

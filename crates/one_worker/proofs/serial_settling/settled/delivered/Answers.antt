@@ -3,7 +3,7 @@ use Rattle.std.proofs.lemmas.List.{length-map, get_or-map}
 use Rattle.pending_queues.specs.declared.exports.deliveries.Delivery.{Delivery}
 use Rattle.settling.specs.OwnDeliveries.{own_delivery}
 use Rattle.settling.proofs.SettleLists.{delivered_more, delivered_all, saturated}
-use Rattle.collector.proofs.serial_settling.settled.delivered.Goals as goal
+use Rattle.one_worker.proofs.serial_settling.settled.delivered.Goals as goal
 
 pub loop-export-preserved : goal.loop-export-preserved
 loop-export-preserved g c =

@@ -15,8 +15,8 @@ use Rattle.scavenge.specs.Shown.{WorkspaceValue}
 use Rattle.settling.specs.OwnDeliveries.{deliveries_of_sizes}
 use Rattle.settling.specs.Shown.{shown_after}
 use Rattle.settling.proofs.ShownLarge.{shown_in}
-use Rattle.collector.proofs.SettleWhole.{numbers_at_end, settled_at_end, held_count, reports_at_end, scans_at_end, sizes_at_end, all_won-alone}
-use Rattle.collector.proofs.serial_settling.settled.settle.Goals as goal
+use Rattle.one_worker.proofs.SettleWhole.{numbers_at_end, settled_at_end, held_count, reports_at_end, scans_at_end, sizes_at_end, all_won-alone}
+use Rattle.one_worker.proofs.serial_settling.settled.settle.Goals as goal
 
 pub settle_alone-places-requires-clause-fits : goal.settle_alone-places-requires-clause-fits
 settle_alone-places-requires-clause-fits g c =

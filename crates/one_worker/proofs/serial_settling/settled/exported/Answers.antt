@@ -3,7 +3,7 @@ use Rattle.std.specs.Result.{IfOk}
 use Rattle.pending_queues.specs.declared.exports.deliveries.Delivery.{Delivery as Outcome}
 use Rattle.settling.specs.OwnDeliveries.{deliveries_of_sizes}
 use Rattle.settling.proofs.SettleLists.{told_sizes}
-use Rattle.collector.proofs.serial_settling.settled.exported.Goals as goal
+use Rattle.one_worker.proofs.serial_settling.settled.exported.Goals as goal
 
 pub returns : goal.returns
 returns g c =

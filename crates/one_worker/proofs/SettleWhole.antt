@@ -20,10 +20,10 @@ use Rattle.scavenge.specs.Fronts.{slot_at}
 use Rattle.one_worker.specs.SerialValue.{SerialValue, lane_of, system_of, setting_in, targets_in, destinations_in}
 use Rattle.scavenge.specs.Waiting.{waiting_in}
 use Rattle.one_worker.specs.IsSerial.{IsSerial}
-use Rattle.collector.specs.Settling.{IsReportOf, ScansWhatItWon, exports_of}
+use Rattle.one_worker.specs.Settling.{IsReportOf, ScansWhatItWon, exports_of}
 use Rattle.settling.specs.Shown.{shown_after}
 use Rattle.settling.proofs.ShownLarge.{shown_in}
-use Rattle.collector.proofs.SettleBrings.{settles, cells_show, scans_won}
+use Rattle.one_worker.proofs.SettleBrings.{settles, cells_show, scans_won}
 use Rattle.settling.proofs.Blocks.{somes-map, somes_each, held_place, named_length}
 
 -- the worker has nothing left, and this is its collection

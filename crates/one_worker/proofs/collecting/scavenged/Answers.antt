@@ -6,8 +6,8 @@ use Rattle.scavenge.specs.declared.looking.LookError.TheVariants.{HeapFull}
 use Rattle.settling.specs.Collects.{ScansAlone, ScansOnce}
 use Rattle.one_worker.specs.Stepping.{IsDone}
 use Rattle.one_worker.proofs.Going.{reached_of}
-use Rattle.collector.proofs.Concluding.{begins, ready_in, short_of, stuck_of, scans, scans_once}
-use Rattle.collector.proofs.scavenged.Goals as goal
+use Rattle.one_worker.proofs.Concluding.{begins, ready_in, short_of, stuck_of, scans, scans_once}
+use Rattle.one_worker.proofs.collecting.scavenged.Goals as goal
 
 pub run_to_end-serial-requires-clause-stepped : goal.run_to_end-serial-requires-clause-stepped
 run_to_end-serial-requires-clause-stepped g c = begins c.in_ok-serial.serial c.in_ok-serial.ensures.first
