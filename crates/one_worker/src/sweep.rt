@@ -52,8 +52,10 @@ impl<A: Allocator> SerialCollection<A> {
     }
 
     /// Opens the collection for a sweep over the block in hand. `Err` gives it back where `Workspace::opened` does.
+    #[inline(always)]
     pub fn opened(self) -> Result<SerialSweep<A>, SerialCollection<A>>
         ensures ok { IfOk result (λ sweep. sweep ≡ self) }
+        ensures proposal { IfOk result (λ sweep. sweep.workspace.worker.proposal ≡ None) }
         ensures err { IfErr result (λ serial. serial ≡ self) }
     {
         let SerialCollection {
@@ -96,6 +98,7 @@ impl<A: Allocator> SerialCollection<A> {
 
 impl<A: Allocator> SerialSweep<A> {
     /// The collection after the sweep.
+    #[inline(always)]
     pub fn closed(self) -> SerialCollection<A>
         ensures { result ≡ self }
     {

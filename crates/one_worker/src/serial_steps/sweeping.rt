@@ -1,5 +1,5 @@
 //! The events of a worker that holds a block in hand, in a loop that owns what it goes over.
-ghost use Rattle.std.specs.Prelude.{◌≡◌, ◌<◌, ◌≤◌, true, false};
+ghost use Rattle.std.specs.Prelude.{◌≡◌, ◌<◌, ◌≤◌, None, true, false};
 ghost use Rattle.scavenge.specs.ReadyToCollect.{IsReadyToCollect};
 ghost use Rattle.one_worker.specs.Stepping.{IsOf, HasStepped, left_to_do};
 
@@ -12,6 +12,29 @@ use std::alloc::Allocator;
 /// The next events, where they want neither a block nor the queue: a look with the race for what it proposes, or a scan.
 /// Tells whether there were some: else nothing came.
 #[inline(always)]
+fn sweep_once<A: Allocator + Clone>(
+    heap: &Heap<A>,
+    collection: &Collection<A>,
+    sweep: &mut SerialSweep<A>,
+) -> bool
+    requires ready { IsReadyToCollect heap.now collection.now }
+    requires same { IsOf heap.now collection.now sweep.old }
+    requires stepped { HasStepped sweep.old }
+    requires proposal { sweep.old.workspace.worker.proposal ≡ None }
+    ensures same { IsOf heap.now collection.now sweep.new }
+    ensures stepped { HasStepped sweep.new }
+    ensures some { result ≡ true → left_to_do sweep.new < left_to_do sweep.old }
+    ensures none { result ≡ false → left_to_do sweep.new ≡ left_to_do sweep.old }
+{
+    match sweep.evacuate(heap, collection) {
+        Evacuated::Left => false,
+        Evacuated::NoSlot => sweep.scan_to_next(),
+        Evacuated::Looked | Evacuated::Raced => true,
+    }
+}
+
+/// The same. Tells whether there were some, after which nothing is proposed: then more may come.
+#[inline(always)]
 fn sweep_one<A: Allocator + Clone>(
     heap: &Heap<A>,
     collection: &Collection<A>,
@@ -20,42 +43,24 @@ fn sweep_one<A: Allocator + Clone>(
     requires ready { IsReadyToCollect heap.now collection.now }
     requires same { IsOf heap.now collection.now sweep.old }
     requires stepped { HasStepped sweep.old }
+    requires proposal { sweep.old.workspace.worker.proposal ≡ None }
     ensures same { IsOf heap.now collection.now sweep.new }
     ensures stepped { HasStepped sweep.new }
+    ensures proposal { result ≡ true → sweep.new.workspace.worker.proposal ≡ None }
     ensures some { result ≡ true → left_to_do sweep.new < left_to_do sweep.old }
-    ensures none { result ≡ false → left_to_do sweep.new ≡ left_to_do sweep.old }
+    ensures none { result ≡ false → left_to_do sweep.new ≤ left_to_do sweep.old }
 {
-    if sweep.has_proposal() {
+    if !sweep_once(heap, collection, sweep) {
         return false;
     }
-    match sweep.evacuate(heap, collection) {
-        Evacuated::Left => false,
-        Evacuated::NoSlot => sweep.scan_to_next(),
-        Evacuated::Looked | Evacuated::Raced => true,
-    }
-}
-
-/// Goes on so, as far as that goes. It owns the sweep, so that blocks and lists can stay in registers, and is no part of another
-/// function, which would want registers too.
-#[inline(never)]
-fn sweep_on<A: Allocator + Clone>(
-    heap: &Heap<A>,
-    collection: &Collection<A>,
-    mut sweep: SerialSweep<A>,
-) -> SerialSweep<A>
-    requires ready { IsReadyToCollect heap.now collection.now }
-    requires same { IsOf heap.now collection.now sweep }
-    requires stepped { HasStepped sweep }
-    ensures same { IsOf heap.now collection.now result }
-    ensures stepped { HasStepped result }
-    ensures less { left_to_do result ≤ left_to_do sweep }
-{
-    while sweep_one(heap, collection, &mut sweep) {}
-    sweep
+    !sweep.has_proposal()
 }
 
 /// The next events of a worker that holds a block in hand, as far as a sweep over that block goes. There may be none: what is left
-/// is left to `scavenge`, which refuses to stop early.
+/// is left to `scavenge`, which refuses to stop early. It owns the sweep, so that blocks and lists can stay in registers, and is no
+/// part of another function, which would want registers too. What opens the sweep is in sight of the compiler, which so knows that
+/// nothing is proposed whenever it goes on.
+#[inline(never)]
 pub fn swept<A: Allocator + Clone>(
     heap: &Heap<A>,
     collection: &Collection<A>,
@@ -68,8 +73,10 @@ pub fn swept<A: Allocator + Clone>(
     ensures stepped { HasStepped result }
     ensures less { left_to_do result ≤ left_to_do serial }
 {
-    match serial.opened() {
-        Ok(sweep) => sweep_on(heap, collection, sweep).closed(),
-        Err(serial) => serial,
-    }
+    let mut sweep = match serial.opened() {
+        Ok(sweep) => sweep,
+        Err(serial) => return serial,
+    };
+    while sweep_one(heap, collection, &mut sweep) {}
+    sweep.closed()
 }

@@ -1,5 +1,5 @@
 //! How a sweep begins and ends.
-ghost use Rattle.std.specs.Prelude.{◌≡◌, IsSome, IfOk, IfErr};
+ghost use Rattle.std.specs.Prelude.{◌≡◌, None, IsSome, IfOk, IfErr};
 ghost use Rattle.scavenge.specs.Shown.{held_in};
 ghost use Rattle.scavenge.specs.Swept.{proposed_of};
 
@@ -26,8 +26,10 @@ impl<A: Allocator> Workspace<A> {
     /// Opens the workspace for a sweep over the block in hand, which copies into the block for the same destination, with room
     /// for what one block brings. `Err` gives it back: the start list isn't finished, something is proposed, no block is held in
     /// hand, there is none to copy into, or memory ran out.
+    #[inline(always)]
     pub fn opened(mut self) -> Result<Sweep<A>, Workspace<A>>
         ensures ok { IfOk result (λ sweep. sweep ≡ self) }
+        ensures proposal { IfOk result (λ sweep. sweep.worker.proposal ≡ None) }
         ensures err { IfErr result (λ workspace. workspace ≡ self) }
     {
         if self.reserve_sweep().is_err() {
@@ -109,6 +111,7 @@ fn proposed_for(destination: usize, copied: Option<Copied>) -> Option<Proposed>
 
 impl<A: Allocator> Sweep<A> {
     /// The workspace after the sweep.
+    #[inline(always)]
     pub fn closed(self) -> Workspace<A>
         ensures { result ≡ self }
     {

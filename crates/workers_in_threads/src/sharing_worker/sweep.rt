@@ -53,8 +53,10 @@ impl<'a, C: Cells, A: Allocator> SharingWorker<'a, C, A> {
     }
 
     /// Opens the worker for a sweep over the block in hand. `Err` gives it back where `Workspace::opened` does.
+    #[inline(always)]
     pub fn opened(self) -> Result<SharingSweep<'a, C, A>, SharingWorker<'a, C, A>>
         ensures ok { IfOk result (λ sweep. sweep ≡ self.entry) }
+        ensures proposal { IfOk result (λ sweep. (worker_of sweep).proposal ≡ None) }
         ensures err { IfErr result (λ worker. worker ≡ self.entry) }
     {
         let SharingWorker {
@@ -100,6 +102,7 @@ impl<'a, C: Cells, A: Allocator> SharingWorker<'a, C, A> {
 
 impl<'a, C: Cells, A: Allocator> SharingSweep<'a, C, A> {
     /// The worker after the sweep.
+    #[inline(always)]
     pub fn closed(self) -> SharingWorker<'a, C, A>
         ensures { result ≡ self.entry }
     {

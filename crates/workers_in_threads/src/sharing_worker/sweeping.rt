@@ -1,4 +1,6 @@
 //! How a worker that holds a block in hand sweeps over it, in a loop that owns what it goes over.
+ghost use Rattle.std.specs.Prelude.{◌≡◌, None, true};
+ghost use Rattle.workers_in_threads.specs.SharingValue.{worker_of};
 ghost use Rattle.workers_in_threads.specs.Sharing.{IsSame};
 
 use crate::sharing_worker::sweep::SharingSweep;
@@ -12,12 +14,10 @@ impl<'a, C: Cells, A: Allocator + Clone> SharingSweep<'a, C, A> {
     /// A look with the race for what it proposes, or a scan, where they want neither a block nor a queue. Tells whether there
     /// was one.
     #[inline(always)]
-    fn sweep_one(&mut self) -> bool
+    fn sweep_once(&mut self) -> bool
+        requires proposal { (worker_of self.old).proposal ≡ None }
         ensures same { IsSame C.at_home self.old self.new }
     {
-        if self.has_proposal() {
-            return false;
-        }
         match self.evacuate() {
             Evacuated::Left => false,
             Evacuated::NoSlot => self.scan_to_next(),
@@ -25,30 +25,38 @@ impl<'a, C: Cells, A: Allocator + Clone> SharingSweep<'a, C, A> {
         }
     }
 
-    /// Goes on so, as far as that goes. It owns the sweep, so that blocks and lists can stay in registers, and is no part of
-    /// another function, which would want registers too.
-    #[inline(never)]
-    fn sweep_on<R: Wait>(mut self, rt: &R) -> Self
-        ensures same { IsSame C.at_home self.entry result }
+    /// The same. Tells whether there was one, after which nothing is proposed: then more may come.
+    #[inline(always)]
+    fn sweep_one(&mut self) -> bool
+        requires proposal { (worker_of self.old).proposal ≡ None }
+        ensures same { IsSame C.at_home self.old self.new }
+        ensures proposal { result ≡ true → (worker_of self.new).proposal ≡ None }
     {
-        for _ in rt.forever() {
-            if !self.sweep_one() {
-                return self;
-            }
+        if !self.sweep_once() {
+            return false;
         }
-        unreachable!()
+        !self.has_proposal()
     }
 }
 
 impl<'a, C: Cells, A: Allocator + Clone> SharingWorker<'a, C, A> {
     /// The next steps of a worker that holds a block in hand, as far as a sweep over that block goes. There may be none: what is
-    /// left is left to `scavenge`.
+    /// left is left to `scavenge`. It owns the sweep, so that blocks and lists can stay in registers, and is no part of another
+    /// function, which would want registers too. What opens the sweep is in sight of the compiler, which so knows that nothing is
+    /// proposed whenever it goes on.
+    #[inline(never)]
     pub fn swept<R: Wait>(self, rt: &R) -> Self
         ensures same { IsSame C.at_home self.entry result }
     {
-        match self.opened() {
-            Ok(sweep) => sweep.sweep_on(rt).closed(),
-            Err(worker) => worker,
+        let mut sweep = match self.opened() {
+            Ok(sweep) => sweep,
+            Err(worker) => return worker,
+        };
+        for _ in rt.forever() {
+            if !sweep.sweep_one() {
+                return sweep.closed();
+            }
         }
+        unreachable!()
     }
 }

@@ -1,0 +1,10 @@
+use Rattle.std.proofs.Common.{◌≡◌, None}
+use Rattle.workers_in_threads.specs.SharingValue.{worker_of}
+use Rattle.workers_in_threads.specs.Sharing.{IsSame}
+use Rattle.workers_in_threads.proofs.sharing_worker.worker.SharingWorker.swept.Given as goal
+
+abbrev pub invariant-loop : goal.invariant-loop
+invariant-loop g l = record {
+  same : IsSame g.C.Cells.at_home l.fn.self l.sweep;
+  proposal : (worker_of l.sweep).proposal ≡ None;
+}
