@@ -363,12 +363,16 @@ pub fn collect<
     ensures ok { IfOk result
         (λ report. CollectsApart heap.old generation n report.kept report.freed report.workers.items
         report.deliveries.items heap.new) }
+    ensures alone { n ≡ 1 → IfOk result
+        (λ report. CollectsAlone heap.old generation report.kept report.freed report.workers.items
+        report.deliveries.items heap.new) }
     ensures config { (result ≡ Err ThreadsError.BadConfig) ↔ ((n ≡ 0) ⊎ (16 < n)) }
     ensures generation { (result ≡ Err ThreadsError.NoGeneration) ↔
         ((0 < n) × (n ≤ 16) × (heap.old.config.shape.generations ≤ generation)) }
     ensures full { result ≡ Err ThreadsError.HeapFull → IsShortOfBlocksFor heap.old generation n }
     ensures stuck { result ≡ Err ThreadsError.HeapFull → IsStuckFor heap.old generation n }
     ensures words { kind ≡ CellKind.Word → result ≢ Err ThreadsError.Unsettled }
+    ensures one_settles { n ≡ 1 → result ≢ Err ThreadsError.Unsettled }
     ensures err { OnErr result (heap.new ≡ heap.old) }
 {
     if n == 0 || n > MOST_WORKERS {

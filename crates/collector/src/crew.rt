@@ -1,5 +1,6 @@
 //! How a caller of many collections has them carried out.
 ghost use Rattle.std.specs.Prelude.{◌≡◌, ◌≢◌, ◌↔◌, ◌<◌, ◌≤◌, IfOk, OnErr, Err};
+ghost use Rattle.settling.specs.Collects.{CollectsAlone};
 ghost use Rattle.workers_in_threads.specs.Reports.{CollectsApart, IsShortOfBlocksFor, IsStuckFor};
 
 use crate::apart::{CellKind, ThreadsError, collect};
@@ -56,12 +57,16 @@ impl<'a, R: Threads + Wait + Sync + AllocGlobal, G: Gate + Sync> Crew<'a, R, G> 
         ensures ok { IfOk result
             (λ report. CollectsApart heap.old generation self.now.workers report.kept report.freed report.workers.items
             report.deliveries.items heap.new) }
+        ensures alone { self.now.workers ≡ 1 → IfOk result
+            (λ report. CollectsAlone heap.old generation report.kept report.freed report.workers.items
+            report.deliveries.items heap.new) }
         ensures config { result ≢ Err ThreadsError.BadConfig }
         ensures generation { (result ≡ Err ThreadsError.NoGeneration) ↔
             (heap.old.config.shape.generations ≤ generation) }
         ensures full { result ≡ Err ThreadsError.HeapFull → IsShortOfBlocksFor heap.old generation self.now.workers }
         ensures stuck { result ≡ Err ThreadsError.HeapFull → IsStuckFor heap.old generation self.now.workers }
         ensures words { self.now.kind ≡ CellKind.Word → result ≢ Err ThreadsError.Unsettled }
+        ensures one_settles { self.now.workers ≡ 1 → result ≢ Err ThreadsError.Unsettled }
         ensures err { OnErr result (heap.new ≡ heap.old) }
     {
         collect(

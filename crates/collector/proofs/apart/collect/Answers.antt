@@ -25,3 +25,6 @@ returns-clause-ok g c =
     (subst (λ m. ScansOnce c.take_spare-spare.new.self m c.in-Some.settled.workers.items) (sym generation)
     (subst (λ o. IfSome o (λ (s : Settled g.row.A.Denot). ScansOnce c.take_spare-spare.new.self c.in_ok-collection.collection.generation s.workers.items)) c.in-Some.is c.in_ok-brought.ensures.once))
     (rw c.in-Ok.ensures.workers refl) (rw c.in-Ok.ensures.deliveries refl) c.in-Ok.ensures.ok c.in-Ok.ensures.kept c.in-Ok.ensures.won c.in-Ok.ensures.freed)
+
+pub returns-clause-alone : goal.returns-clause-alone
+returns-clause-alone g c = λ e. absurd (omega (arith, e, c.if-n-eq1.false))
