@@ -4,7 +4,7 @@ ghost use Rattle.forwarding.specs.declared.cells.forwards.SettleError.TheVariant
 ghost use Rattle.steps.specs.ReportValue.{all_won};
 ghost use Rattle.steps.specs.SettledValue.{IsSettled};
 ghost use Rattle.scavenge.specs.ReadyToCollect.{IsReadyToCollect};
-ghost use Rattle.settling.specs.Collects.{CollectsAlone, ScansOnce, IsShortOfBlocks, IsStuckAlone};
+ghost use Rattle.settling.specs.Collects.{Collects, ScansAlone, ScansOnce, IsShortOfBlocks, IsStuckAlone};
 ghost use Rattle.workers_in_threads.specs.declared.sharing_worker.resting.Outcome.TheVariants as Outcome;
 ghost use Rattle.workers_in_threads.specs.CameBack.{WereSettled};
 ghost use Rattle.workers_in_threads.specs.Reports.{CollectsApart, ReportsApart, IsShortOfBlocksFor, IsStuckApart, IsStuckFor};
@@ -328,8 +328,8 @@ fn alone<A: Allocator + Clone>(
 ) -> Result<Report<A>, ThreadsError>
     requires { generation < heap.old.config.shape.generations }
     ensures ok { IfOk result
-        (λ report. CollectsAlone heap.old generation report.kept report.freed report.workers.items
-        report.deliveries.items heap.new) }
+        (λ report. Collects heap.old generation report.kept report.freed report.workers.items heap.new) }
+    ensures alone { IfOk result (λ report. ScansAlone heap.old generation report.workers.items report.deliveries.items) }
     ensures full { result ≡ Err ThreadsError.HeapFull → IsShortOfBlocks heap.old generation }
     ensures stuck { result ≡ Err ThreadsError.HeapFull → IsStuckAlone heap.old generation }
     ensures others { (result ≢ Err ThreadsError.NoGeneration) × (result ≢ Err ThreadsError.BadConfig) ×
@@ -364,8 +364,7 @@ pub fn collect<
         (λ report. CollectsApart heap.old generation n report.kept report.freed report.workers.items
         report.deliveries.items heap.new) }
     ensures alone { n ≡ 1 → IfOk result
-        (λ report. CollectsAlone heap.old generation report.kept report.freed report.workers.items
-        report.deliveries.items heap.new) }
+        (λ report. ScansAlone heap.old generation report.workers.items report.deliveries.items) }
     ensures config { (result ≡ Err ThreadsError.BadConfig) ↔ ((n ≡ 0) ⊎ (16 < n)) }
     ensures generation { (result ≡ Err ThreadsError.NoGeneration) ↔
         ((0 < n) × (n ≤ 16) × (heap.old.config.shape.generations ≤ generation)) }

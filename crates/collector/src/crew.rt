@@ -1,6 +1,6 @@
 //! How a caller of many collections has them carried out.
 ghost use Rattle.std.specs.Prelude.{◌≡◌, ◌≢◌, ◌↔◌, ◌<◌, ◌≤◌, IfOk, OnErr, Err};
-ghost use Rattle.settling.specs.Collects.{CollectsAlone};
+ghost use Rattle.settling.specs.Collects.{ScansAlone};
 ghost use Rattle.workers_in_threads.specs.Reports.{CollectsApart, IsShortOfBlocksFor, IsStuckFor};
 
 use crate::apart::{CellKind, ThreadsError, collect};
@@ -58,8 +58,7 @@ impl<'a, R: Threads + Wait + Sync + AllocGlobal, G: Gate + Sync> Crew<'a, R, G> 
             (λ report. CollectsApart heap.old generation self.now.workers report.kept report.freed report.workers.items
             report.deliveries.items heap.new) }
         ensures alone { self.now.workers ≡ 1 → IfOk result
-            (λ report. CollectsAlone heap.old generation report.kept report.freed report.workers.items
-            report.deliveries.items heap.new) }
+            (λ report. ScansAlone heap.old generation report.workers.items report.deliveries.items) }
         ensures config { result ≢ Err ThreadsError.BadConfig }
         ensures generation { (result ≡ Err ThreadsError.NoGeneration) ↔
             (heap.old.config.shape.generations ≤ generation) }

@@ -73,7 +73,7 @@ mapped_some f (Some n) some = refl
 
 collected_keeps : (old new : HeapValue) → MayBeCollected old new → KeepsRoots old.graph new.graph
 collected_keeps old new (inl same) root some = ap (λ (h : HeapValue). is_some (root_at h.graph root)) same ∙ some
-collected_keeps old new (inr was) root some = ap is_some (was.collects.collects.heap.graph.roots root) ∙ mapped_some _ (root_at old.graph root) some
+collected_keeps old new (inr was) root some = ap is_some (was.collects.heap.graph.roots root) ∙ mapped_some _ (root_at old.graph root) some
 
 pub added : (old : HeapValue) (p q root : ℕ) (new : HeapValue) → AddsNode old p q root new → IsMade old p q root new
 added old p q root new adds =

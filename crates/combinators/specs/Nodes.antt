@@ -6,7 +6,7 @@ use Rattle.heap.specs.HeapValue.{HeapValue}
 use Rattle.heap.specs.ReportValue.{WorkerLists}
 use Rattle.heap.specs.Commands.{Allocates, Changes, Stores, rooted_object, pointer_of}
 use Rattle.steps.specs.declared.heap_values.report.Delivery.{Delivery}
-use Rattle.settling.specs.Collects.{CollectsAlone}
+use Rattle.settling.specs.Collects.{Collects, ScansAlone}
 use Rattle.combinators.specs.declared.nodes.Trouble.{Trouble}
 use Rattle.combinators.specs.declared.nodes.Trouble.TheVariants.{HeapFull, NoMemory}
 
@@ -29,7 +29,8 @@ pub record WasCollected (old new : HeapValue) : Type 0 where
   pub freed : ℕ
   pub workers : List WorkerLists
   pub deliveries : List Delivery
-  pub collects : CollectsAlone old generation kept freed workers deliveries new
+  pub collects : Collects old generation kept freed workers new
+  pub scans : ScansAlone old generation workers deliveries
 
 -- the heap is as it was, or as a collection left it
 abbrev pub MayBeCollected : HeapValue → HeapValue → Type 0

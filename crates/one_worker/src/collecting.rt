@@ -4,7 +4,7 @@ ghost use Rattle.std.specs.Prelude.{◌≡◌, ◌≢◌, ◌↔◌, ◌≤◌, 
 ghost use Rattle.steps.specs.ReportValue.{all_won};
 ghost use Rattle.steps.specs.SettledValue.{IsSettled};
 ghost use Rattle.scavenge.specs.ReadyToCollect.{IsReadyToCollect};
-ghost use Rattle.settling.specs.Collects.{CollectsAlone, ScansAlone, ScansOnce, IsShortOfBlocks, IsStuckAlone};
+ghost use Rattle.settling.specs.Collects.{Collects, ScansAlone, ScansOnce, IsShortOfBlocks, IsStuckAlone};
 
 use crate::serial::SerialCollection;
 use crate::serial_settling::settle;
@@ -87,8 +87,8 @@ pub fn collect_one<A: Allocator + Clone>(
     generation: u64,
 ) -> Result<Report<A>, CollectError>
     ensures ok { IfOk result
-        (λ report. CollectsAlone heap.old generation report.kept report.freed report.workers.items
-        report.deliveries.items heap.new) }
+        (λ report. Collects heap.old generation report.kept report.freed report.workers.items heap.new) }
+    ensures alone { IfOk result (λ report. ScansAlone heap.old generation report.workers.items report.deliveries.items) }
     ensures no_generation { (result ≡ Err CollectError.NoGeneration) ↔
         (heap.old.config.shape.generations ≤ generation) }
     ensures full { result ≡ Err CollectError.HeapFull → IsShortOfBlocks heap.old generation }

@@ -22,7 +22,6 @@ use Rattle.workers.specs.System.{System, Event as Happens}
 use Rattle.workers.specs.Steps as steps
 use Rattle.workers.proofs.OneMore.{stepped_run}
 use Rattle.settling.specs.Collects.{Collects, setting_at, opening_at}
-use Rattle.settling.specs.Together.{CollectsTogether}
 use Rattle.trace_replay.specs.Events.{IsShortOfBlocks}
 use Rattle.heap_text.specs.ReportText.{report_text}
 use Rattle.heap_text.specs.declared.cause.Cause.TheVariants.{Command}
@@ -177,11 +176,6 @@ module _ (heap : HeapValue) (g n number : ℕ) (text : List ℕ) (commit : ℕ) 
     collects : Collects heap g kept freed workers heap'
     collects = is_collected heap g b.last collection places blocks workers deliveries b.brought kept freed heap' moves live sum count
 
-    together : CollectsTogether heap g n kept freed workers deliveries heap'
-    together =
-        let run = lines_run (setting_at heap g n) b.schedule.run in
-        record { collects = collects; runs = record { last = b.last; events = run.0; run = run.1; reports_are = b.brought.reports_are } }
-
     pub collected_to : (names : List (List ℕ × ℕ)) (config : Config) (store : Store) (stands : StandsFor heap names config store) → g < heap.config.shape.generations
         → (printed printed' : Output) → Appends printed printed' (report_text Command g kept freed workers deliveries)
         → HasCollected config n g (record { heap = heap; names = names; store = store }) number text (commit + 1) rest printed printed' (record { heap = heap'; names = names; store = collected config g store })
@@ -203,7 +197,7 @@ module _ (heap : HeapValue) (g n number : ℕ) (text : List ℕ) (commit : ℕ) 
             ap (λ k. report_text Command g k freed workers deliveries) (kept_same heap names config store stands g kept freed workers heap' collects)
             ∙ ap (λ f. report_text Command g (kept_count store g) f workers deliveries) (freed_same heap names config store stands g kept freed workers heap' collects);
         names_are = refl;
-        holds = stands_collected heap names config store stands g kept freed workers heap' collects (made_by.collected_together g n kept freed workers deliveries stands.made together);
+        holds = stands_collected heap names config store stands g kept freed workers heap' collects (made_by.collected g _ stands.made collects.heap);
       };
       ends = b.schedule.ends;
       commits = b.schedule.commits;
