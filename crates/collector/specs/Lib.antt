@@ -1,3 +1,2 @@
--- How collections by threads are carried out, and why they were not.
-pub mod Errors
+-- How collections by threads are carried out.
 pub mod CrewValue

@@ -58,20 +58,6 @@ impl From<AllocError> for ThreadsError {
     }
 }
 
-impl From<OpenError> for ThreadsError {
-    ghost use Rattle.collector.specs.Errors.{threads_error_of_open};
-    ghost use Rattle.std.specs.Prelude.{◌≡◌};
-
-    ghost from_gives = { λ e r. r ≡ threads_error_of_open e };
-
-    fn from(error: OpenError) -> ThreadsError {
-        match error {
-            OpenError::NoGeneration => ThreadsError::NoGeneration,
-            OpenError::NoMemory => ThreadsError::NoMemory,
-        }
-    }
-}
-
 /// What the workers, who all ended, bring to the commit, unless their cells were not settled or memory ran out.
 fn ended<R: Wait, S: SharedCells, A: Allocator + Clone>(
     rt: &R,
@@ -329,7 +315,8 @@ fn alone<A: Allocator + Clone>(
     requires { generation < heap.old.config.shape.generations }
     ensures ok { IfOk result
         (λ report. Collects heap.old generation report.kept report.freed report.workers.items heap.new) }
-    ensures alone { IfOk result (λ report. ScansAlone heap.old generation report.workers.items report.deliveries.items) }
+    ensures alone { IfOk result
+        (λ report. ScansAlone heap.old generation report.workers.items report.deliveries.items) }
     ensures full { result ≡ Err ThreadsError.HeapFull → IsShortOfBlocks heap.old generation }
     ensures stuck { result ≡ Err ThreadsError.HeapFull → IsStuckAlone heap.old generation }
     ensures others { (result ≢ Err ThreadsError.NoGeneration) × (result ≢ Err ThreadsError.BadConfig) ×
@@ -370,6 +357,7 @@ pub fn collect<
         ((0 < n) × (n ≤ 16) × (heap.old.config.shape.generations ≤ generation)) }
     ensures full { result ≡ Err ThreadsError.HeapFull → IsShortOfBlocksFor heap.old generation n }
     ensures stuck { result ≡ Err ThreadsError.HeapFull → IsStuckFor heap.old generation n }
+    ensures stuck_alone { n ≡ 1 → result ≡ Err ThreadsError.HeapFull → IsStuckAlone heap.old generation }
     ensures words { kind ≡ CellKind.Word → result ≢ Err ThreadsError.Unsettled }
     ensures one_settles { n ≡ 1 → result ≢ Err ThreadsError.Unsettled }
     ensures err { OnErr result (heap.new ≡ heap.old) }
@@ -384,7 +372,11 @@ pub fn collect<
         return alone(alloc, heap, generation);
     }
     let spare = heap.take_spare();
-    let collection = heap.open_collection(alloc.clone()?, generation)?;
+    let collection = match heap.open_collection(alloc.clone()?, generation) {
+        Ok(collection) => collection,
+        Err(OpenError::NoMemory) => return Err(ThreadsError::NoMemory),
+        Err(OpenError::NoGeneration) => unreachable!(),
+    };
     let brought = scavenged_by(rt, alloc.clone()?, heap, collection, n, kind, gate, spare)?;
     let Some(settled) = brought else {
         return alone(alloc, heap, generation);

@@ -1,6 +1,6 @@
 //! How a caller of many collections has them carried out.
 ghost use Rattle.std.specs.Prelude.{◌≡◌, ◌≢◌, ◌↔◌, ◌<◌, ◌≤◌, IfOk, OnErr, Err};
-ghost use Rattle.settling.specs.Collects.{ScansAlone};
+ghost use Rattle.settling.specs.Collects.{ScansAlone, IsStuckAlone};
 ghost use Rattle.workers_in_threads.specs.Reports.{CollectsApart, IsShortOfBlocksFor, IsStuckFor};
 
 use crate::apart::{CellKind, ThreadsError, collect};
@@ -64,6 +64,8 @@ impl<'a, R: Threads + Wait + Sync + AllocGlobal, G: Gate + Sync> Crew<'a, R, G> 
             (heap.old.config.shape.generations ≤ generation) }
         ensures full { result ≡ Err ThreadsError.HeapFull → IsShortOfBlocksFor heap.old generation self.now.workers }
         ensures stuck { result ≡ Err ThreadsError.HeapFull → IsStuckFor heap.old generation self.now.workers }
+        ensures stuck_alone { self.now.workers ≡ 1 → result ≡ Err ThreadsError.HeapFull →
+            IsStuckAlone heap.old generation }
         ensures words { self.now.kind ≡ CellKind.Word → result ≢ Err ThreadsError.Unsettled }
         ensures one_settles { self.now.workers ≡ 1 → result ≢ Err ThreadsError.Unsettled }
         ensures err { OnErr result (heap.new ≡ heap.old) }
