@@ -5,6 +5,8 @@ pub mod PairLemmas
 pub mod Few
 pub mod Wins
 pub mod Agreeing
+-- What each of two steps leaves as it was, both do.
+pub mod PassLaws
 -- Words that settling answers with show the places that they are the words of.
 pub mod ShownPlace
 -- Plain cells keep what they are, and settle.

@@ -2,6 +2,7 @@
 
 -- What a pass of cells learns, and what cells answer in the end.
 pub mod Learned
+pub mod KeepsPasses
 pub mod Settled
 pub mod Known
 -- The words that settling answers with.

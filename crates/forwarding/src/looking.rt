@@ -1,5 +1,6 @@
 //! A caller that serves every kind of cells.
 ghost use Rattle.std.specs.Prelude.{◌<◌, ◌≡◌, Some, IfOk, OnErr};
+ghost use Rattle.forwarding.specs.KeepsPasses.{KeepsPasses};
 ghost use Rattle.forwarding.specs.Learned.{Learns};
 
 use crate::cells::{Cells, Outcome};
@@ -15,13 +16,8 @@ pub fn look_then_race<C: Cells>(
 ) -> Result<Place, AllocError>
     requires pass { C.fits cells.old pass.old }
     requires name { name < C.limit cells.old }
-    ensures pass { C.fits cells.new pass.new }
-    ensures home { (other : C) → C.at_home other pass.old → C.at_home other pass.new }
-    ensures limit { C.limit cells.new ≡ C.limit cells.old }
+    ensures keeps { KeepsPasses C.limit C.fits C.at_home C.apart cells.old pass.old cells.new pass.new }
     ensures known { IfOk result (λ p. Learns (C.known pass.old) (C.known pass.new) name (Some p)) }
-    ensures others { (other : C.Pass) → C.apart pass.old other → C.fits cells.old other → C.fits cells.new other }
-    ensures apart { (other : C.Pass) → C.apart pass.old other → C.apart pass.new other }
-    ensures apart_back { (other : C.Pass) → C.apart other pass.old → C.apart other pass.new }
     ensures refused { OnErr result C.may_refuse }
 {
     if let Some(there) = cells.look(pass, name) {

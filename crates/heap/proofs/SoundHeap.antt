@@ -1,6 +1,7 @@
 -- What holds of every heap, fact by fact.
-use Rattle.std.proofs.Common.{◌≡◌, ℕ, ◌<◌, ◌≤◌, Bool, true, false, length, get_or, Option, Some, None, refl, sym, ap, subst, ◌∙◌, arith}
+use Rattle.std.proofs.Common.{◌≡◌, ℕ, ◌<◌, ◌≤◌, Bool, true, false, List, All, length, get_or, Option, Some, None, refl, sym, ap, subst, ◌∙◌, arith}
 use Rattle.std.specs.Prelude.{IsTrue}
+use Rattle.std.specs.List.Sorted.{IsStrictlyIncreasing}
 use Rattle.model.specs.Graph.{Object, IsClosed, object_at, is_large}
 use Rattle.model.specs.Reached.{has}
 use Rattle.layout.specs.declared.place.SmallPlace.{SmallPlace}
@@ -10,13 +11,21 @@ use Rattle.layout.specs.declared.place.Place.TheVariants.{Small, Large}
 use Rattle.layout.specs.Place.{small_word, large_word, place_word}
 use Rattle.steps.specs.HeapValue.{HeapValue}
 use Rattle.steps.specs.CollectedHeap.{HoldsObject}
-use Rattle.steps.specs.CollectionValue.{AreFreeBlocks, FreeBlocksAreEmpty}
 use Rattle.steps.specs.NamesArePlaces.{NamesArePlaces}
 use Rattle.nursery.proofs.Areas.{has_at}
 use Rattle.nursery.proofs.TableSteps.{get_or_any}
 use Rattle.heap_objects.specs.Space.{IsPlace}
 use Rattle.heap_objects.specs.Sound.{IsHeapObject, IsLargePlace, AreObjects}
 use Rattle.heap.specs.IsHeap.{IsHeap}
+
+-- numbers of free blocks, rising
+pub record AreFreeBlocks (blocks : ℕ) (free : List ℕ) : Type 0 where
+  pub rising : IsStrictlyIncreasing free
+  pub in_range : All (λ block. block < blocks) free
+
+-- no object stands in a free block
+abbrev pub FreeBlocksAreEmpty : HeapValue → Type 0
+FreeBlocksAreEmpty heap = (block offset : ℕ) → IsTrue (has heap.free block) → offset < 65536 → object_at heap.graph (small_word block offset) ≡ None
 
 pub heap_closed : (heap : HeapValue) → IsHeap heap → IsClosed heap.graph
 heap_closed heap sound = sound.blocks.closed

@@ -18,7 +18,3 @@ delivery_line d = codes "block " ++ decimal d.exporter ++ codes "." ++ decimal d
 -- the workers in their order, and then the deliveries in theirs
 abbrev pub workers_text : List WorkerLists → List Delivery → List ℕ
 workers_text workers deliveries = flat_map worker_line (enumerate_from 0 workers) ++ flat_map delivery_line deliveries
-
--- the collection's line, and then those of its workers
-abbrev pub report_text : Cause → (g kept freed : ℕ) → List WorkerLists → List Delivery → List ℕ
-report_text cause g kept freed workers deliveries = collection_line (cause_word cause) g kept freed ++ workers_text workers deliveries

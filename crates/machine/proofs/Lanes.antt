@@ -13,7 +13,7 @@ use Rattle.scavenge.specs.Handed.{CopiesKeyValue, IsHandedFor}
 use Rattle.workers.specs.Block.{Block, has_unscanned}
 use Rattle.workers.specs.Joined.{Each}
 use Rattle.workers.specs.Ready.{IsHanded}
-use Rattle.workers.specs.Kept.{LiveOrOlder}
+use Rattle.model.specs.Collected.{IsLiveOrOlder}
 use Rattle.workers.proofs.Starts.{opens, opening_each}
 use Rattle.workers.proofs.ReadyRuns.{exports_handed}
 use Rattle.workers.proofs.ReadyLemmas.{handed_alike, handed_labelled}
@@ -121,7 +121,7 @@ module _ (heap : HeapValue) (c : CollectionValue) (n : ℕ) (queues : PlainQueue
   module _ (t : ℕ) (m : MemberValue) (member : IsMember heap c n t m) (ready : IsReadyToCollect heap c) (b : BlockValue) where
     pub aside_handed : Begins m.workspace.config.shape m.workspace.worker.aside b → IsHanded heap.graph c.generation heap.config.shape heap.config.block_words n (named m.workspace.config.shape b)
     aside_handed first =
-        let starts = opening_each (setting_for heap c n) (LiveOrOlder heap.graph c.generation) (dest_count heap.config.shape c.generation) n (map target_of_slot c.slots) (targets_live heap c ready) t 1 in
+        let starts = opening_each (setting_for heap c n) (IsLiveOrOlder heap.graph c.generation) (dest_count heap.config.shape c.generation) n (map target_of_slot c.slots) (targets_live heap c ready) t 1 in
         let all = exports_handed heap.graph c.generation heap.config.shape heap.config.block_words n (begins heap c n t) m.workspace.worker member.worked.history
         (opens (dest_count heap.config.shape c.generation) n (map target_of_slot c.slots) t) (start_roomy heap c ready n t) starts.0 member.worked.taken member.worked.run in
         (subst (Each (IsHanded heap.graph c.generation heap.config.shape heap.config.block_words n)) first.is all.0).0

@@ -13,7 +13,8 @@ use Rattle.model.specs.Graph.{IsClosed}
 use Rattle.steps.specs.HeapValue.{HeapValue}
 use Rattle.steps.specs.NamesArePlaces.{NamesArePlaces}
 use Rattle.heap.proofs.SoundHeap.{heap_closed, heap_places}
-use Rattle.scavenge.specs.Slots.{objects_of, IsUntouched}
+use Rattle.workers.specs.Ready.{IsUntouched}
+use Rattle.scavenge.specs.Slots.{objects_of}
 use Rattle.scavenge.proofs.OpenBlocks.{none_there, open_there}
 use Rattle.scavenge.specs.Named.{named}
 use Rattle.machine.specs.InterleavedValue.{InterleavedValue, MemberValue, worker_of, queue_in, system_of, setting_in}

@@ -24,7 +24,9 @@ use Rattle.workers.specs.Lawful.{IsLawful, IsRefused}
 use Rattle.scavenge.specs.Shown.{WorkspaceValue}
 use Rattle.scavenge.specs.declared.looking.LookError.{LookError}
 use Rattle.scavenge.specs.declared.looking.LookError.TheVariants.{HeapFull, NoMemory}
-use Rattle.scavenge.specs.Slots.{seen, IsUntouched, HasRoomFor, cell_of, IsTold, Looks, WantsBlock, seat_after}
+use Rattle.workers.specs.Ready.{IsUntouched}
+use Rattle.workers.specs.Joined.{Roomy}
+use Rattle.scavenge.specs.Slots.{seen, cell_of, IsTold, Looks, WantsBlock, seat_after}
 use Rattle.scavenge.specs.Waiting.{left_of}
 use Rattle.scavenge.proofs.Drawn.{left_contains, left_push}
 use Rattle.machine.specs.InterleavedValue.{InterleavedValue, MemberValue, worker_of, Goes, Stays, WantsDraw, system_of, setting_in, forwarded_in, forwarded_at}
@@ -58,8 +60,8 @@ module _ (v : InterleavedValue) (k : IsInterleaved v) (t : ℕ) (m : MemberValue
   pub untouched_of : IsUntouched (seen heap c) m.workspace.worker
   untouched_of = passed (λ h d. IsUntouched (seen h d) m.workspace.worker) (ready_of v.heap v.collection k.ready v.workers t m (k.each t m at)).untouched
 
-  pub rooms_of : HasRoomFor (seen heap c) m.workspace.worker
-  rooms_of = passed (λ h d. HasRoomFor (seen h d) m.workspace.worker) (ready_of v.heap v.collection k.ready v.workers t m (k.each t m at)).room
+  pub rooms_of : Roomy (seen heap c) m.workspace.worker
+  rooms_of = passed (λ h d. Roomy (seen h d) m.workspace.worker) (ready_of v.heap v.collection k.ready v.workers t m (k.each t m at)).room
 
 module _ (v : InterleavedValue) (k : IsInterleaved v) (t : ℕ) (m : MemberValue) (at : slice_get v.members t ≡ Some m) where
   abbrev worker : Worker

@@ -20,7 +20,7 @@ use Rattle.workers.specs.Joined.{Each}
 use Rattle.workers.specs.Ready.{IsHanded}
 use Rattle.workers.specs.Finish.{IsReached}
 use Rattle.scavenge.specs.Slots.{seen, cell_of}
-use Rattle.scavenge.specs.Told.{IsNumberOf}
+use Rattle.heap.specs.Found.{HasNumber}
 use Rattle.scavenge.specs.ReadyToCollect.{IsReadyToCollect}
 use Rattle.machine.specs.InterleavedValue.{InterleavedValue, MemberValue, forwarded_in, setting_for, setting_in, destinations_in, targets_in, system_of}
 
@@ -29,7 +29,7 @@ pub record AreForwarded (heap : HeapValue) (c : CollectionValue) (cells : PlainC
   pub fits : IsFit cells pass
   pub passes : cells.passes ≡ 1
   pub count : length cells.held ≡ c.cells
-  pub shown : (name number : ℕ) → IsNumberOf heap c name number → cell_of (seen heap c) (Some name) (place_held cells.held number) ≡ find nat_cmp name (forwarded_in heap c pass)
+  pub shown : (name number : ℕ) → HasNumber heap c name number → cell_of (seen heap c) (Some name) (place_held cells.held number) ≡ find nat_cmp name (forwarded_in heap c pass)
 
 -- blocks are drawn from the free ones
 pub record AreDrawn (heap : HeapValue) (claims : ClaimsValue) (draws : SeatValue) : Type 0 where

@@ -10,11 +10,11 @@ use Rattle.model.specs.SpaceBound.{space_bound}
 use Rattle.model.specs.Destination.{dest_count}
 use Rattle.layout.specs.Place.{small_word, large_word}
 use Rattle.steps.specs.HeapValue.{HeapValue}
-use Rattle.steps.specs.CollectionValue.{CollectionValue, AreFreeBlocks, target_of_slot, young_names}
+use Rattle.steps.specs.CollectionValue.{CollectionValue, target_of_slot, young_names}
 use Rattle.steps.specs.CollectedHeap.{CollectedHeap}
 use Rattle.steps.specs.ReportValue.{WorkerLists, renaming_of, all_won}
 use Rattle.steps.specs.declared.heap_values.report.Delivery.{Delivery}
-use Rattle.heap.proofs.SoundHeap.{heap_free, heap_large_name}
+use Rattle.heap.proofs.SoundHeap.{heap_free, heap_large_name, AreFreeBlocks}
 use Rattle.workers.specs.Setting.{Setting, is_large_name}
 use Rattle.workers.specs.Worker.{Worker, Hand, Nothing, current_in, current_object}
 use Rattle.workers.specs.WorkerSteps.{current_slot, slot_of_starts, IsOutOfWork}
@@ -37,7 +37,7 @@ use Rattle.settling.specs.OwnDeliveries.{own_deliveries}
 use Rattle.scavenge.proofs.OpenBlocks.{none_open}
 use Rattle.scavenge.proofs.Starts.{targets_live}
 use Rattle.one_worker.specs.Stepping.{IsOf, IsDone, IsFullForLook, HasStepped}
-use Rattle.settling.specs.Collects.{is_small_word, won_places, ScansInOrder, RunsAlone, ScansAlone, ScansOnce, CollectsAlone, IsShortOfBlocks, IsStuckAlone}
+use Rattle.settling.specs.Collects.{is_small_word, won_places, ScansInOrder, RunsAlone, ScansAlone, ScansOnce, Collects, IsShortOfBlocks, IsStuckAlone}
 use Rattle.one_worker.proofs.Going.{reached_of}
 
 pub begins : (v : SerialValue) → system_of v ≡ opening (destinations_in v) 1 (targets_in v) v.heap.free → HasStepped v
@@ -195,14 +195,17 @@ scans_once v workers report once =
       scanned_once = λ place. ap (times place) (scanned_alone workers report.lists report.alone ∙ report.scanned) ∙ once.scanned place ∙ ap (times place) (sym same);
     }
 
-pub collects : (old new : HeapValue) (g generation kept freed : ℕ) (workers reported : List WorkerLists) (deliveries told : List Delivery) → generation ≡ g
-    → ScansAlone old generation workers deliveries → ScansOnce old generation workers → reported ≡ workers → told ≡ deliveries
-    → CollectedHeap old generation (renaming_of (young_names old.graph generation) (all_won workers)) new → LiveCount old.graph generation kept → kept ≡ sum_by (λ (w : WorkerLists). length w.won) workers → kept + freed ≡ length (young_names old.graph generation) → CollectsAlone old g kept freed reported told new
-collects old new g generation kept freed workers reported deliveries told same scans once lists_are deliveries_are heap live sum count =
-    subst (λ n. CollectsAlone old n kept freed reported told new) same
-    (subst (λ ws. CollectsAlone old generation kept freed ws told new) (sym lists_are)
-    (subst (λ ds. CollectsAlone old generation kept freed workers ds new) (sym deliveries_are)
-    (record {
-      collects = record { heap = heap; kept_is = live; kept_sum = sum; freed_is = count; once = once };
-      scans = scans;
-    })))
+-- what the heap, the counts and the lists are at the commit is so of what the report has
+pub collects : (old new : HeapValue) (g generation kept freed : ℕ) (workers reported : List WorkerLists) → generation ≡ g → ScansOnce old generation workers → reported ≡ workers
+    → CollectedHeap old generation (renaming_of (young_names old.graph generation) (all_won workers)) new → LiveCount old.graph generation kept → kept ≡ sum_by (λ (w : WorkerLists). length w.won) workers → kept + freed ≡ length (young_names old.graph generation) → Collects old g kept freed reported new
+collects old new g generation kept freed workers reported same once lists_are heap live sum count =
+    subst (λ n. Collects old n kept freed reported new) same
+    (subst (λ ws. Collects old generation kept freed ws new) (sym lists_are)
+    (record { heap = heap; kept_is = live; kept_sum = sum; freed_is = count; once = once }))
+
+-- and so is what the worker did
+pub told_alone : (heap : HeapValue) (g generation : ℕ) (workers reported : List WorkerLists) (deliveries told : List Delivery) → generation ≡ g → reported ≡ workers → told ≡ deliveries → ScansAlone heap generation workers deliveries → ScansAlone heap g reported told
+told_alone heap g generation workers reported deliveries told same lists_are deliveries_are scans =
+    subst (λ n. ScansAlone heap n reported told) same
+    (subst (λ ws. ScansAlone heap generation ws told) (sym lists_are)
+    (subst (λ ds. ScansAlone heap generation workers ds) (sym deliveries_are) scans))

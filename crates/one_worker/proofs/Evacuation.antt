@@ -13,7 +13,7 @@ use Rattle.scavenge.specs.Shown.{WorkspaceValue}
 use Rattle.scavenge.specs.Slots.{seen, Looks, objects_of, cell_of}
 use Rattle.scavenge.specs.Evacuates.{WantsMore, LooksAndRaces}
 use Rattle.scavenge.specs.Evacuates as evacuates
-use Rattle.scavenge.specs.Told.{IsNumberOf}
+use Rattle.heap.specs.Found.{HasNumber}
 use Rattle.scavenge.specs.declared.evacuating.Evacuated.{Evacuated}
 use Rattle.scavenge.specs.declared.evacuating.Evacuated.TheVariants as evacuated
 use Rattle.one_worker.specs.SerialValue.{SerialValue, Goes, Stays, LooksThenRaces, system_of, IsLeft, setting_in}
@@ -69,7 +69,7 @@ module _ (v : SerialValue) (k : IsSerial v) (heap : HeapValue) (c : CollectionVa
   pub left_why : evacuates.IsLeft heap c Gives v.workspace.worker → IsLeft v
   left_why l =
       ⊎_elim (λ starts. inl starts)
-      (λ u. (let of : IsNumberOf v.heap v.collection u.name u.number = subst (λ h. IsNumberOf h v.collection u.name u.number) same_heap (subst (λ d. IsNumberOf heap d u.name u.number) same_collection u.of) in
+      (λ u. (let of : HasNumber v.heap v.collection u.name u.number = subst (λ h. HasNumber h v.collection u.name u.number) same_heap (subst (λ d. HasNumber heap d u.name u.number) same_collection u.of) in
       inr (record {
         name = u.name;
         slot = sym (slot_here v k heap c same_heap same_collection pass) ∙ u.slot;

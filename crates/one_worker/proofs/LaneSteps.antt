@@ -19,7 +19,7 @@ use Rattle.workers.specs.WorkerRun.{Exported, Took}
 use Rattle.workers.specs.System.{System, Event, Export, Take, opening_worker}
 use Rattle.workers.specs.Joined.{Each}
 use Rattle.workers.specs.Ready.{IsHanded}
-use Rattle.workers.specs.Kept.{LiveOrOlder}
+use Rattle.model.specs.Collected.{IsLiveOrOlder}
 use Rattle.workers.proofs.Starts.{opens, opening_each}
 use Rattle.workers.proofs.ReadyRuns.{exports_handed}
 use Rattle.workers.proofs.ReadyLemmas.{handed_alike, handed_labelled}
@@ -190,7 +190,7 @@ module _ (v : SerialValue) (b : BlockValue) (new : WorkspaceValue) (queues : Pla
 pub aside_handed : (v : SerialValue) (b : BlockValue) → IsSerial v → Begins v.workspace.config.shape v.workspace.worker.aside b
     → IsHanded v.heap.graph v.collection.generation v.heap.config.shape v.heap.config.block_words 1 (named v.workspace.config.shape b)
 aside_handed v b k first =
-    let starts = opening_each (setting_in v) (LiveOrOlder v.heap.graph v.collection.generation) (destinations_in v) 1 (targets_in v) (targets_live v.heap v.collection k.ready) 0 1 in
+    let starts = opening_each (setting_in v) (IsLiveOrOlder v.heap.graph v.collection.generation) (destinations_in v) 1 (targets_in v) (targets_live v.heap v.collection k.ready) 0 1 in
     let all = exports_handed v.heap.graph v.collection.generation v.heap.config.shape v.heap.config.block_words 1 (opening_worker (destinations_in v) 1 (targets_in v) 0) v.workspace.worker k.worked.history
     (opens (destinations_in v) 1 (targets_in v) 0) (start_roomy v k.ready) starts.0 k.worked.taken k.worked.run in
     (subst (Each (IsHanded v.heap.graph v.collection.generation v.heap.config.shape v.heap.config.block_words 1)) first.is all.0).0

@@ -21,7 +21,9 @@ use Rattle.workers.specs.WorkerRun.{Looked}
 use Rattle.workers.specs.System.{System, Look, without_number}
 use Rattle.workers.specs.System as system
 use Rattle.scavenge.specs.Shown.{WorkspaceValue}
-use Rattle.scavenge.specs.Slots.{seen, IsUntouched, HasRoomFor, cell_of, IsTold, Looks, WantsBlock, seat_after}
+use Rattle.workers.specs.Ready.{IsUntouched}
+use Rattle.workers.specs.Joined.{Roomy}
+use Rattle.scavenge.specs.Slots.{seen, cell_of, IsTold, Looks, WantsBlock, seat_after}
 use Rattle.one_worker.specs.SerialValue.{SerialValue, Goes, WantsDraw, system_of, setting_in}
 use Rattle.scavenge.specs.Waiting.{left_of}
 use Rattle.one_worker.specs.IsSerial.{IsSerial}
@@ -43,10 +45,10 @@ module _ (v : SerialValue) (k : IsSerial v) (heap : HeapValue) (c : CollectionVa
       subst (λ (h : HeapValue). IsUntouched (seen h c) v.workspace.worker) (sym same_heap)
       (subst (λ (d : CollectionValue). IsUntouched (seen v.heap d) v.workspace.worker) (sym same_collection) (ready_of v k).untouched)
 
-  pub rooms_of : HasRoomFor (seen heap c) v.workspace.worker
+  pub rooms_of : Roomy (seen heap c) v.workspace.worker
   rooms_of =
-      subst (λ (h : HeapValue). HasRoomFor (seen h c) v.workspace.worker) (sym same_heap)
-      (subst (λ (d : CollectionValue). HasRoomFor (seen v.heap d) v.workspace.worker) (sym same_collection) (ready_of v k).room)
+      subst (λ (h : HeapValue). Roomy (seen h c) v.workspace.worker) (sym same_heap)
+      (subst (λ (d : CollectionValue). Roomy (seen v.heap d) v.workspace.worker) (sym same_collection) (ready_of v k).room)
 
 -- nothing is won by a look
 module _ (setting : Setting) (w : Worker) where

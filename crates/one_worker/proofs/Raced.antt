@@ -33,7 +33,8 @@ use Rattle.workers.proofs.SystemFalls.{Sound, run_sound}
 use Rattle.workers.proofs.SystemParts.{find-new}
 use Rattle.scavenge.specs.Shown.{WorkspaceValue, lost_to, IsBid, name_of}
 use Rattle.scavenge.specs.Slots.{cell_of}
-use Rattle.scavenge.specs.Told.{Races, IsNumberOf, lost_of}
+use Rattle.heap.specs.Found.{HasNumber}
+use Rattle.scavenge.specs.Told.{Races, lost_of}
 use Rattle.one_worker.specs.SerialValue.{SerialValue, Goes, system_of, setting_in, targets_in, destinations_in}
 use Rattle.one_worker.specs.IsSerial.{IsSerial, AreForwarded}
 use Rattle.one_worker.proofs.Keeping.{AreTaken, worked_on}
@@ -132,14 +133,14 @@ module _ (v : SerialValue) (k : IsSerial v) (p : Proposal) (proposed : v.workspa
       go (Claimed name) f b = cond-true _ _ _ f.1
 
   -- a name has one number
-  one_number : (a b : ℕ) → IsNumberOf v.heap v.collection (proposed_name p) a → IsNumberOf v.heap v.collection (proposed_name p) b → a ≡ b
+  one_number : (a b : ℕ) → HasNumber v.heap v.collection (proposed_name p) a → HasNumber v.heap v.collection (proposed_name p) b → a ≡ b
   one_number a b x y =
       let n : v.collection.cells ≡ length (young_names v.heap.graph v.collection.generation) = k.ready.opened.cells in
       let la : a < v.collection.cells = x.in_range in
       let lb : b < v.collection.cells = y.in_range in
       same_index (young_names v.heap.graph v.collection.generation) a b (keys-filter_rise v.heap.graph.objects (is_young_name v.heap.graph v.collection.generation)) (omega arith) (omega arith) (x.is ∙ sym y.is)
 
-  module _ (number : ℕ) (of : IsNumberOf v.heap v.collection (proposed_name p) number) (bid : Place) (is_bid : IsBid v.workspace.claim worker.proposal bid) (cells : PlainCellsValue) where
+  module _ (number : ℕ) (of : HasNumber v.heap v.collection (proposed_name p) number) (bid : Place) (is_bid : IsBid v.workspace.claim worker.proposal bid) (cells : PlainCellsValue) where
     -- the race is lost to what was won
     lost_is : (o : Outcome) → RacesTo v.cells number bid o cells → lost_of worker.proposal o ≡ find nat_cmp (proposed_name p) worker.won
     lost_is Won r = sym (ap (cell_of (setting_in v) (Some (proposed_name p))) r.0) ∙ k.cells.shown (proposed_name p) number of
@@ -148,21 +149,21 @@ module _ (v : SerialValue) (k : IsSerial v) (p : Proposal) (proposed : v.workspa
         ∙ k.cells.shown (proposed_name p) number of
 
     abbrev Shows : List (ℕ × ℕ) → Type 0
-    Shows won = (name other : ℕ) → IsNumberOf v.heap v.collection name other → cell_of (setting_in v) (Some name) (place_held cells.held other) ≡ find nat_cmp name won
+    Shows won = (name other : ℕ) → HasNumber v.heap v.collection name other → cell_of (setting_in v) (Some name) (place_held cells.held other) ≡ find nat_cmp name won
 
     shown_after : (o : Outcome) → RacesTo v.cells number bid o cells → Shows (won_by worker.won p (lost_of worker.proposal o))
     shown_after (Lost first) r = subst Old (sym r.1) (λ name other x. k.cells.shown name other x)
       where
         Old : PlainCellsValue → Type 0
-        Old c = (name other : ℕ) → IsNumberOf v.heap v.collection name other → cell_of (setting_in v) (Some name) (place_held c.held other) ≡ find nat_cmp name worker.won
+        Old c = (name other : ℕ) → HasNumber v.heap v.collection name other → cell_of (setting_in v) (Some name) (place_held c.held other) ≡ find nat_cmp name worker.won
     shown_after Won r = λ name other x. ⊎_elim (same name other x) (others name other x) (cases_eq name (proposed_name p))
       where
         none : find nat_cmp (proposed_name p) worker.won ≡ None
         none = sym (lost_is Won r)
 
-        same : (name other : ℕ) → IsNumberOf v.heap v.collection name other → name ≡ proposed_name p → cell_of (setting_in v) (Some name) (place_held cells.held other) ≡ find nat_cmp name (worker.won ++ (proposed_name p, proposed_place p) ∷ [])
+        same : (name other : ℕ) → HasNumber v.heap v.collection name other → name ≡ proposed_name p → cell_of (setting_in v) (Some name) (place_held cells.held other) ≡ find nat_cmp name (worker.won ++ (proposed_name p, proposed_place p) ∷ [])
         same name other x e =
-            let y : IsNumberOf v.heap v.collection (proposed_name p) other = subst (λ n. IsNumberOf v.heap v.collection n other) e x in
+            let y : HasNumber v.heap v.collection (proposed_name p) other = subst (λ n. HasNumber v.heap v.collection n other) e x in
             ap (λ n. cell_of (setting_in v) (Some n) (place_held cells.held other)) e
             ∙ ap (λ i. cell_of (setting_in v) (Some (proposed_name p)) (place_held cells.held i)) (one_number other number y of)
             ∙ ap (cell_of (setting_in v) (Some (proposed_name p))) r.1
@@ -170,7 +171,7 @@ module _ (v : SerialValue) (k : IsSerial v) (p : Proposal) (proposed : v.workspa
             ∙ sym (find-new worker.won (proposed_name p) (proposed_place p) none)
             ∙ ap (λ n. find nat_cmp n (worker.won ++ (proposed_name p, proposed_place p) ∷ [])) (sym e)
 
-        others : (name other : ℕ) → IsNumberOf v.heap v.collection name other → name ≢ proposed_name p → cell_of (setting_in v) (Some name) (place_held cells.held other) ≡ find nat_cmp name (worker.won ++ (proposed_name p, proposed_place p) ∷ [])
+        others : (name other : ℕ) → HasNumber v.heap v.collection name other → name ≢ proposed_name p → cell_of (setting_in v) (Some name) (place_held cells.held other) ≡ find nat_cmp name (worker.won ++ (proposed_name p, proposed_place p) ∷ [])
         others name other x ne =
             ap (cell_of (setting_in v) (Some name)) (r.2 other (λ e. ne (sym x.is ∙ ap (slice_index (young_names v.heap.graph v.collection.generation)) e ∙ of.is)))
             ∙ k.cells.shown name other x
@@ -202,8 +203,8 @@ module _ (v : SerialValue) (k : IsSerial v) (p : Proposal) (proposed : v.workspa
         → IsSerial (turned v cells pass v.draws new) × Goes (Race 0) v (turned v cells pass v.draws new)
     raced new r = subst (λ (w : WorkspaceValue). IsSerial (turned v cells pass v.draws w) × Goes (Race 0) v (turned v cells pass v.draws w)) (sym new_is) (kept, went)
       where
-        of : IsNumberOf v.heap v.collection (proposed_name p) r.ends.number
-        of = subst (λ n. IsNumberOf v.heap v.collection n r.ends.number) (ap name_of proposed) r.ends.of
+        of : HasNumber v.heap v.collection (proposed_name p) r.ends.number
+        of = subst (λ n. HasNumber v.heap v.collection n r.ends.number) (ap name_of proposed) r.ends.of
 
         lost : lost_of worker.proposal r.outcome ≡ shown
         lost = lost_is r.ends.number of r.bid r.fits cells r.outcome r.ends.given

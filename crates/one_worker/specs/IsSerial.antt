@@ -12,7 +12,7 @@ use Rattle.workers.specs.WorkerRun.{WorkerRun, History}
 use Rattle.workers.specs.Joined.{Each}
 use Rattle.workers.specs.Ready.{IsHanded}
 use Rattle.scavenge.specs.Slots.{cell_of}
-use Rattle.scavenge.specs.Told.{IsNumberOf}
+use Rattle.heap.specs.Found.{HasNumber}
 use Rattle.one_worker.specs.SerialValue.{SerialValue, lane_of, setting_in, targets_in, destinations_in}
 use Rattle.scavenge.specs.ReadyToCollect.{IsReadyToCollect}
 
@@ -21,7 +21,7 @@ pub record AreForwarded (v : SerialValue) : Type 0 where
   pub fits : IsFit v.cells v.pass
   pub passes : v.cells.passes ≡ 1
   pub count : length v.cells.held ≡ v.collection.cells
-  pub shown : (name number : ℕ) → IsNumberOf v.heap v.collection name number → cell_of (setting_in v) (Some name) (place_held v.cells.held number) ≡ find nat_cmp name v.workspace.worker.won
+  pub shown : (name number : ℕ) → HasNumber v.heap v.collection name number → cell_of (setting_in v) (Some name) (place_held v.cells.held number) ≡ find nat_cmp name v.workspace.worker.won
 
 -- it draws from the free blocks
 pub record AreDrawn (v : SerialValue) : Type 0 where

@@ -62,7 +62,8 @@ fn scavenged<A: Allocator + Clone>(
     ensures collection { IfOk result (λ s. s.collection ≡ collection) }
     ensures settled { IfOk result
         (λ s. IsSettled heap.now s.collection s.places s.blocks.items (all_won s.workers.items)) }
-    ensures scanned { IfOk result (λ s. ScansAlone heap.now collection.generation s.workers.items s.deliveries.items) }
+    ensures scanned { IfOk result
+        (λ s. ScansAlone heap.now collection.generation s.workers.items s.deliveries.items) }
     ensures once { IfOk result (λ s. ScansOnce heap.now collection.generation s.workers.items) }
     ensures full { result ≡ Err CollectError.HeapFull → IsShortOfBlocks heap.now collection.generation }
     ensures stuck { result ≡ Err CollectError.HeapFull → IsStuckAlone heap.now collection.generation }
@@ -88,7 +89,8 @@ pub fn collect_one<A: Allocator + Clone>(
 ) -> Result<Report<A>, CollectError>
     ensures ok { IfOk result
         (λ report. Collects heap.old generation report.kept report.freed report.workers.items heap.new) }
-    ensures alone { IfOk result (λ report. ScansAlone heap.old generation report.workers.items report.deliveries.items) }
+    ensures alone { IfOk result
+        (λ report. ScansAlone heap.old generation report.workers.items report.deliveries.items) }
     ensures no_generation { (result ≡ Err CollectError.NoGeneration) ↔
         (heap.old.config.shape.generations ≤ generation) }
     ensures full { result ≡ Err CollectError.HeapFull → IsShortOfBlocks heap.old generation }

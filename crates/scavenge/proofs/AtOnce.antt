@@ -15,7 +15,8 @@ use Rattle.workers.specs.Block.{Block}
 use Rattle.workers.specs.Setting.{Setting, fits_in, is_collected}
 use Rattle.workers.specs.Worker.{Worker, Proposal, Hand, Nothing, Open, Holding, HoldingLarge}
 use Rattle.workers.specs.WorkerSteps.{current_slot, cell_wanted, collected_target, draw_at, after_look, look_slot, look_at, finish_slot}
-use Rattle.scavenge.specs.Shown.{WorkspaceValue, CanFinish, CanWrite}
+use Rattle.workers.specs.Ready.{CanWrite, CanFinish}
+use Rattle.scavenge.specs.Shown.{WorkspaceValue}
 use Rattle.scavenge.specs.Slots.{seen, Looks, IsTold, cell_of, seat_after}
 
 -- what an object fits in is there

@@ -17,7 +17,8 @@ use Rattle.scavenge.specs.Named.{named, named_copies, named_copy}
 use Rattle.workers.specs.Worker.{Worker, Proposal, Copied, Hand, Nothing, Open, Holding, HoldingLarge}
 use Rattle.workers.specs.WorkerSteps.{finish_first, finish_slot, write_hand, race_of, after_race}
 use Rattle.scavenge.specs.Fronts.{slot_at}
-use Rattle.scavenge.specs.Shown.{IsNoted, AreNoted, HasField, proposal_of, proposal_at, proposed_at, proposed_in, copied_of, unnoted, IsThere, StandsLast, CanFinish, CanWrite, WorkspaceValue, lost_to}
+use Rattle.workers.specs.Ready.{HasField, CanWrite, CanFinish}
+use Rattle.scavenge.specs.Shown.{IsNoted, AreNoted, proposal_of, proposal_at, proposed_at, proposed_in, copied_of, unnoted, IsThere, StandsLast, WorkspaceValue, lost_to}
 use Rattle.scavenge.specs.declared.workspace.proposed.Proposed.{Proposed}
 use Rattle.workers.specs.Joined.{OnSome}
 

@@ -15,7 +15,8 @@ use Rattle.scavenge.specs.Named.{named, named_copies, named_copy}
 use Rattle.workers.specs.Worker.{Proposal}
 use Rattle.workers.specs.Joined.{OnSome}
 use Rattle.scavenge.specs.Fronts.{slot_at}
-use Rattle.scavenge.specs.Shown.{WorkspaceValue, IsNoted, IsUnscanned, CanPass, slots_of}
+use Rattle.workers.specs.Ready.{IsUnscanned, CanPass}
+use Rattle.scavenge.specs.Shown.{WorkspaceValue, IsNoted, slots_of}
 use Rattle.scavenge.specs.Shown.{has_another}
 use Rattle.scavenge.proofs.Fields.{slots-get}
 

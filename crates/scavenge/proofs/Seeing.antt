@@ -9,8 +9,9 @@ use Rattle.workers.specs.Block.{Copy, front_copy}
 use Rattle.workers.specs.Setting.{Setting, old_field}
 use Rattle.workers.specs.Worker.{Worker, Hand, Nothing, Open, Holding, HoldingLarge, allocation_at, current_object, current_in}
 use Rattle.workers.specs.WorkerSteps.{current_slot, slot_of_starts}
-use Rattle.scavenge.specs.Shown.{KnownSlot, Holds, OfLarge, HoldsPointer, CanRead, known_in, known_from, known_slot, copy_in}
-use Rattle.scavenge.specs.Slots.{objects_of, HoldsOld, IsUntouched}
+use Rattle.workers.specs.Ready.{copy_in, HoldsOld, IsUntouched}
+use Rattle.scavenge.specs.Shown.{KnownSlot, Holds, OfLarge, HoldsPointer, CanRead, known_in, known_from, known_slot}
+use Rattle.scavenge.specs.Slots.{objects_of}
 
 -- with the heap all is known
 abbrev pub slot_seen : Setting → KnownSlot → Option (Option ℕ)

@@ -18,7 +18,7 @@ use Rattle.steps.specs.CollectionValue.{CollectionValue, IsOpened, SlotValue, ro
 use Rattle.heap.proofs.SoundHeap.{heap_closed, heap_object}
 use Rattle.workers.specs.Total.{one_if, times}
 use Rattle.workers.specs.Joined.{Each}
-use Rattle.workers.specs.Kept.{LiveOrOlder}
+use Rattle.model.specs.Collected.{IsLiveOrOlder}
 use Rattle.workers.specs.Alone.{HasStarts}
 use Rattle.workers.proofs.Lists.{Each-append}
 use Rattle.workers.proofs.Totals.{total-append}
@@ -83,7 +83,7 @@ module _ (heap : HeapValue) (c : CollectionValue) (r : IsReadyToCollect heap c) 
   below name o is = (heap_object heap r.sound name o is).step.generation
 
   -- what a root leads to is live, or older than what is collected
-  rooted_kept : (name : ℕ) → IsRooted heap.graph name → LiveOrOlder heap.graph c.generation name
+  rooted_kept : (name : ℕ) → IsRooted heap.graph name → IsLiveOrOlder heap.graph c.generation name
   rooted_kept name rooted =
       let there : (o : Object) × (object_at heap.graph name ≡ Some o) = (heap_closed heap r.sound).roots rooted.root name rooted.leads in
       ⊎_elim
@@ -92,26 +92,26 @@ module _ (heap : HeapValue) (c : CollectionValue) (r : IsReadyToCollect heap c) 
       (cases_lt c.generation there.0.generation)
 
   -- what an old slot leads to is live
-  old_kept : (slot : Slot) → Among slot old → LiveOrOlder heap.graph c.generation slot.target
+  old_kept : (slot : Slot) → Among slot old → IsLiveOrOlder heap.graph c.generation slot.target
   old_kept slot at =
       let is : IsOldToYoung heap.graph c.generation slot = (old_slots_exact heap.graph heap.config.shape.generations c.generation slot below).0 (Contains-among old slot at) in
       inl (first (is.young, inr (slot.holder, (slot.field, is.old))))
 
-  pub targets_live : Each (LiveOrOlder heap.graph c.generation) (map target_of_slot c.slots)
+  pub targets_live : Each (IsLiveOrOlder heap.graph c.generation) (map target_of_slot c.slots)
   targets_live =
-      subst (Each (LiveOrOlder heap.graph c.generation)) (sym (slot_targets heap c r.opened))
-      (Each-append (LiveOrOlder heap.graph c.generation) (map (λ (e : ℕ × ℕ). e.1) (entries heap.graph.roots)) (map (λ (s : Slot). s.target) old) of_roots of_old)
+      subst (Each (IsLiveOrOlder heap.graph c.generation)) (sym (slot_targets heap c r.opened))
+      (Each-append (IsLiveOrOlder heap.graph c.generation) (map (λ (e : ℕ × ℕ). e.1) (entries heap.graph.roots)) (map (λ (s : Slot). s.target) old) of_roots of_old)
     where
-      of_roots : Each (LiveOrOlder heap.graph c.generation) (map (λ (e : ℕ × ℕ). e.1) (entries heap.graph.roots))
+      of_roots : Each (IsLiveOrOlder heap.graph c.generation) (map (λ (e : ℕ × ℕ). e.1) (entries heap.graph.roots))
       of_roots =
-          each_map (LiveOrOlder heap.graph c.generation) (λ (e : ℕ × ℕ). e.1) (entries heap.graph.roots)
-          (each_at (λ (e : ℕ × ℕ). LiveOrOlder heap.graph c.generation e.1) (entries heap.graph.roots) (0, 0) (λ k lt. rooted_kept _ (record {
+          each_map (IsLiveOrOlder heap.graph c.generation) (λ (e : ℕ × ℕ). e.1) (entries heap.graph.roots)
+          (each_at (λ (e : ℕ × ℕ). IsLiveOrOlder heap.graph c.generation e.1) (entries heap.graph.roots) (0, 0) (λ k lt. rooted_kept _ (record {
             root = (get_or (entries heap.graph.roots) k (0, 0)).0;
             leads = get-entries heap.graph.roots (get_or (entries heap.graph.roots) k (0, 0)).0 ∙ find_entry 0 (entries heap.graph.roots) k (0, 0) (entries-rise heap.graph.roots) lt;
           })))
 
-      of_old : Each (LiveOrOlder heap.graph c.generation) (map (λ (s : Slot). s.target) old)
-      of_old = each_map (LiveOrOlder heap.graph c.generation) (λ (s : Slot). s.target) old (each_among (λ (s : Slot). LiveOrOlder heap.graph c.generation s.target) old old_kept)
+      of_old : Each (IsLiveOrOlder heap.graph c.generation) (map (λ (s : Slot). s.target) old)
+      of_old = each_map (IsLiveOrOlder heap.graph c.generation) (λ (s : Slot). s.target) old (each_among (λ (s : Slot). IsLiveOrOlder heap.graph c.generation s.target) old old_kept)
 
   pub has_starts : HasStarts heap.graph c.generation (map target_of_slot c.slots)
   has_starts target is =

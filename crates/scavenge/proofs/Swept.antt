@@ -6,7 +6,8 @@ use Rattle.block_pool.specs.BlockValue.{BlockValue}
 use Rattle.workers.specs.Worker.{Holding}
 use Rattle.scavenge.specs.Named.{named}
 use Rattle.scavenge.specs.Fronts.{slot_at}
-use Rattle.scavenge.specs.Shown.{WorkspaceValue, CanFinish, CanWrite, HasField, AreNoted, held_in}
+use Rattle.workers.specs.Ready.{HasField, CanWrite, CanFinish}
+use Rattle.scavenge.specs.Shown.{WorkspaceValue, AreNoted, held_in}
 use Rattle.scavenge.specs.Swept.{with_block}
 use Rattle.scavenge.specs.declared.workspace.hand.Hand.{Hand as InHand}
 use Rattle.scavenge.specs.declared.workspace.hand.Hand.TheVariants as in_hand

@@ -1,11 +1,10 @@
 -- What stays what was won while a worker goes on.
-use Rattle.std.proofs.Common.{◌≡◌, ◌≢◌, ℕ, cond, List, [], ◌∷◌, ◌++◌, Option, Some, None, refl, sym, ◌∙◌, true≢false, Bool, true, false}
+use Rattle.std.proofs.Common.{◌≡◌, ℕ, cond, List, [], ◌∷◌, ◌++◌, Option, Some, None, refl, sym, ◌∙◌, true≢false, Bool, true, false}
 use Rattle.std.specs.Prelude.{IsSome}
 use Rattle.workers.specs.Worker.{Worker, Hand, Nothing, Open, Holding, HoldingLarge, allocation_at, current_object}
 use Rattle.workers.specs.WorkerSteps.{write_hand, finish_first, finish_slot, after_own_large, claim_first, after_scan, log_scan, scan_hand, scan_open}
 use Rattle.std.specs.Option.{option_and_then}
 use Rattle.workers.specs.Block.{Block, has_unscanned, with_front_moved}
-use Rattle.workers.specs.WorkerRun.{go}
 
 pub some_there : {A : Type 0} (o : Option A) → IsSome o → (x : A) × (o ≡ Some x)
 some_there None e = absurd (true≢false (sym e))

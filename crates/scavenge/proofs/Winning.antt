@@ -21,7 +21,8 @@ use Rattle.workers.specs.WorkerSteps.{finish_slot, race_of}
 use Rattle.workers.proofs.Lists.{at-updated_same, at-updated_other, get-append, get-lt}
 use Rattle.scavenge.specs.Named.{named, named_copies, named_copy}
 use Rattle.scavenge.specs.declared.workspace.proposed.Proposed.{Proposed}
-use Rattle.scavenge.specs.Shown.{WorkspaceValue, IsNoted, AreNoted, HasField, CanFinish, CanWrite, proposal_of, proposal_at, IsBid, name_of}
+use Rattle.workers.specs.Ready.{HasField, CanWrite, CanFinish}
+use Rattle.scavenge.specs.Shown.{WorkspaceValue, IsNoted, AreNoted, proposal_of, proposal_at, IsBid, name_of}
 use Rattle.scavenge.proofs.Fields.{Last, last_there, over, raced}
 
 -- the proposal is this one

@@ -11,7 +11,8 @@ use Rattle.workers.specs.Worker.{Worker, Copied, allocation_at}
 use Rattle.workers.specs.WorkerSteps.{current_slot, draws_for}
 use Rattle.scavenge.specs.Shown.{WorkspaceValue}
 use Rattle.scavenge.specs.Slots.{seen, objects_of, Proposes, Looks}
-use Rattle.scavenge.specs.Told.{IsNumberOf, Races}
+use Rattle.heap.specs.Found.{HasNumber}
+use Rattle.scavenge.specs.Told.{Races}
 
 -- a copy of the object can't go where the last copies stand: it is large, or a block is wanted for it
 abbrev pub WantsMore : Setting → Worker → ℕ → Type 0
@@ -22,7 +23,7 @@ pub record IsUncopied (heap : HeapValue) (c : CollectionValue) (gives : ℕ → 
   pub name : ℕ
   pub number : ℕ
   pub slot : current_slot (seen heap c) w ≡ Some (Some name)
-  pub of : IsNumberOf heap c name number
+  pub of : HasNumber heap c name number
   pub given : gives number None
   pub wants : WantsMore (objects_of heap) w name
 

@@ -1,5 +1,5 @@
 -- Blocks as queues hand them over in a collection.
-use Rattle.std.specs.Prelude.{◌≡◌, ℕ, refl}
+use Rattle.std.specs.Prelude.{ℕ, refl}
 use Rattle.std.specs.Coded.{Coded, code_by, coded×, coded_ℕ}
 use Rattle.block_pool.specs.BlockValue.{BlockValue}
 use Rattle.steps.specs.HeapValue.{HeapValue, heap_code}

@@ -13,6 +13,7 @@ pub mod ReadyToCollect
 pub mod Codes
 pub mod Waiting
 pub mod Slots
+pub mod MayStep
 pub mod Evacuates
 -- A worker that is opened for a sweep.
 pub mod Swept

@@ -8,7 +8,7 @@ use Rattle.layout.specs.Object.{Raw}
 use Rattle.layout.specs.Place.{place_word, small_word}
 use Rattle.block_pool.specs.BlockValue.{BlockValue, offset_of}
 use Rattle.steps.specs.Words.{target_of_word}
-use Rattle.workers.specs.Block.{Block, Copy, front_copy, has_unscanned, used_words}
+use Rattle.workers.specs.Block.{Block, Copy, used_words}
 use Rattle.workers.specs.Worker.{Worker, Proposal, Copied, Claimed, Hand, Nothing, Open, Holding, HoldingLarge, allocation_at}
 use Rattle.workers.specs.WorkerRun.{proposed_name}
 use Rattle.workers.specs.Joined.{Each, OnSome}
@@ -19,6 +19,7 @@ use Rattle.scavenge.specs.declared.workspace.current.Current.TheVariants as curr
 use Rattle.scavenge.specs.declared.workspace.hand.Hand.{Hand as InHand}
 use Rattle.scavenge.specs.declared.workspace.hand.Hand.TheVariants as in_hand
 use Rattle.scavenge.specs.declared.workspace.proposed.Proposed.{Proposed}
+use Rattle.workers.specs.Ready.{copy_in}
 
 -- a worker and the sizes of its heap
 pub record WorkspaceValue : Type 0 where
@@ -115,22 +116,6 @@ pub record AreMade (config : Config) (slots : List (Option BlockValue)) (aside d
   pub in_done : Each (IsMade config) done
   pub in_hand : OnSome (IsMade config) held
 
--- what is in hand has a pointer with this number
-abbrev pub HasField : ℕ → Option Block → Type 0
-HasField i None = ⊥
-HasField i (Some block) = (copy : Copy) × (front_copy block ≡ Some copy) × (i < length copy.pointers)
-
-abbrev pub CanWrite : Worker → Hand → Type 0
-CanWrite w Nothing = ⊥
-CanWrite w (Open d) = HasField w.fields (allocation_at w d)
-CanWrite w (Holding block) = HasField w.fields (Some block)
-CanWrite w (HoldingLarge name) = Unit {0}
-
--- the worker has a slot that it may finish
-abbrev pub CanFinish : Worker → List ℕ → Type 0
-CanFinish w [] = CanWrite w w.hand
-CanFinish w (target ∷ targets) = Unit {0}
-
 -- the blocks begin with this one
 pub record Begins (shape : Shape) (blocks : List Block) (block : BlockValue) : Type 0 where
   pub rest : List Block
@@ -169,30 +154,12 @@ lost_to place None = place
 lost_to place (Some (Copied copy d)) = place
 lost_to place (Some (Claimed name)) = name
 
--- what is in hand has something unscanned
-abbrev pub IsUnscanned : Option Block → Type 0
-IsUnscanned None = ⊥
-IsUnscanned (Some block) = has_unscanned block ≡ true
-
-abbrev pub CanPass : Worker → Hand → Type 0
-CanPass w Nothing = ⊥
-CanPass w (Open d) = IsUnscanned (allocation_at w d)
-CanPass w (Holding block) = IsUnscanned (Some block)
-CanPass w (HoldingLarge name) = Unit {0}
-
 -- whether a block is in hand in which another object is unscanned behind the first one
 abbrev pub has_another : Hand → Bool
 has_another Nothing = false
 has_another (Open d) = false
 has_another (Holding block) = nat_lt (block.front + 1) (length block.copies)
 has_another (HoldingLarge name) = false
-
--- the copy that is current
-abbrev pub copy_in : Worker → Hand → Option Copy
-copy_in w Nothing = None
-copy_in w (Open d) = option_and_then front_copy (allocation_at w d)
-copy_in w (Holding block) = front_copy block
-copy_in w (HoldingLarge name) = None
 
 -- the current slot, as far as the worker itself knows it: what it holds, or which pointer of a large object it is
 pub data KnownSlot : Type 0 where

@@ -1,17 +1,15 @@
 -- What the slots of a worker hold, and what a look changes.
-use Rattle.std.specs.Prelude.{◌≡◌, ℕ, ◌<◌, Bool, true, false, [], ◌∷◌, ◌++◌, length, Option, Some, None, slice_get, if◌then◌else◌}
+use Rattle.std.specs.Prelude.{◌≡◌, ℕ, Bool, true, false, [], ◌∷◌, ◌++◌, Option, Some, None, if◌then◌else◌}
 use Rattle.std.specs.Option.{option_map}
 use Rattle.layout.specs.declared.place.Place.{Place}
 use Rattle.layout.specs.Place.{place_word}
 use Rattle.block_pool.specs.ClaimsValue.{SeatValue}
 use Rattle.heap.specs.HeapValue.{HeapValue}
 use Rattle.heap.specs.CollectionValue.{CollectionValue}
-use Rattle.workers.specs.Block.{Copy}
-use Rattle.workers.specs.Setting.{Setting, setting_of, old_field, is_collected, destination_of, destination_number, is_large_name}
-use Rattle.workers.specs.Worker.{Worker}
+use Rattle.workers.specs.Setting.{Setting, setting_of, destination_of, destination_number, is_large_name}
 use Rattle.workers.specs.WorkerSteps.{cell_wanted, draw_wanted, draws_for, with_new_block, look_at, after_look}
 use Rattle.scavenge.specs.Named.{IsDestination}
-use Rattle.scavenge.specs.Shown.{WorkspaceValue, copy_in}
+use Rattle.scavenge.specs.Shown.{WorkspaceValue}
 use Rattle.scavenge.specs.Told.{Tells}
 
 -- what workers see of a heap that is collected; how many they are is of no account to a step
@@ -21,19 +19,6 @@ seen heap c = setting_of heap.graph c.generation heap.config.shape heap.config.b
 -- the same, for what asks for the objects alone
 abbrev pub objects_of : HeapValue → Setting
 objects_of heap = setting_of heap.graph 0 heap.config.shape heap.config.block_words 0
-
--- pointer i of the copy holds what it held in the original
-abbrev pub HoldsOld : Setting → ℕ → Option Copy → Type 0
-HoldsOld setting i None = Unit {0}
-HoldsOld setting i (Some copy) = slice_get copy.pointers i ≡ old_field setting copy.name i
-
--- the current slot of a copy is as it was in the original
-abbrev pub IsUntouched : Setting → Worker → Type 0
-IsUntouched setting w = HoldsOld setting w.fields (copy_in w w.hand)
-
--- each destination of what is collected has its place
-abbrev pub HasRoomFor : Setting → Worker → Type 0
-HasRoomFor setting w = (name : ℕ) → is_collected setting name ≡ true → destination_of setting name < length w.allocation
 
 -- the small object with this name goes to this destination, which has this number
 pub record GoesTo (heap : HeapValue) (name : ℕ) (to : ℕ × ℕ) (d : ℕ) : Type 0 where

@@ -1,20 +1,16 @@
 -- What the cells tell a worker of a name.
-use Rattle.std.specs.Prelude.{◌≡◌, ℕ, ◌<◌, List, slice_index, Option, Some, None}
+use Rattle.std.specs.Prelude.{◌≡◌, ℕ, List, Option, Some, None}
 use Rattle.layout.specs.declared.place.Place.{Place}
 use Rattle.layout.specs.Place.{place_word}
 use Rattle.heap.specs.HeapValue.{HeapValue}
 use Rattle.workers.specs.Worker.{Proposal}
 use Rattle.workers.specs.WorkerSteps.{after_race}
 use Rattle.scavenge.specs.Shown.{WorkspaceValue, IsBid, lost_to, name_of}
-use Rattle.heap.specs.CollectionValue.{CollectionValue, young_names}
+use Rattle.heap.specs.CollectionValue.{CollectionValue}
 use Rattle.forwarding.specs.declared.cells.outcome.Outcome.{Outcome}
 use Rattle.forwarding.specs.declared.cells.outcome.Outcome.TheVariants.{Won, Lost}
 use Rattle.forwarding.specs.Learned.{Learns, RaceEnds, place_after}
-
--- the name's number in the collection
-pub record IsNumberOf (heap : HeapValue) (c : CollectionValue) (name number : ℕ) : Type 0 where
-  pub in_range : number < c.cells
-  pub is : slice_index (young_names heap.graph c.generation) number ≡ name
+use Rattle.heap.specs.Found.{HasNumber}
 
 -- what was known is known still
 abbrev pub StillKnows : (ℕ → Option Place) → (ℕ → Option Place) → Type 0
@@ -23,14 +19,14 @@ StillKnows old new = (number : ℕ) (place : Place) → old number ≡ Some plac
 -- a look told the pass this of the name, and the cells give it so
 pub record Tells (heap : HeapValue) (c : CollectionValue) (gives : ℕ → Option Place → Type 0) (old new : ℕ → Option Place) (name : ℕ) (shown : Option Place) : Type 0 where
   pub number : ℕ
-  pub of : IsNumberOf heap c name number
+  pub of : HasNumber heap c name number
   pub given : gives number shown
   pub learns : Learns old new number shown
 
 -- a race with this place told the pass how it ended, and the cells give it so
 pub record Ends (heap : HeapValue) (c : CollectionValue) (gives : ℕ → Place → Outcome → Type 0) (old new : ℕ → Option Place) (old_won new_won : List (ℕ × Place)) (name : ℕ) (place : Place) (o : Outcome) : Type 0 where
   pub number : ℕ
-  pub of : IsNumberOf heap c name number
+  pub of : HasNumber heap c name number
   pub given : gives number place o
   pub learns : Learns old new number (Some (place_after o place))
   pub won : RaceEnds (old number) old_won new_won number place o

@@ -1,13 +1,11 @@
 //! The current slot's object is evacuated: looked at, and copied and raced for at once.
-ghost use Rattle.std.specs.Prelude.{◌≡◌, ◌<◌, ◌≤◌, ◌≢◌, None, IsSome};
-ghost use Rattle.model.specs.Graph.{IsClosed};
+ghost use Rattle.std.specs.Prelude.{◌≡◌, ◌≤◌, ◌≢◌, ◌⊎◌, None, IsSome};
 ghost use Rattle.block_pool.specs.ClaimsValue.{SeatValue};
-ghost use Rattle.heap.specs.CollectionValue.{IsOpened, young_names};
-ghost use Rattle.heap.specs.NamesArePlaces.{NamesArePlaces};
+ghost use Rattle.forwarding.specs.KeepsPasses.{KeepsPasses};
+ghost use Rattle.heap.specs.CollectionValue.{young_names};
 ghost use Rattle.workers.specs.WorkerSteps.{current_slot};
-ghost use Rattle.scavenge.specs.Shown.{CanFinish};
-ghost use Rattle.scavenge.specs.Slots.{seen, IsUntouched, Looks};
-ghost use Rattle.scavenge.specs.Told.{StillKnows};
+ghost use Rattle.scavenge.specs.Slots.{seen, Looks};
+ghost use Rattle.scavenge.specs.MayStep.{IsOpenFor, MayLook, OnlyLooks};
 ghost use Rattle.scavenge.specs.Evacuates.{IsLeft, LooksAndRaces};
 ghost use Rattle.scavenge.specs.declared.evacuating.Evacuated.TheVariants.{Left, NoSlot, Looked, Raced};
 
@@ -44,33 +42,18 @@ pub fn evacuate<A: Allocator + Clone, C: Cells>(
     cells: &mut C,
     pass: &mut C::Pass,
 ) -> Evacuated
-    requires opened { IsOpened heap.now collection.now.generation collection.now }
-    requires closed { IsClosed heap.now.graph }
-    requires places { NamesArePlaces heap.now.graph }
-    requires config { workspace.old.config ≡ heap.now.config }
+    requires open { IsOpenFor heap.now collection.now workspace.old }
     requires names { workspace.old.names ≡ young_names heap.now.graph collection.now.generation }
-    requires proposal { workspace.old.worker.proposal ≡ None }
-    requires slot { IsSome (current_slot (seen heap.now collection.now) workspace.old.worker) →
-        CanFinish workspace.old.worker workspace.old.worker.starts }
-    requires few { workspace.old.worker.fields < 4294967296 }
-    requires untouched { IsUntouched (seen heap.now collection.now) workspace.old.worker }
-    requires pass { C.fits cells.old pass.old }
-    requires limit { collection.now.cells ≤ C.limit cells.old }
-    ensures pass { C.fits cells.new pass.new }
-    ensures others { (other : C.Pass) → C.apart pass.old other → C.fits cells.old other → C.fits cells.new other }
-    ensures home { (other : C) → C.at_home other pass.old → C.at_home other pass.new }
-    ensures apart { (other : C.Pass) → C.apart pass.old other → C.apart pass.new other }
-    ensures apart_back { (other : C.Pass) → C.apart other pass.old → C.apart other pass.new }
-    ensures limit { C.limit cells.new ≡ C.limit cells.old }
-    ensures cells { result ≢ Raced → cells.new ≡ cells.old }
-    ensures won { result ≢ Raced → C.won pass.new ≡ C.won pass.old }
-    ensures lasts { result ≢ Raced → StillKnows (C.known pass.old) (C.known pass.new) }
-    ensures left { result ≡ Left → workspace.new ≡ workspace.old }
-    ensures left_why { result ≡ Left → IsLeft heap.now collection.now (C.look_gives cells.old) workspace.old.worker }
-    ensures none { result ≡ NoSlot → workspace.new ≡ workspace.old }
-    ensures no_slot { result ≡ NoSlot → current_slot (seen heap.now collection.now) workspace.old.worker ≡ None }
-    ensures looked_slot { result ≡ Looked → IsSome (current_slot (seen heap.now collection.now) workspace.old.worker) }
-    ensures raced_slot { result ≡ Raced → IsSome (current_slot (seen heap.now collection.now) workspace.old.worker) }
+    requires worker { MayLook heap.now collection.now workspace.old }
+    requires cells { C.fits cells.old pass.old × (collection.now.cells ≤ C.limit cells.old) }
+    ensures keeps { KeepsPasses C.limit C.fits C.at_home C.apart cells.old pass.old cells.new pass.new }
+    ensures looks { result ≢ Raced → OnlyLooks C.won C.known cells.old pass.old cells.new pass.new }
+    ensures left { result ≡ Left → (workspace.new ≡ workspace.old) ×
+        IsLeft heap.now collection.now (C.look_gives cells.old) workspace.old.worker }
+    ensures none { result ≡ NoSlot → (workspace.new ≡ workspace.old) ×
+        (current_slot (seen heap.now collection.now) workspace.old.worker ≡ None) }
+    ensures slot { (result ≡ Looked) ⊎ (result ≡ Raced) →
+        IsSome (current_slot (seen heap.now collection.now) workspace.old.worker) }
     ensures looked { result ≡ Looked → (seat : SeatValue) →
         Looks heap.now collection.now (C.look_gives cells.old) (C.known pass.old)
         (C.known pass.new) seat seat workspace.old workspace.new }

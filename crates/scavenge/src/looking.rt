@@ -1,20 +1,17 @@
 //! A look at the current slot.
-ghost use Rattle.std.specs.Prelude.{◌≡◌, ◌<◌, ◌≤◌, ◌↔◌, ◌++◌, ◌∷◌, [], ℕ, true, false, Some, None, Ok, Err, IsSome, IsSomeAnd, MatchOption, OnErr, if◌then◌else◌};
-ghost use Rattle.std.specs.List.{All, Contains};
+ghost use Rattle.std.specs.Prelude.{◌≡◌, ◌≤◌, ◌↔◌, true, false, Some, None, Ok, Err, IsSomeAnd, MatchOption, OnErr, if◌then◌else◌};
 ghost use Rattle.model.specs.Graph.{IsClosed, object_at};
 ghost use Rattle.layout.specs.Place.{place_word};
 ghost use Rattle.layout.specs.ObjectRef.{raw_of};
-ghost use Rattle.block_pool.specs.ClaimsValue.{IsSeatOf};
-ghost use Rattle.block_pool.specs.Drawn.{times_in};
+ghost use Rattle.forwarding.specs.KeepsPasses.{KeepsPasses};
 ghost use Rattle.heap.specs.CollectionValue.{IsOpened};
 ghost use Rattle.heap.specs.Found.{IsFound};
-ghost use Rattle.heap.specs.NamesArePlaces.{NamesArePlaces};
 ghost use Rattle.heap.specs.Words.{IsShownAs};
 ghost use Rattle.workers.specs.Setting.{is_large_name};
 ghost use Rattle.workers.specs.WorkerSteps.{current_slot};
-ghost use Rattle.scavenge.specs.Shown.{CanFinish};
-ghost use Rattle.scavenge.specs.Told.{StillKnows};
-ghost use Rattle.scavenge.specs.Slots.{seen, objects_of, IsUntouched, HasRoomFor, Looks, WantsBlock};
+ghost use Rattle.workers.specs.Joined.{Roomy};
+ghost use Rattle.scavenge.specs.Slots.{seen, objects_of, Looks, WantsBlock};
+ghost use Rattle.scavenge.specs.MayStep.{IsOpenFor, MayLook, MayDraw, OnlyLooks, Draws, FindsNone};
 
 use crate::proposing::propose;
 use crate::slots::slot;
@@ -98,40 +95,21 @@ pub fn look<A: Allocator + Clone, C: Cells>(
     claims: &Claims<A>,
     seat: &mut ClaimSeat,
 ) -> Result<bool, LookError>
-    requires opened { IsOpened heap.now collection.now.generation collection.now }
-    requires closed { IsClosed heap.now.graph }
-    requires places { NamesArePlaces heap.now.graph }
-    requires config { workspace.old.config ≡ heap.now.config }
-    requires proposal { workspace.old.worker.proposal ≡ None }
-    requires slot { IsSome (current_slot (seen heap.now collection.now) workspace.old.worker) →
-        CanFinish workspace.old.worker workspace.old.worker.starts }
-    requires few { workspace.old.worker.fields < 4294967296 }
-    requires untouched { IsUntouched (seen heap.now collection.now) workspace.old.worker }
-    requires room { HasRoomFor (seen heap.now collection.now) workspace.old.worker }
-    requires pass { C.fits cells.old pass.old }
-    requires limit { collection.now.cells ≤ C.limit cells.old }
-    requires seat { IsSeatOf claims.now.source seat.old }
-    requires numbers { All (λ number. number < 65535) claims.now.source.free }
-    ensures cells { cells.new ≡ cells.old }
-    ensures pass { C.fits cells.new pass.new }
-    ensures home { (other : C) → C.at_home other pass.old → C.at_home other pass.new }
-    ensures apart { (other : C.Pass) → C.apart pass.old other → C.apart pass.new other }
-    ensures apart_back { (other : C.Pass) → C.apart other pass.old → C.apart other pass.new }
-    ensures won { C.won pass.new ≡ C.won pass.old }
-    ensures lasts { StillKnows (C.known pass.old) (C.known pass.new) }
-    ensures seat { IsSeatOf claims.now.source seat.new }
-    ensures fresh { (n : ℕ) → seat.new.drawn ≡ seat.old.drawn ++ n ∷ [] →
-        Contains claims.now.source.free n × ¬ Contains seat.old.drawn n }
+    requires open { IsOpenFor heap.now collection.now workspace.old }
+    requires worker { MayLook heap.now collection.now workspace.old }
+    requires room { Roomy (seen heap.now collection.now) workspace.old.worker }
+    requires cells { C.fits cells.old pass.old × (collection.now.cells ≤ C.limit cells.old) }
+    requires draws { MayDraw claims.now.source seat.old }
+    ensures keeps { KeepsPasses C.limit C.fits C.at_home C.apart cells.old pass.old cells.new pass.new }
+    ensures looks { OnlyLooks C.won C.known cells.old pass.old cells.new pass.new }
+    ensures draws { Draws claims.now.source seat.old seat.new }
     ensures none { (result ≡ Ok false) ↔ (current_slot (seen heap.now collection.now) workspace.old.worker ≡ None) }
     ensures nothing { result ≡ Ok false →
         (workspace.new ≡ workspace.old) × (pass.new ≡ pass.old) × (seat.new ≡ seat.old) }
     ensures ok { result ≡ Ok true →
         Looks heap.now collection.now (C.look_gives cells.old) (C.known pass.old)
         (C.known pass.new) seat.old seat.new workspace.old workspace.new }
-    ensures full { result ≡ Err LookError.HeapFull → seat.new ≡ record seat.old { out = true } }
-    ensures used_up { result ≡ Err LookError.HeapFull → claims.now.source.seats ≡ 1 → (x : ℕ) →
-        times_in x seat.old.drawn ≡ times_in x claims.now.source.free }
-    ensures wanted { result ≡ Err LookError.HeapFull →
+    ensures full { result ≡ Err LookError.HeapFull → FindsNone claims.now.source seat.old seat.new ×
         WantsBlock heap.now collection.now (C.look_gives cells.old) (C.known pass.old)
         (C.known pass.new) workspace.old }
     ensures memory { result ≡ Err LookError.NoMemory → seat.new ≡ seat.old }

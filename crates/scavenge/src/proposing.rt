@@ -1,18 +1,16 @@
 //! What a worker proposes that looked at an empty cell.
-ghost use Rattle.std.specs.Prelude.{◌≡◌, ◌<◌, ◌++◌, ◌∷◌, [], ℕ, true, false, Some, Err, IsSomeAnd, MatchOption, OnOk, OnErr, length};
-ghost use Rattle.std.specs.List.{All, Contains};
+ghost use Rattle.std.specs.Prelude.{◌≡◌, ◌<◌, true, false, Some, Err, IsSomeAnd, MatchOption, OnOk, OnErr, length};
 ghost use Rattle.std.specs.Option.{option_map};
 ghost use Rattle.model.specs.Graph.{object_at};
 ghost use Rattle.layout.specs.Place.{place_word};
 ghost use Rattle.layout.specs.ObjectRef.{raw_of};
-ghost use Rattle.block_pool.specs.ClaimsValue.{IsSeatOf};
-ghost use Rattle.block_pool.specs.Drawn.{times_in};
 ghost use Rattle.heap.specs.StepPairs.{step_pair, stands_at};
 ghost use Rattle.heap.specs.Words.{IsShownAs};
 ghost use Rattle.workers.specs.Setting.{is_large_name, destination_of, destination_number};
 ghost use Rattle.workers.specs.WorkerSteps.{draws_for};
 ghost use Rattle.scavenge.specs.Named.{IsDestination};
 ghost use Rattle.scavenge.specs.Slots.{objects_of, Renews, Proposes, GoesTo};
+ghost use Rattle.scavenge.specs.MayStep.{MayDraw, Draws, FindsNone};
 ghost use Rattle.scavenge.specs.Evacuates.{WantsMore, ProposesThere};
 
 use crate::looking::LookError;
@@ -80,20 +78,15 @@ fn draw_block<A: Allocator + Clone>(
     claims: &Claims<A>,
     seat: &mut ClaimSeat,
 ) -> Result<(), LookError>
-    requires seat { IsSeatOf claims.now.source seat.old }
-    requires numbers { All (λ number. number < 65535) claims.now.source.free }
+    requires draws { MayDraw claims.now.source seat.old }
     requires config { workspace.old.config ≡ heap.now.config }
     requires proposal { workspace.old.worker.proposal ≡ None }
     requires room { d < length workspace.old.worker.allocation }
     requires to { IsDestination workspace.old.config.shape (to.generation, to.step) }
     requires number { d ≡ destination_number workspace.old.config.shape (to.generation, to.step) }
-    ensures seat { IsSeatOf claims.now.source seat.new }
-    ensures fresh { (n : ℕ) → seat.new.drawn ≡ seat.old.drawn ++ n ∷ [] →
-        Contains claims.now.source.free n × ¬ Contains seat.old.drawn n }
+    ensures draws { Draws claims.now.source seat.old seat.new }
     ensures ok { OnOk result (Renews d seat.old seat.new workspace.old workspace.new) }
-    ensures full { result ≡ Err LookError.HeapFull → seat.new ≡ record seat.old { out = true } }
-    ensures used_up { result ≡ Err LookError.HeapFull → claims.now.source.seats ≡ 1 → (x : ℕ) →
-        times_in x seat.old.drawn ≡ times_in x claims.now.source.free }
+    ensures full { result ≡ Err LookError.HeapFull → FindsNone claims.now.source seat.old seat.new }
     ensures memory { result ≡ Err LookError.NoMemory → seat.new ≡ seat.old }
     ensures err { OnErr result (workspace.new ≡ workspace.old) }
 {
@@ -123,16 +116,11 @@ pub(crate) fn propose<A: Allocator + Clone>(
     requires shown { IsSomeAnd (object_at heap.now.graph (place_word name)) (λ o. IsShownAs o (raw_of found.object)) }
     requires stands { Some (step_pair found.at) ≡ option_map stands_at (object_at heap.now.graph (place_word name)) }
     requires room { destination_of (objects_of heap.now) (place_word name) < length workspace.old.worker.allocation }
-    requires seat { IsSeatOf claims.now.source seat.old }
-    requires numbers { All (λ number. number < 65535) claims.now.source.free }
-    ensures seat { IsSeatOf claims.now.source seat.new }
-    ensures fresh { (n : ℕ) → seat.new.drawn ≡ seat.old.drawn ++ n ∷ [] →
-        Contains claims.now.source.free n × ¬ Contains seat.old.drawn n }
+    requires draws { MayDraw claims.now.source seat.old }
+    ensures draws { Draws claims.now.source seat.old seat.new }
     ensures ok { OnOk result
         (Proposes (objects_of heap.now) (place_word name) seat.old seat.new workspace.old workspace.new) }
-    ensures full { result ≡ Err LookError.HeapFull → seat.new ≡ record seat.old { out = true } }
-    ensures used_up { result ≡ Err LookError.HeapFull → claims.now.source.seats ≡ 1 → (x : ℕ) →
-        times_in x seat.old.drawn ≡ times_in x claims.now.source.free }
+    ensures full { result ≡ Err LookError.HeapFull → FindsNone claims.now.source seat.old seat.new }
     ensures wanted { result ≡ Err LookError.HeapFull →
         draws_for (objects_of heap.now) workspace.old.worker (place_word name) ≡ true }
     ensures memory { result ≡ Err LookError.NoMemory → seat.new ≡ seat.old }

@@ -1,8 +1,10 @@
 //! Races for what a worker proposes.
-ghost use Rattle.std.specs.Prelude.{◌≡◌, ◌<◌, ◌≤◌, IsSome, OnOk, OnErr, length, slice_index};
+ghost use Rattle.std.specs.Prelude.{◌≡◌, ◌<◌, ◌≤◌, OnOk, OnErr, length, slice_index};
 ghost use Rattle.model.specs.Live.{IsYoung};
+ghost use Rattle.forwarding.specs.KeepsPasses.{KeepsPasses};
 ghost use Rattle.heap.specs.CollectionValue.{IsOpened, young_names};
-ghost use Rattle.scavenge.specs.Shown.{CanFinish, name_of};
+ghost use Rattle.scavenge.specs.Shown.{name_of};
+ghost use Rattle.scavenge.specs.MayStep.{MayRace};
 ghost use Rattle.scavenge.specs.Told.{Races, RacesAt};
 
 use crate::workspace::Workspace;
@@ -18,19 +20,12 @@ pub(crate) fn race_for<A: Allocator, C: Cells>(
     pass: &mut C::Pass,
     number: u32,
 ) -> Result<(), AllocError>
-    requires proposal { IsSome workspace.old.worker.proposal }
-    requires slot { CanFinish workspace.old.worker workspace.old.worker.starts }
-    requires few { workspace.old.worker.fields < 4294967296 }
+    requires worker { MayRace workspace.old }
     requires pass { C.fits cells.old pass.old }
     requires number { number < C.limit cells.old }
     requires known { number < length workspace.old.names }
     requires name { slice_index workspace.old.names number ≡ name_of workspace.old.worker.proposal }
-    ensures pass { C.fits cells.new pass.new }
-    ensures others { (other : C.Pass) → C.apart pass.old other → C.fits cells.old other → C.fits cells.new other }
-    ensures home { (other : C) → C.at_home other pass.old → C.at_home other pass.new }
-    ensures apart { (other : C.Pass) → C.apart pass.old other → C.apart pass.new other }
-    ensures apart_back { (other : C.Pass) → C.apart other pass.old → C.apart other pass.new }
-    ensures limit { C.limit cells.new ≡ C.limit cells.old }
+    ensures keeps { KeepsPasses C.limit C.fits C.at_home C.apart cells.old pass.old cells.new pass.new }
     ensures ok { OnOk result
         (RacesAt number (λ number at outcome. C.race_gives cells.old number at outcome cells.new) (C.known pass.old)
         (C.known pass.new) (C.won pass.old) (C.won pass.new) workspace.old workspace.new) }
@@ -61,18 +56,10 @@ pub fn race<A: Allocator + Clone, C: Cells>(
 ) -> Result<(), AllocError>
     requires opened { IsOpened heap.now collection.now.generation collection.now }
     requires names { workspace.old.names ≡ young_names heap.now.graph collection.now.generation }
-    requires proposal { IsSome workspace.old.worker.proposal }
+    requires worker { MayRace workspace.old }
     requires young { IsYoung heap.now.graph collection.now.generation (name_of workspace.old.worker.proposal) }
-    requires slot { CanFinish workspace.old.worker workspace.old.worker.starts }
-    requires few { workspace.old.worker.fields < 4294967296 }
-    requires pass { C.fits cells.old pass.old }
-    requires limit { collection.now.cells ≤ C.limit cells.old }
-    ensures pass { C.fits cells.new pass.new }
-    ensures others { (other : C.Pass) → C.apart pass.old other → C.fits cells.old other → C.fits cells.new other }
-    ensures home { (other : C) → C.at_home other pass.old → C.at_home other pass.new }
-    ensures apart { (other : C.Pass) → C.apart pass.old other → C.apart pass.new other }
-    ensures apart_back { (other : C.Pass) → C.apart other pass.old → C.apart other pass.new }
-    ensures limit { C.limit cells.new ≡ C.limit cells.old }
+    requires cells { C.fits cells.old pass.old × (collection.now.cells ≤ C.limit cells.old) }
+    ensures keeps { KeepsPasses C.limit C.fits C.at_home C.apart cells.old pass.old cells.new pass.new }
     ensures ok { OnOk result
         (Races heap.now collection.now (λ number at outcome. C.race_gives cells.old number at outcome cells.new)
         (C.known pass.old) (C.known pass.new) (C.won pass.old) (C.won pass.new) workspace.old workspace.new) }

@@ -5,7 +5,8 @@ ghost use Rattle.model.specs.Graph.{IsClosed, field_at};
 ghost use Rattle.layout.specs.Place.{place_word};
 ghost use Rattle.heap.specs.NamesArePlaces.{NamesArePlaces};
 ghost use Rattle.workers.specs.WorkerSteps.{current_slot};
-ghost use Rattle.scavenge.specs.Slots.{objects_of, IsUntouched};
+ghost use Rattle.workers.specs.Ready.{IsUntouched};
+ghost use Rattle.scavenge.specs.Slots.{objects_of};
 
 use crate::to_space::pointer_of;
 use crate::workspace::{Current, Workspace};

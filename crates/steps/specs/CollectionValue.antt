@@ -53,15 +53,6 @@ pub record IsNumbering (graph : Graph) (g : ℕ) (numbering : NumberingValue) : 
   pub large : (number : ℕ) → number < length numbering.large → slice_index numbering.large number ≡ rank_below (large_word number) (young_names graph g)
   pub covers_large : (number : ℕ) → IsYoung graph g (large_word number) → number < length numbering.large
 
--- numbers of free blocks, rising
-pub record AreFreeBlocks (blocks : ℕ) (free : List ℕ) : Type 0 where
-  pub rising : IsStrictlyIncreasing free
-  pub in_range : All (λ block. block < blocks) free
-
--- no object stands in a free block
-abbrev pub FreeBlocksAreEmpty : HeapValue → Type 0
-FreeBlocksAreEmpty heap = (block offset : ℕ) → IsTrue (has heap.free block) → offset < 65536 → object_at heap.graph (small_word block offset) ≡ None
-
 -- the collection of the generations 0 to g was opened on this heap as it is
 pub record IsOpened (heap : HeapValue) (g : ℕ) (collection : CollectionValue) : Type 0 where
   pub generation : collection.generation ≡ g

@@ -17,7 +17,7 @@ use Rattle.trace_driver.specs.declared.command_line.words.Refused.TheVariants.{H
 use Rattle.trace_driver.specs.declared.command_line.words.Refused.TheVariants as refusals_of
 use Rattle.trace_driver.specs.Refusals.{IsRefusal}
 use Rattle.trace_driver.specs.Refusals as refusals
-use Rattle.trace_driver.specs.Running.{IsRunDone, IsRunStopped}
+use Rattle.trace_driver.specs.Running.{IsRunDone, IsRunFull, IsRunStopped}
 use Rattle.trace_driver.specs.Program.{config_of, ByTask, IsTaskDone, IsTaskStopped, Tells, all, cut_off, TaskEnds}
 
 pub tells_of : {T X failed : Type 0} (r : Result T X) (e e' : Output) (text : List ℕ) → OnOk r (Appends e e' text) → OnErr r (AppendsFront e e' text) → OnErr r failed → Tells failed e e' text
@@ -47,12 +47,14 @@ module _ (o : Options) (i i' : Input) (w w' : Output) (config : Config) (config_
   replay_is_done is n n_is d = by_replay _ _ o.task is (subst (λ c. IsReplayDone c o.threads i i' w w') config_is (subst (λ k. IsReplayDone config k i i' w w') n_is d))
 
   module _ (n : ℕ) (n_is : n ≡ o.threads) (untouched failed_read failed_write : Type 0) (fault : Fault) where
-    pub run_is_stopped : o.task ≡ Run → (kind : CellKind) → kind ≡ o.cells → IsRunStopped config n ((kind ≡ Box) × (n ≢ 1)) untouched i i' w w' failed_read failed_write fault → IsTaskStopped o untouched i i' w w' failed_read failed_write fault
-    run_is_stopped is kind kind_is s =
-        by_run _ _ o.task is
-        (subst (λ c. IsRunStopped c o.threads ((o.cells ≡ Box) × (o.threads ≢ 1)) untouched i i' w w' failed_read failed_write fault) config_is
-        (subst (λ k. IsRunStopped config k ((o.cells ≡ Box) × (k ≢ 1)) untouched i i' w w' failed_read failed_write fault) n_is
-        (subst (λ k. IsRunStopped config n ((k ≡ Box) × (n ≢ 1)) untouched i i' w w' failed_read failed_write fault) kind_is s)))
+    pub run_is_stopped : o.task ≡ Run → (kind : CellKind) → kind ≡ o.cells → IsRunFull config n i i' fault → IsRunStopped config ((kind ≡ Box) × (n ≢ 1)) untouched i i' w w' failed_read failed_write fault → IsTaskStopped o untouched i i' w w' failed_read failed_write fault
+    run_is_stopped is kind kind_is f s =
+        by_run _ _ o.task is (
+          subst (λ c. IsRunFull c o.threads i i' fault) config_is (subst (λ k. IsRunFull config k i i' fault) n_is f),
+          subst (λ c. IsRunStopped c ((o.cells ≡ Box) × (o.threads ≢ 1)) untouched i i' w w' failed_read failed_write fault) config_is
+              (subst (λ k. IsRunStopped config ((o.cells ≡ Box) × (k ≢ 1)) untouched i i' w w' failed_read failed_write fault) n_is
+              (subst (λ k. IsRunStopped config ((k ≡ Box) × (n ≢ 1)) untouched i i' w w' failed_read failed_write fault) kind_is s)),
+        )
 
     pub replay_is_stopped : o.task ≡ Replay → IsReplayStopped config n untouched i i' w w' failed_read failed_write fault → IsTaskStopped o untouched i i' w w' failed_read failed_write fault
     replay_is_stopped is s =

@@ -11,20 +11,21 @@ use Rattle.model.specs.Store.{Store}
 use Rattle.trace_session.specs.declared.trace_lines.fault.Fault.{Fault}
 use Rattle.trace_session.specs.declared.trace_lines.fault.Fault.TheVariants.{BadTrace, BadSchedule, HeapFull, NoMemory, Unsettled, ReadFailed, WriteFailed}
 use Rattle.trace_session.specs.CollectsFirst.{IsSoundSoFar}
-use Rattle.trace_session.specs.Faults.{MatchFault, MatchFaultApart}
+use Rattle.trace_session.specs.Faults.{never, AtFault}
 use Rattle.trace_session.specs.Lines.{LinesValue, Moves, Waits, Cuts, Found, IsOutOfReads}
 use Rattle.trace_session.specs.declared.trace_lines.lines.Next.{Next}
 use Rattle.trace_session.specs.Pieces.{HasNoFeed, finished, pieces, whole_lines}
 use Rattle.trace_session.specs.Outcome.{outcome_from, line_step}
 use Rattle.trace_session.specs.Sound.{IsSoundTraceLine}
 use Rattle.trace_session.specs.Carried.{Silently, Prints}
-use Rattle.trace_session.specs.Stepped.{AtEach, StepsTo, Writes, CarriesOutTo}
+use Rattle.trace_session.specs.Stepped.{AtEach, StepsTo, Writes}
 use Rattle.trace_session.proofs.PieceLemmas.{pieces_line, whole_lines_are}
 use Rattle.trace_session.proofs.CarriedLemmas.{CarriesOut-none, Carried-before, line_joins, fault_of_line, leaves}
 use Rattle.trace_session.proofs.TextLemmas.{ends_done, ends_unfinished, ends_long, prints_stop}
 use Rattle.trace_session.proofs.LineLemmas.{Moves-trans, moves_as, stops_moved, stops_pending, stops_ended, given_moved, at_wait, out_after}
 use Rattle.trace_driver.specs.Running.{IsRunDoneAt, IsRunStoppedAt}
 use Rattle.trace_replay.specs.Refusals.{MayBeFull}
+use Rattle.trace_session.proofs.Carrying.{CarriesOutTo}
 
 -- the text is so many lines from the first on, each ended by a line feed, and the rest
 pub record HasLines (text : List ℕ) (number : ℕ) (rest : List ℕ) : Type 0 where
@@ -118,12 +119,7 @@ module _ (stands stands' : Config → Store → Type 0) (number : ℕ) (o o' : O
 
   -- its fault is that of the run
   pub line_stops : (line : List ℕ) → line ≡ c.line → (n : ℕ) (boxed : Type 0) {T : Type 0} (output : T → Output) (before new : T) (failed failed_read failed_write : Type 0) → output before ≡ o' → (failed → failed_write) → Cuts b c j k → (e : Fault)
-      → MatchFaultApart e
-      (λ at kind. (at ≡ number) × AtEach stands' (λ config store. (line_step config store line ≡ Err kind) × (new ≡ before)))
-      (λ at. (at ≡ Some number) × AtEach stands' (λ config store. MayBeFull n config store line × (new ≡ before)))
-      (λ at. (at ≡ Some number) × AtEach stands' (λ config store. Writes (IsSoundSoFar config store line) (output before) (output new)))
-      (λ at. (at ≡ number) × boxed × AtEach stands' (λ config store. IsSoundTraceLine config store line × (new ≡ before)))
-      ⊥ failed
+      → AtFault (record never { trace = λ at kind. (at ≡ number) × AtEach stands' (λ config store. (line_step config store line ≡ Err kind) × (new ≡ before)); full = λ at. (at ≡ Some number) × AtEach stands' (λ config store. MayBeFull n config store line × (new ≡ before)); memory = λ at. (at ≡ Some number) × AtEach stands' (λ config store. Writes (IsSoundSoFar config store line) (output before) (output new)); unsettled = λ at. (at ≡ number) × boxed × AtEach stands' (λ config store. IsSoundTraceLine config store line × (new ≡ before)); write = failed }) e
       → IsRunStoppedAt stands n boxed a.pending a.reads i k o (output new) failed_read failed_write e
   line_stops line same_line n boxed output before new failed failed_read failed_write same told cuts (BadTrace at kind) f =
       stops_moved a c i k (at_line line same_line cuts)
@@ -146,7 +142,7 @@ module _ (stands stands' : Config → Store → Type 0) (number : ℕ) (o o' : O
   line_stops line same_line n boxed output before new failed failed_read failed_write same told cuts WriteFailed f = told f
 
 -- where one worker collects, no cells are shared
-pub not_unsettled : (trace : ℕ → Kind → Type 0) (full memory : Option ℕ → Type 0) (unsettled : ℕ → Type 0) (read write : Type 0) (e : Fault) → MatchFault e trace full memory read write → MatchFaultApart e trace full memory unsettled read write
+pub not_unsettled : (trace : ℕ → Kind → Type 0) (full memory : Option ℕ → Type 0) (unsettled : ℕ → Type 0) (read write : Type 0) (e : Fault) → AtFault (record never { trace = trace; full = full; memory = memory; read = read; write = write }) e → AtFault (record never { trace = trace; full = full; memory = memory; unsettled = unsettled; read = read; write = write }) e
 not_unsettled trace full memory unsettled read write (BadTrace at kind) f = f
 not_unsettled trace full memory unsettled read write (BadSchedule at kind) f = f
 not_unsettled trace full memory unsettled read write (HeapFull at) f = f

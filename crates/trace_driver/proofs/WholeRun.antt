@@ -14,7 +14,7 @@ use Rattle.trace_session.specs.Stepped.{AtEach}
 use Rattle.trace_session.proofs.LineLemmas.{OfInput-map, OfGiven-map}
 use Rattle.trace_session.proofs.TextLemmas.{leaves_output}
 use Rattle.trace_replay.specs.Refusals.{MayBeFull}
-use Rattle.trace_driver.specs.Running.{IsRunDone, IsRunDoneAt, IsRunStopped, IsRunStoppedAt}
+use Rattle.trace_driver.specs.Running.{IsRunDone, IsRunDoneAt, LineWantsBlocks, IsRunFull, IsRunStopped, IsRunStoppedAt}
 
 module _ (stands : Config → Store → Type 0) (config : Config) (begins : stands config (empty_store config)) (i i' : Input) (o o' : Output) where
   done_whole : IsRunDoneAt stands [] i i' o o' → IsRunDone config i i' o o'
@@ -33,14 +33,33 @@ module _ (stands : Config → Store → Type 0) (config : Config) (begins : stan
   leaves_at : (P : Config → Store → List ℕ → List ℕ → Type 0) (at : ℕ) → OfInput [] i i' (λ text. AtEach stands (λ c store. LeavesBefore (P c) c 1 store text (Some at) o o')) → OfInput [] i i' (LeavesOutput (P config) config at o o')
   leaves_at P at of = OfInput-map [] i i' of (λ text before. leaves_output (P config) config text at o o' (before config (empty_store config) begins))
 
-  stopped_whole : (n : ℕ) (boxed untouched failed_read failed_write : Type 0) (e : Fault) → IsRunStoppedAt stands n boxed [] (2 ^ 64 - 1) i i' o o' failed_read failed_write e → IsRunStopped config n boxed untouched i i' o o' failed_read failed_write e
+  sound_at : (n at : ℕ) → OfInput [] i i' (LeavesOutput (Silently (MayBeFull n config)) config at o o') → OfInput [] i i' (LeavesOutput (Silently (IsSoundTraceLine config)) config at o o')
+  sound_at n at of =
+      OfInput-map [] i i' of
+      (λ text left. record { refused = left.refused; written = left.written; counted = left.counted; there = left.there; sound = left.sound; held = left.held; holds = (left.holds.0.sound, left.holds.1) })
+
+  wants_at : (n at : ℕ) → OfInput [] i i' (LeavesOutput (Silently (MayBeFull n config)) config at o o') → OfInput [] i i' (LineWantsBlocks config n at)
+  wants_at n at of = OfInput-map [] i i' of (λ text left. record { text = left.refused; there = left.there; wants = left.holds.0.wants })
+
+  stopped_whole : (n : ℕ) (boxed untouched failed_read failed_write : Type 0) (e : Fault) → IsRunStoppedAt stands n boxed [] (2 ^ 64 - 1) i i' o o' failed_read failed_write e → IsRunStopped config boxed untouched i i' o o' failed_read failed_write e
   stopped_whole n boxed untouched failed_read failed_write (BadTrace line kind) f = OfInput-map [] i i' f (λ text prints. prints config (empty_store config) begins)
   stopped_whole n boxed untouched failed_read failed_write (BadSchedule line kind) f = absurd f
-  stopped_whole n boxed untouched failed_read failed_write (HeapFull line) f = leaves (λ c. Silently (MayBeFull n c)) _ line f
+  stopped_whole n boxed untouched failed_read failed_write (HeapFull None) f = leaves (λ c. Silently (MayBeFull n c)) _ None f
+  stopped_whole n boxed untouched failed_read failed_write (HeapFull (Some at)) f = sound_at n at (leaves_at (λ c. Silently (MayBeFull n c)) at f)
   stopped_whole n boxed untouched failed_read failed_write (NoMemory line) f = leaves IsSoundSoFar _ line f
   stopped_whole n boxed untouched failed_read failed_write (Unsettled at) f = (f.0, leaves_at (λ c. Silently (IsSoundTraceLine c)) at f.1)
   stopped_whole n boxed untouched failed_read failed_write ReadFailed f = (OfGiven-map [] i i' f.0 (λ text prints. prints config (empty_store config) begins), f.1)
   stopped_whole n boxed untouched failed_read failed_write WriteFailed f = f
+
+  full_whole : (n : ℕ) (boxed failed_read failed_write : Type 0) (e : Fault) → IsRunStoppedAt stands n boxed [] (2 ^ 64 - 1) i i' o o' failed_read failed_write e → IsRunFull config n i i' e
+  full_whole n boxed failed_read failed_write (BadTrace line kind) f = tt
+  full_whole n boxed failed_read failed_write (BadSchedule line kind) f = tt
+  full_whole n boxed failed_read failed_write (HeapFull None) f = tt
+  full_whole n boxed failed_read failed_write (HeapFull (Some at)) f = wants_at n at (leaves_at (λ c. Silently (MayBeFull n c)) at f)
+  full_whole n boxed failed_read failed_write (NoMemory line) f = tt
+  full_whole n boxed failed_read failed_write (Unsettled at) f = tt
+  full_whole n boxed failed_read failed_write ReadFailed f = tt
+  full_whole n boxed failed_read failed_write WriteFailed f = tt
 
   -- of the lines of an input of which nothing was read yet
   pub run_done : (lines : LinesValue) (line : List ℕ) → lines ≡ record { pending = []; line = line; reads = 2 ^ 64 - 1 } → {T E : Type 0} (r : Result T E) → OnOk r (IsRunDoneAt stands lines.pending i i' o o') → OnOk r (IsRunDone config i i' o o')
@@ -48,7 +67,13 @@ module _ (stands : Config → Store → Type 0) (config : Config) (begins : stan
   run_done lines line fresh (Err e) done = tt
 
   pub run_stopped : (lines : LinesValue) (line : List ℕ) → lines ≡ record { pending = []; line = line; reads = 2 ^ 64 - 1 } → (n : ℕ) (boxed untouched failed_read failed_write : Type 0) → {T : Type 0} (r : Result T Fault)
-      → IfErr r (IsRunStoppedAt stands n boxed lines.pending lines.reads i i' o o' failed_read failed_write) → IfErr r (IsRunStopped config n boxed untouched i i' o o' failed_read failed_write)
+      → IfErr r (IsRunStoppedAt stands n boxed lines.pending lines.reads i i' o o' failed_read failed_write) → IfErr r (IsRunStopped config boxed untouched i i' o o' failed_read failed_write)
   run_stopped lines line fresh n boxed untouched failed_read failed_write (Ok x) f = tt
   run_stopped lines line fresh n boxed untouched failed_read failed_write (Err e) f =
       stopped_whole n boxed untouched failed_read failed_write e (subst (λ (v : LinesValue). IsRunStoppedAt stands n boxed v.pending v.reads i i' o o' failed_read failed_write e) fresh f)
+
+  pub run_full : (lines : LinesValue) (line : List ℕ) → lines ≡ record { pending = []; line = line; reads = 2 ^ 64 - 1 } → (n : ℕ) (boxed failed_read failed_write : Type 0) → {T : Type 0} (r : Result T Fault)
+      → IfErr r (IsRunStoppedAt stands n boxed lines.pending lines.reads i i' o o' failed_read failed_write) → IfErr r (IsRunFull config n i i')
+  run_full lines line fresh n boxed failed_read failed_write (Ok x) f = tt
+  run_full lines line fresh n boxed failed_read failed_write (Err e) f =
+      full_whole n boxed failed_read failed_write e (subst (λ (v : LinesValue). IsRunStoppedAt stands n boxed v.pending v.reads i i' o o' failed_read failed_write e) fresh f)

@@ -10,7 +10,7 @@ use Rattle.trace_driver.specs.declared.command_line.words.Options.{Options}
 use Rattle.trace_driver.specs.declared.command_line.words.Task.{Task}
 use Rattle.trace_driver.specs.declared.command_line.words.Task.TheVariants.{Run, Replay}
 use Rattle.trace_replay.specs.ReplayStops.{IsReplayDone, IsReplayStopped}
-use Rattle.trace_driver.specs.Running.{IsRunDone, IsRunStopped}
+use Rattle.trace_driver.specs.Running.{IsRunDone, IsRunFull, IsRunStopped}
 
 -- the sizes that were asked for
 abbrev pub config_of : Options → Config
@@ -32,7 +32,7 @@ IsTaskDone options i i' o o' = ByTask options.task (IsRunDone (config_of options
 -- it stopped for this reason
 abbrev pub IsTaskStopped : Options → (untouched : Type 0) → (i i' : Input) (o o' : Output) → (failed_read failed_write : Type 0) → Fault → Type 0
 IsTaskStopped options untouched i i' o o' failed_read failed_write fault = ByTask options.task
-    (IsRunStopped (config_of options) options.threads ((options.cells ≡ Box) × (options.threads ≢ 1)) untouched i i' o o' failed_read failed_write fault)
+    (IsRunFull (config_of options) options.threads i i' fault × IsRunStopped (config_of options) ((options.cells ≡ Box) × (options.threads ≢ 1)) untouched i i' o o' failed_read failed_write fault)
     (IsReplayStopped (config_of options) options.threads untouched i i' o o' failed_read failed_write fault)
 
 -- a text was written, or a write of it failed after a front of it

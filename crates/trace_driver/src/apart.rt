@@ -3,7 +3,7 @@ ghost use Rattle.std.specs.Prelude.{◌≡◌, ◌≢◌, ◌+◌, ◌-◌, ◌^
 ghost use Rattle.collector.specs.declared.apart.CellKind.TheVariants.{Box};
 ghost use Rattle.trace_session.specs.Lines.{most_left};
 ghost use Rattle.trace_replay.specs.Session.{Stands};
-ghost use Rattle.trace_driver.specs.Running.{IsRunDone, IsRunDoneAt, IsRunStopped, IsRunStoppedAt};
+ghost use Rattle.trace_driver.specs.Running.{IsRunDone, IsRunDoneAt, IsRunFull, IsRunStopped, IsRunStoppedAt};
 
 use crate::config::RunConfig;
 use crate::running::run_one;
@@ -79,9 +79,10 @@ fn run_apart<
     ensures ok { OnOk result
         (IsRunDone config.config (S.input reader.old) (S.input reader.new) (W.output writer.old)
         (W.output writer.new)) }
+    ensures full { IfErr result
+        (IsRunFull config.config crew.now.workers (S.input reader.old) (S.input reader.new)) }
     ensures err { IfErr result
-        (IsRunStopped config.config crew.now.workers (crew.now.kind ≡ Box) ((writer.new ≡ writer.old) ×
-        (reader.new ≡ reader.old))
+        (IsRunStopped config.config (crew.now.kind ≡ Box) ((writer.new ≡ writer.old) × (reader.new ≡ reader.old))
         (S.input reader.old) (S.input reader.new) (W.output writer.old) (W.output writer.new)
         (S.failed_reads reader.new ≡ S.failed_reads reader.old + 1)
         (W.failed_writes writer.new ≡ W.failed_writes writer.old + 1)) }
@@ -124,7 +125,9 @@ pub fn run<
     ensures ok { OnOk result
         (IsRunDone config.config (S.input reader.old) (S.input reader.new) (W.output writer.old)
         (W.output writer.new)) }
-    ensures err { IfErr result (IsRunStopped config.config config.workers ((config.kind ≡ Box) × (config.workers ≢ 1))
+    ensures full { IfErr result
+        (IsRunFull config.config config.workers (S.input reader.old) (S.input reader.new)) }
+    ensures err { IfErr result (IsRunStopped config.config ((config.kind ≡ Box) × (config.workers ≢ 1))
         ((writer.new ≡ writer.old) × (reader.new ≡ reader.old))
         (S.input reader.old) (S.input reader.new) (W.output writer.old) (W.output writer.new)
         (S.failed_reads reader.new ≡ S.failed_reads reader.old + 1)

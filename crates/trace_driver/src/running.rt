@@ -2,7 +2,7 @@
 ghost use Rattle.std.specs.Prelude.{◌≡◌, ◌+◌, ◌-◌, ◌^◌, ◌<◌, ◌≤◌, OnOk, IfErr};
 ghost use Rattle.trace_session.specs.Lines.{most_left};
 ghost use Rattle.trace_replay.specs.Session.{Stands};
-ghost use Rattle.trace_driver.specs.Running.{IsRunDone, IsRunDoneAt, IsRunStopped, IsRunStoppedAt};
+ghost use Rattle.trace_driver.specs.Running.{IsRunDone, IsRunDoneAt, IsRunFull, IsRunStopped, IsRunStoppedAt};
 
 use crate::config::RunConfig;
 use heap_text::{ReadFailed, Sink, Source};
@@ -60,7 +60,8 @@ pub fn run_one<A: Allocator + Clone, S: Source, W: Sink>(
     ensures ok { OnOk result
         (IsRunDone config.config (S.input reader.old) (S.input reader.new) (W.output writer.old)
         (W.output writer.new)) }
-    ensures err { IfErr result (IsRunStopped config.config 1 ⊥ ((writer.new ≡ writer.old) × (reader.new ≡ reader.old))
+    ensures full { IfErr result (IsRunFull config.config 1 (S.input reader.old) (S.input reader.new)) }
+    ensures err { IfErr result (IsRunStopped config.config ⊥ ((writer.new ≡ writer.old) × (reader.new ≡ reader.old))
         (S.input reader.old) (S.input reader.new) (W.output writer.old) (W.output writer.new)
         (S.failed_reads reader.new ≡ S.failed_reads reader.old + 1)
         (W.failed_writes writer.new ≡ W.failed_writes writer.old + 1)) }

@@ -13,7 +13,9 @@ use Rattle.steps.specs.CollectionValue.{CollectionValue, young_names}
 use Rattle.steps.specs.CollectedHeap.{CollectedHeap}
 use Rattle.steps.specs.ReportValue.{WorkerLists, all_won, renaming_of}
 use Rattle.steps.specs.declared.heap_values.report.Delivery.{Delivery}
-use Rattle.settling.specs.Collects.{Collects}
+use Rattle.workers.proofs.OneMore.{stepped_run}
+use Rattle.settling.specs.Collects.{Collects, setting_at}
+use Rattle.settling.specs.Together.{CollectsTogether}
 use Rattle.heap_text.specs.ReportText.{workers_text}
 use Rattle.trace_session.specs.Stepped.{Writes}
 use Rattle.trace_session.specs.Made as made_by
@@ -29,11 +31,16 @@ module _ (heap : HeapValue) (n : ℕ) (collection : CollectionValue) (places : L
   collects : Collects heap 0 kept freed workers heap'
   collects = is_collected heap 0 b.last collection places blocks workers deliveries b.brought kept freed heap' moves live sum count
 
+  together : CollectsTogether heap 0 n kept freed workers deliveries heap'
+  together =
+      let run = stepped_run (setting_at heap 0 n) b.finishes.run in
+      record { collects = collects; runs = record { last = b.last; events = run.0; run = run.1; reports_are = b.brought.reports_are } }
+
   pub room_made : (names : List (List ℕ × ℕ)) (config : Config) (store : Store) (stands : StandsFor heap names config store) (printed printed' : Output)
       → Appends printed printed' (collection_line (codes "auto") 0 kept freed ++ workers_text workers deliveries)
       → StandsFor heap' names config (collected config 0 store) × Writes (λ written. MakesRoom n (record { heap = heap; names = names; store = store }) written heap') printed printed'
   room_made names config store stands printed printed' held = (
-    stands_collected heap names config store stands 0 kept freed workers heap' collects (made_by.collected 0 _ stands.made collects.heap),
+    stands_collected heap names config store stands 0 kept freed workers heap' collects (made_by.collected_together 0 n kept freed workers deliveries stands.made together),
     record {
       written = collection_line (codes "auto") 0 kept freed ++ workers_text workers deliveries;
       held = held;

@@ -22,8 +22,8 @@ use Rattle.workers.specs.System.{System, Event as Happens}
 use Rattle.workers.specs.Steps as steps
 use Rattle.workers.proofs.OneMore.{stepped_run}
 use Rattle.settling.specs.Collects.{Collects, setting_at, opening_at}
+use Rattle.settling.specs.Together.{CollectsTogether}
 use Rattle.trace_replay.specs.Events.{IsShortOfBlocks}
-use Rattle.heap_text.specs.ReportText.{report_text}
 use Rattle.heap_text.specs.declared.cause.Cause.TheVariants.{Command}
 use Rattle.trace_text.specs.Grammar.{entry_of, ◌>>=◌}
 use Rattle.trace_text.specs.declared.schedule.ScheduleLine.{ScheduleLine}
@@ -31,7 +31,7 @@ use Rattle.trace_text.specs.declared.schedule.ScheduleKind.{ScheduleKind}
 use Rattle.trace_text.specs.declared.schedule.ScheduleLine.TheVariants.{Nothing, Event, Finish, Commit}
 use Rattle.trace_session.specs.declared.trace_lines.fault.Fault.{Fault}
 use Rattle.trace_session.specs.declared.trace_lines.fault.Fault.TheVariants.{BadTrace, BadSchedule, HeapFull, NoMemory, Unsettled, ReadFailed, WriteFailed}
-use Rattle.trace_session.specs.Faults.{MatchEachFault}
+use Rattle.trace_session.specs.Faults.{never, AtFault}
 use Rattle.trace_session.specs.Lines.{LinesValue, Moves}
 use Rattle.trace_session.specs.Pieces.{finished, pieces}
 use Rattle.trace_session.specs.declared.session.Session.{Session}
@@ -49,6 +49,13 @@ use Rattle.trace_replay.specs.Replays.{State, HasCollected, CollectsTo, state_of
 use Rattle.trace_replay.specs.ReplayStops.{OpensSchedule, AfterCollect, HasTraceFault, HasScheduleFault, WantsBlocks, IsSoundAt, LeavesNothingWhole, outside, inside}
 use Rattle.trace_replay.specs.ReplayStops as stops
 use Rattle.trace_session.proofs.LineLemmas.{OfInput-map, OfGiven-map, moves_as, stops_moved}
+use Rattle.heap_text.specs.CollectionLine.{cause_word}
+use Rattle.heap_text.specs.ReportText.{workers_text}
+use Rattle.heap_text.specs.declared.cause.Cause.{Cause}
+
+-- the collection's line, and then those of its workers
+abbrev pub report_text : Cause → (g kept freed : ℕ) → List WorkerLists → List Delivery → List ℕ
+report_text cause g kept freed workers deliveries = collection_line (cause_word cause) g kept freed ++ workers_text workers deliveries
 
 -- the lines of a schedule are events, one after another
 module _ (setting : Setting) where
@@ -120,21 +127,16 @@ module _ (heap : HeapValue) (names : List (List ℕ × ℕ)) (config : Config) (
 -- where the schedule stops
 module _ (heap : HeapValue) (names : List (List ℕ × ℕ)) (g n number : ℕ) (in_range : g < heap.config.shape.generations) (front : List ℕ) (i j : Input) {W : Type 0} (old new : W) (failed written : Type 0) where
   pub fault_of_schedule : new ≡ old → (e : Fault)
-      → MatchEachFault e
-      (λ at kind. OfInput front i j (λ text. StopsAt (IsUnreadable kind) (setting_at heap g n) (opening_at heap g n) (number + 1) text at))
-      (λ at kind. OfInput front i j (λ text. StopsWith (setting_at heap g n) (opening_at heap g n) number text at kind))
-      (λ at. MatchOption at ⊥ (λ line. OfInput front i j (λ text. StopsAt (OfLine (IsRefusedBlocks (setting_at heap g n))) (setting_at heap g n) (opening_at heap g n) (number + 1) text line)
-      × IsShortOfBlocks heap g n))
-      (λ at. MatchOption at ⊥ (λ line. OfInput front i j (λ text. (line ≡ number)
-      ⊎ StopsAt (OfLine (IsSoundLine (setting_at heap g n))) (setting_at heap g n) (opening_at heap g n) (number + 1) text line)))
-      (OfGiven front i j (IsUsedUp (setting_at heap g n) (opening_at heap g n)) × failed) ⊥
-      → MatchEachFault e
-      (λ at kind. OfInput front i j (λ text. AtEach (StandsFor heap names) (λ config store. AfterCollect g text (λ left. HasTraceFault config n kind (record { heap = heap; names = names; store = store }) number left at))) × (new ≡ old))
-      (λ at kind. OfInput front i j (λ text. AtEach (StandsFor heap names) (λ config store. AfterCollect g text (λ left. HasScheduleFault config n kind (record { heap = heap; names = names; store = store }) number left at))) × (new ≡ old))
-      (λ at. MatchOption at ⊥ (λ line. OfInput front i j (λ text. AtEach (StandsFor heap names) (λ config store. AfterCollect g text (λ left. WantsBlocks config n (record { heap = heap; names = names; store = store }) number left line)))) × (new ≡ old))
-      (λ at. MatchOption at ⊥ (λ line. OfInput front i j (λ text. AtEach (StandsFor heap names) (λ config store. AfterCollect g text (λ left. IsSoundAt config n (record { heap = heap; names = names; store = store }) number left line [])))) × (new ≡ old))
-      (OfGiven front i j (λ text. AtEach (StandsFor heap names) (λ config store. AfterCollect g text (LeavesNothingWhole config n (record { heap = heap; names = names; store = store })))) × (new ≡ old) × failed)
-      written
+      → AtFault (record never {
+        trace = λ at kind. OfInput front i j (λ text. StopsAt (IsUnreadable kind) (setting_at heap g n) (opening_at heap g n) (number + 1) text at);
+        schedule = λ at kind. OfInput front i j (λ text. StopsWith (setting_at heap g n) (opening_at heap g n) number text at kind);
+        full = λ at. MatchOption at ⊥ (λ line. OfInput front i j (λ text. StopsAt (OfLine (IsRefusedBlocks (setting_at heap g n))) (setting_at heap g n) (opening_at heap g n) (number + 1) text line)
+            × IsShortOfBlocks heap g n);
+        memory = λ at. MatchOption at ⊥ (λ line. OfInput front i j (λ text. (line ≡ number)
+            ⊎ StopsAt (OfLine (IsSoundLine (setting_at heap g n))) (setting_at heap g n) (opening_at heap g n) (number + 1) text line));
+        read = OfGiven front i j (IsUsedUp (setting_at heap g n) (opening_at heap g n)) × failed;
+      }) e
+      → AtFault (record never { trace = λ at kind. OfInput front i j (λ text. AtEach (StandsFor heap names) (λ config store. AfterCollect g text (λ left. HasTraceFault config n kind (record { heap = heap; names = names; store = store }) number left at))) × (new ≡ old); schedule = λ at kind. OfInput front i j (λ text. AtEach (StandsFor heap names) (λ config store. AfterCollect g text (λ left. HasScheduleFault config n kind (record { heap = heap; names = names; store = store }) number left at))) × (new ≡ old); full = λ at. MatchOption at ⊥ (λ line. OfInput front i j (λ text. AtEach (StandsFor heap names) (λ config store. AfterCollect g text (λ left. WantsBlocks config n (record { heap = heap; names = names; store = store }) number left line)))) × (new ≡ old); memory = λ at. MatchOption at ⊥ (λ line. OfInput front i j (λ text. AtEach (StandsFor heap names) (λ config store. AfterCollect g text (λ left. IsSoundAt config n (record { heap = heap; names = names; store = store }) number left line [])))) × (new ≡ old); read = OfGiven front i j (λ text. AtEach (StandsFor heap names) (λ config store. AfterCollect g text (LeavesNothingWhole config n (record { heap = heap; names = names; store = store })))) × (new ≡ old) × failed; write = written }) e
   fault_of_schedule same (BadTrace at kind) f = (OfInput-map front i j f (λ text stop config store stands. trace_fault_in heap names config store stands g in_range n number text kind at stop), same)
   fault_of_schedule same (BadSchedule at kind) f = (OfInput-map front i j f (λ text stop config store stands. schedule_fault_in heap names config store stands g in_range n number text kind at stop), same)
   fault_of_schedule same (HeapFull None) f = absurd f
@@ -176,6 +178,11 @@ module _ (heap : HeapValue) (g n number : ℕ) (text : List ℕ) (commit : ℕ) 
     collects : Collects heap g kept freed workers heap'
     collects = is_collected heap g b.last collection places blocks workers deliveries b.brought kept freed heap' moves live sum count
 
+    together : CollectsTogether heap g n kept freed workers deliveries heap'
+    together =
+        let run = lines_run (setting_at heap g n) b.schedule.run in
+        record { collects = collects; runs = record { last = b.last; events = run.0; run = run.1; reports_are = b.brought.reports_are } }
+
     pub collected_to : (names : List (List ℕ × ℕ)) (config : Config) (store : Store) (stands : StandsFor heap names config store) → g < heap.config.shape.generations
         → (printed printed' : Output) → Appends printed printed' (report_text Command g kept freed workers deliveries)
         → HasCollected config n g (record { heap = heap; names = names; store = store }) number text (commit + 1) rest printed printed' (record { heap = heap'; names = names; store = collected config g store })
@@ -197,7 +204,7 @@ module _ (heap : HeapValue) (g n number : ℕ) (text : List ℕ) (commit : ℕ) 
             ap (λ k. report_text Command g k freed workers deliveries) (kept_same heap names config store stands g kept freed workers heap' collects)
             ∙ ap (λ f. report_text Command g (kept_count store g) f workers deliveries) (freed_same heap names config store stands g kept freed workers heap' collects);
         names_are = refl;
-        holds = stands_collected heap names config store stands g kept freed workers heap' collects (made_by.collected g _ stands.made collects.heap);
+        holds = stands_collected heap names config store stands g kept freed workers heap' collects (made_by.collected_together g n kept freed workers deliveries stands.made together);
       };
       ends = b.schedule.ends;
       commits = b.schedule.commits;

@@ -19,7 +19,7 @@ use Rattle.trace_text.specs.declared.schedule.ScheduleKind.TheVariants.{NotEnded
 use Rattle.trace_text.specs.declared.schedule.ScheduleLine.TheVariants.{Commit}
 use Rattle.trace_session.specs.declared.trace_lines.fault.Fault.{Fault}
 use Rattle.trace_session.specs.declared.trace_lines.fault.Fault.TheVariants.{BadTrace, BadSchedule, HeapFull, NoMemory, Unsettled, ReadFailed, WriteFailed}
-use Rattle.trace_session.specs.Faults.{MatchEachFault}
+use Rattle.trace_session.specs.Faults.{never, AtFault}
 use Rattle.trace_session.specs.Lines.{LinesValue, Moves}
 use Rattle.trace_session.specs.Pieces.{Piece, finished, pieces}
 use Rattle.machine.specs.MachineValue.{MachineValue, setting_in}
@@ -56,21 +56,23 @@ module _ (heap : HeapValue) (g n : ℕ) (first : MachineValue) (opens : Opens he
       (subst (λ k. IsShortOfBlocks first.heap first.collection.generation k) opens.workers_are short))
 
   pub fault_at_heap : (start : ℕ) (front : List ℕ) (i j : Input) (failed : Type 0) (e : Fault)
-      → MatchEachFault e
-      (λ at kind. OfInput front i j (λ text. StopsAt (IsUnreadable kind) (setting_in first) first.system (start + 1) text at))
-      (λ at kind. OfInput front i j (λ text. StopsWith (setting_in first) first.system start text at kind))
-      (λ at. MatchOption at ⊥ (λ line. OfInput front i j (λ text. StopsAt (OfLine (IsRefusedBlocks (setting_in first))) (setting_in first) first.system (start + 1) text line)
-      × IsShortOfBlocks first.heap first.collection.generation first.workers))
-      (λ at. MatchOption at ⊥ (λ line. OfInput front i j (λ text. StopsAt (OfLine (IsSoundLine (setting_in first))) (setting_in first) first.system (start + 1) text line)))
-      (OfGiven front i j (IsUsedUp (setting_in first) first.system) × failed) ⊥
-      → MatchEachFault e
-      (λ at kind. OfInput front i j (λ text. StopsAt (IsUnreadable kind) (setting_at heap g n) (opening_at heap g n) (start + 1) text at))
-      (λ at kind. OfInput front i j (λ text. StopsWith (setting_at heap g n) (opening_at heap g n) start text at kind))
-      (λ at. MatchOption at ⊥ (λ line. OfInput front i j (λ text. StopsAt (OfLine (IsRefusedBlocks (setting_at heap g n))) (setting_at heap g n) (opening_at heap g n) (start + 1) text line)
-      × IsShortOfBlocks heap g n))
-      (λ at. MatchOption at ⊥ (λ line. OfInput front i j (λ text. (line ≡ start)
-      ⊎ StopsAt (OfLine (IsSoundLine (setting_at heap g n))) (setting_at heap g n) (opening_at heap g n) (start + 1) text line)))
-      (OfGiven front i j (IsUsedUp (setting_at heap g n) (opening_at heap g n)) × failed) ⊥
+      → AtFault (record never {
+        trace = λ at kind. OfInput front i j (λ text. StopsAt (IsUnreadable kind) (setting_in first) first.system (start + 1) text at);
+        schedule = λ at kind. OfInput front i j (λ text. StopsWith (setting_in first) first.system start text at kind);
+        full = λ at. MatchOption at ⊥ (λ line. OfInput front i j (λ text. StopsAt (OfLine (IsRefusedBlocks (setting_in first))) (setting_in first) first.system (start + 1) text line)
+            × IsShortOfBlocks first.heap first.collection.generation first.workers);
+        memory = λ at. MatchOption at ⊥ (λ line. OfInput front i j (λ text. StopsAt (OfLine (IsSoundLine (setting_in first))) (setting_in first) first.system (start + 1) text line));
+        read = OfGiven front i j (IsUsedUp (setting_in first) first.system) × failed;
+      }) e
+      → AtFault (record never {
+        trace = λ at kind. OfInput front i j (λ text. StopsAt (IsUnreadable kind) (setting_at heap g n) (opening_at heap g n) (start + 1) text at);
+        schedule = λ at kind. OfInput front i j (λ text. StopsWith (setting_at heap g n) (opening_at heap g n) start text at kind);
+        full = λ at. MatchOption at ⊥ (λ line. OfInput front i j (λ text. StopsAt (OfLine (IsRefusedBlocks (setting_at heap g n))) (setting_at heap g n) (opening_at heap g n) (start + 1) text line)
+            × IsShortOfBlocks heap g n);
+        memory = λ at. MatchOption at ⊥ (λ line. OfInput front i j (λ text. (line ≡ start)
+            ⊎ StopsAt (OfLine (IsSoundLine (setting_at heap g n))) (setting_at heap g n) (opening_at heap g n) (start + 1) text line));
+        read = OfGiven front i j (IsUsedUp (setting_at heap g n) (opening_at heap g n)) × failed;
+      }) e
   fault_at_heap start front i j failed (BadTrace at kind) f = at_heap (λ k s. OfInput front i j (λ text. StopsAt (IsUnreadable kind) k s (start + 1) text at)) f
   fault_at_heap start front i j failed (BadSchedule at kind) f = at_heap (λ k s. OfInput front i j (λ text. StopsWith k s start text at kind)) f
   fault_at_heap start front i j failed (HeapFull None) f = f
@@ -110,16 +112,8 @@ module _ (heap : HeapValue) (g n : ℕ) (first : MachineValue) (opens : Opens he
 
   -- where what comes by itself is short of blocks
   pub finish_fault : (number : ℕ) (e : Fault)
-      → MatchEachFault e
-      (λ _ _. ⊥) (λ _ _. ⊥)
-      (λ at. (at ≡ Some number) × IsStuckAfter first)
-      (λ at. at ≡ Some number)
-      ⊥ ⊥
-      → MatchEachFault e
-      (λ _ _. ⊥) (λ _ _. ⊥)
-      (λ at. (at ≡ Some number) × IsFullInTurn heap g n)
-      (λ at. at ≡ Some number)
-      ⊥ ⊥
+      → AtFault (record never { full = λ at. (at ≡ Some number) × IsStuckAfter first; memory = λ at. at ≡ Some number }) e
+      → AtFault (record never { full = λ at. (at ≡ Some number) × IsFullInTurn heap g n; memory = λ at. at ≡ Some number }) e
   finish_fault number (BadTrace at kind) f = f
   finish_fault number (BadSchedule at kind) f = f
   finish_fault number (HeapFull at) f = (f.0, record { comes = at_heap ComesToStuck f.1.comes; short = short_is f.1.short })

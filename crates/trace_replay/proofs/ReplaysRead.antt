@@ -8,7 +8,7 @@ use Rattle.model.specs.Commands.{Collect}
 use Rattle.trace_text.specs.Grammar.{entry_of}
 use Rattle.trace_session.specs.declared.trace_lines.fault.Fault.{Fault}
 use Rattle.trace_session.specs.declared.trace_lines.fault.Fault.TheVariants.{BadTrace, BadSchedule, HeapFull, NoMemory, Unsettled, ReadFailed, WriteFailed}
-use Rattle.trace_session.specs.Faults.{MatchFault, MatchEachFault}
+use Rattle.trace_session.specs.Faults.{never, AtFault}
 use Rattle.trace_session.specs.Lines.{LinesValue, Moves, Cuts, Waits}
 use Rattle.trace_session.specs.Pieces.{finished, pieces}
 use Rattle.trace_session.specs.Outcome.{line_step}
@@ -47,17 +47,8 @@ module _ {A : Type 0} (old : Session A) (n number : ℕ) (line : List ℕ) (a : 
 
   module _ {W : Type 0} (contents : W → Output) (before new : W) (written : Type 0) where
     pub fault_of_line : (read : Type 0) (i : Input) (e : Fault)
-        → MatchFault e
-        (λ at kind. (at ≡ number) × AtEach (Stands old) (λ config store. (line_step config store line ≡ Err kind) × (new ≡ before)))
-        (λ at. (at ≡ Some number) × AtEach (Stands old) (λ config store. WantsRoom config n (state_of old store) line × (new ≡ before)))
-        (λ at. (at ≡ Some number) × AtEach (Stands old) (λ config store. Writes (IsLineSoFar config n (state_of old store) line) (contents before) (contents new)))
-        ⊥ written
-        → MatchEachFault e
-        (λ at kind. OfInput a.pending i i (λ text. AtEach (Stands old) (λ config store. HasTraceFault config n kind (state_of old store) number (finished a.line ∷ pieces text) at × (new ≡ before))))
-        (λ at kind. OfInput a.pending i i (λ text. AtEach (Stands old) (λ config store. HasScheduleFault config n kind (state_of old store) number (finished a.line ∷ pieces text) at × (new ≡ before))))
-        (λ at. MatchOption at ⊥ (λ k. OfInput a.pending i i (λ text. AtEach (Stands old) (λ config store. WantsBlocks config n (state_of old store) number (finished a.line ∷ pieces text) k × (new ≡ before)))))
-        (λ at. MatchOption at ⊥ (λ k. OfInput a.pending i i (λ text. AtEach (Stands old) (λ config store. Writes (IsSoundAt config n (state_of old store) number (finished a.line ∷ pieces text) k) (contents before) (contents new)))))
-        read written
+        → AtFault (record never { trace = λ at kind. (at ≡ number) × AtEach (Stands old) (λ config store. (line_step config store line ≡ Err kind) × (new ≡ before)); full = λ at. (at ≡ Some number) × AtEach (Stands old) (λ config store. WantsRoom config n (state_of old store) line × (new ≡ before)); memory = λ at. (at ≡ Some number) × AtEach (Stands old) (λ config store. Writes (IsLineSoFar config n (state_of old store) line) (contents before) (contents new)); write = written }) e
+        → AtFault (record never { trace = λ at kind. OfInput a.pending i i (λ text. AtEach (Stands old) (λ config store. HasTraceFault config n kind (state_of old store) number (finished a.line ∷ pieces text) at × (new ≡ before))); schedule = λ at kind. OfInput a.pending i i (λ text. AtEach (Stands old) (λ config store. HasScheduleFault config n kind (state_of old store) number (finished a.line ∷ pieces text) at × (new ≡ before))); full = λ at. MatchOption at ⊥ (λ k. OfInput a.pending i i (λ text. AtEach (Stands old) (λ config store. WantsBlocks config n (state_of old store) number (finished a.line ∷ pieces text) k × (new ≡ before)))); memory = λ at. MatchOption at ⊥ (λ k. OfInput a.pending i i (λ text. AtEach (Stands old) (λ config store. Writes (IsSoundAt config n (state_of old store) number (finished a.line ∷ pieces text) k) (contents before) (contents new)))); read = read; write = written }) e
     fault_of_line read i (BadTrace at kind) f = OfInput-here a i (λ text config store stands.
         let fault = f.1 config store stands in
         (outside {p = finished a.line} refl f.0 (subst (λ l. line_step config store l ≡ Err kind) line_is fault.0), fault.1))
@@ -80,20 +71,8 @@ module _ {A : Type 0} (old : Session A) (n number : ℕ) (line : List ℕ) (a : 
 
     -- that of a line with its schedule
     pub fault_of_schedule : (g : ℕ) → entry_of line ≡ Ok (Some (Collect g)) → (i j : Input) (failed : Type 0) (e : Fault)
-        → MatchEachFault e
-        (λ at kind. OfInput a.pending i j (λ text. AtEach (Stands old) (λ config store. AfterCollect g text (λ left. HasTraceFault config n kind (state_of old store) number left at))) × (new ≡ before))
-        (λ at kind. OfInput a.pending i j (λ text. AtEach (Stands old) (λ config store. AfterCollect g text (λ left. HasScheduleFault config n kind (state_of old store) number left at))) × (new ≡ before))
-        (λ at. MatchOption at ⊥ (λ k. OfInput a.pending i j (λ text. AtEach (Stands old) (λ config store. AfterCollect g text (λ left. WantsBlocks config n (state_of old store) number left k)))) × (new ≡ before))
-        (λ at. MatchOption at ⊥ (λ k. OfInput a.pending i j (λ text. AtEach (Stands old) (λ config store. AfterCollect g text (λ left. IsSoundAt config n (state_of old store) number left k [])))) × (new ≡ before))
-        (OfGiven a.pending i j (λ text. AtEach (Stands old) (λ config store. AfterCollect g text (LeavesNothingWhole config n (state_of old store)))) × (new ≡ before) × failed)
-        written
-        → MatchEachFault e
-        (λ at kind. OfInput a.pending i j (λ text. AtEach (Stands old) (λ config store. HasTraceFault config n kind (state_of old store) number (finished a.line ∷ pieces text) at × (new ≡ before))))
-        (λ at kind. OfInput a.pending i j (λ text. AtEach (Stands old) (λ config store. HasScheduleFault config n kind (state_of old store) number (finished a.line ∷ pieces text) at × (new ≡ before))))
-        (λ at. MatchOption at ⊥ (λ k. OfInput a.pending i j (λ text. AtEach (Stands old) (λ config store. WantsBlocks config n (state_of old store) number (finished a.line ∷ pieces text) k × (new ≡ before)))))
-        (λ at. MatchOption at ⊥ (λ k. OfInput a.pending i j (λ text. AtEach (Stands old) (λ config store. Writes (IsSoundAt config n (state_of old store) number (finished a.line ∷ pieces text) k) (contents before) (contents new)))))
-        (OfGiven a.pending i j (λ text. AtEach (Stands old) (λ config store. LeavesNothingWhole config n (state_of old store) (finished a.line ∷ pieces text))) × (new ≡ before) × failed)
-        written
+        → AtFault (record never { trace = λ at kind. OfInput a.pending i j (λ text. AtEach (Stands old) (λ config store. AfterCollect g text (λ left. HasTraceFault config n kind (state_of old store) number left at))) × (new ≡ before); schedule = λ at kind. OfInput a.pending i j (λ text. AtEach (Stands old) (λ config store. AfterCollect g text (λ left. HasScheduleFault config n kind (state_of old store) number left at))) × (new ≡ before); full = λ at. MatchOption at ⊥ (λ k. OfInput a.pending i j (λ text. AtEach (Stands old) (λ config store. AfterCollect g text (λ left. WantsBlocks config n (state_of old store) number left k)))) × (new ≡ before); memory = λ at. MatchOption at ⊥ (λ k. OfInput a.pending i j (λ text. AtEach (Stands old) (λ config store. AfterCollect g text (λ left. IsSoundAt config n (state_of old store) number left k [])))) × (new ≡ before); read = OfGiven a.pending i j (λ text. AtEach (Stands old) (λ config store. AfterCollect g text (LeavesNothingWhole config n (state_of old store)))) × (new ≡ before) × failed; write = written }) e
+        → AtFault (record never { trace = λ at kind. OfInput a.pending i j (λ text. AtEach (Stands old) (λ config store. HasTraceFault config n kind (state_of old store) number (finished a.line ∷ pieces text) at × (new ≡ before))); schedule = λ at kind. OfInput a.pending i j (λ text. AtEach (Stands old) (λ config store. HasScheduleFault config n kind (state_of old store) number (finished a.line ∷ pieces text) at × (new ≡ before))); full = λ at. MatchOption at ⊥ (λ k. OfInput a.pending i j (λ text. AtEach (Stands old) (λ config store. WantsBlocks config n (state_of old store) number (finished a.line ∷ pieces text) k × (new ≡ before)))); memory = λ at. MatchOption at ⊥ (λ k. OfInput a.pending i j (λ text. AtEach (Stands old) (λ config store. Writes (IsSoundAt config n (state_of old store) number (finished a.line ∷ pieces text) k) (contents before) (contents new)))); read = OfGiven a.pending i j (λ text. AtEach (Stands old) (λ config store. LeavesNothingWhole config n (state_of old store) (finished a.line ∷ pieces text))) × (new ≡ before) × failed; write = written }) e
     fault_of_schedule g asks i j failed (BadTrace at kind) f =
         OfInput-map a.pending i j f.0 (λ text h config store stands. (h config store stands a.line (subst (λ l. entry_of l ≡ Ok (Some (Collect g))) line_is asks), f.1))
     fault_of_schedule g asks i j failed (BadSchedule at kind) f =
@@ -141,20 +120,8 @@ module _ {A : Type 0} (old mid : Session A) (n number : ℕ) {W : Type 0} (conte
         (λ text after rest p q. by_text.goes_on old mid n 1 text number (c.line ++ 10 ∷ after) contents printed before p c.line after refl cut.free new number' rest printed' q) before_line next
 
     pub fault_of_next : (l : Input) (new : W) (failed failed' written written' : Type 0) → (failed → failed') → (written → written') → (e : Fault)
-        → MatchEachFault e
-        (λ at kind. OfInput c.pending k l (λ text. AtEach (Stands mid) (λ config store. HasTraceFault config n kind (state_of mid store) number (finished c.line ∷ pieces text) at × (new ≡ before))))
-        (λ at kind. OfInput c.pending k l (λ text. AtEach (Stands mid) (λ config store. HasScheduleFault config n kind (state_of mid store) number (finished c.line ∷ pieces text) at × (new ≡ before))))
-        (λ at. MatchOption at ⊥ (λ m. OfInput c.pending k l (λ text. AtEach (Stands mid) (λ config store. WantsBlocks config n (state_of mid store) number (finished c.line ∷ pieces text) m × (new ≡ before)))))
-        (λ at. MatchOption at ⊥ (λ m. OfInput c.pending k l (λ text. AtEach (Stands mid) (λ config store. Writes (IsSoundAt config n (state_of mid store) number (finished c.line ∷ pieces text) m) (contents before) (contents new)))))
-        (OfGiven c.pending k l (λ text. AtEach (Stands mid) (λ config store. LeavesNothingWhole config n (state_of mid store) (finished c.line ∷ pieces text))) × (new ≡ before) × failed)
-        written
-        → MatchEachFault e
-        (λ at kind. OfInput a.pending i l (λ text. AtEach (Stands old) (λ config store. StopsIn (Quietly (HasTraceFault config n kind)) config n (state_of old store) 1 (pieces text) at printed (contents new))))
-        (λ at kind. OfInput a.pending i l (λ text. AtEach (Stands old) (λ config store. StopsIn (Quietly (HasScheduleFault config n kind)) config n (state_of old store) 1 (pieces text) at printed (contents new))))
-        (λ at. MatchOption at ⊥ (λ m. OfInput a.pending i l (λ text. AtEach (Stands old) (λ config store. StopsIn (Quietly (WantsBlocks config n)) config n (state_of old store) 1 (pieces text) m printed (contents new)))))
-        (λ at. MatchOption at ⊥ (λ m. OfInput a.pending i l (λ text. AtEach (Stands old) (λ config store. StopsIn (IsSoundAt config n) config n (state_of old store) 1 (pieces text) m printed (contents new)))))
-        (OfGiven a.pending i l (λ text. AtEach (Stands old) (λ config store. ReplaysWholeIn config n (state_of old store) (pieces text) printed (contents new))) × failed')
-        written'
+        → AtFault (record never { trace = λ at kind. OfInput c.pending k l (λ text. AtEach (Stands mid) (λ config store. HasTraceFault config n kind (state_of mid store) number (finished c.line ∷ pieces text) at × (new ≡ before))); schedule = λ at kind. OfInput c.pending k l (λ text. AtEach (Stands mid) (λ config store. HasScheduleFault config n kind (state_of mid store) number (finished c.line ∷ pieces text) at × (new ≡ before))); full = λ at. MatchOption at ⊥ (λ m. OfInput c.pending k l (λ text. AtEach (Stands mid) (λ config store. WantsBlocks config n (state_of mid store) number (finished c.line ∷ pieces text) m × (new ≡ before)))); memory = λ at. MatchOption at ⊥ (λ m. OfInput c.pending k l (λ text. AtEach (Stands mid) (λ config store. Writes (IsSoundAt config n (state_of mid store) number (finished c.line ∷ pieces text) m) (contents before) (contents new)))); read = OfGiven c.pending k l (λ text. AtEach (Stands mid) (λ config store. LeavesNothingWhole config n (state_of mid store) (finished c.line ∷ pieces text))) × (new ≡ before) × failed; write = written }) e
+        → AtFault (record never { trace = λ at kind. OfInput a.pending i l (λ text. AtEach (Stands old) (λ config store. StopsIn (Quietly (HasTraceFault config n kind)) config n (state_of old store) 1 (pieces text) at printed (contents new))); schedule = λ at kind. OfInput a.pending i l (λ text. AtEach (Stands old) (λ config store. StopsIn (Quietly (HasScheduleFault config n kind)) config n (state_of old store) 1 (pieces text) at printed (contents new))); full = λ at. MatchOption at ⊥ (λ m. OfInput a.pending i l (λ text. AtEach (Stands old) (λ config store. StopsIn (Quietly (WantsBlocks config n)) config n (state_of old store) 1 (pieces text) m printed (contents new)))); memory = λ at. MatchOption at ⊥ (λ m. OfInput a.pending i l (λ text. AtEach (Stands old) (λ config store. StopsIn (IsSoundAt config n) config n (state_of old store) 1 (pieces text) m printed (contents new)))); read = OfGiven a.pending i l (λ text. AtEach (Stands old) (λ config store. ReplaysWholeIn config n (state_of old store) (pieces text) printed (contents new))) × failed'; write = written' }) e
     fault_of_next l new failed failed' written written' read told (BadTrace at kind) f = stops_after a c i k before_line l f
         (λ text after p q. by_text.stops_silently old mid n 1 text number (c.line ++ 10 ∷ after) contents printed before p c.line after refl cut.free (λ config. HasTraceFault config n kind) at new q)
     fault_of_next l new failed failed' written written' read told (BadSchedule at kind) f = stops_after a c i k before_line l f

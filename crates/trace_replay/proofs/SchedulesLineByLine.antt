@@ -18,15 +18,27 @@ use Rattle.trace_text.specs.declared.schedule.ScheduleKind.TheVariants.{NotLawfu
 use Rattle.trace_text.specs.declared.schedule.LineFault.TheVariants as faults
 use Rattle.trace_session.specs.declared.trace_lines.fault.Fault.{Fault}
 use Rattle.trace_session.specs.declared.trace_lines.fault.Fault.TheVariants.{BadTrace, BadSchedule, HeapFull, NoMemory, Unsettled, ReadFailed, WriteFailed}
-use Rattle.trace_session.specs.Faults.{MatchEachFault}
+use Rattle.trace_session.specs.Faults.{never, AtFault}
 use Rattle.trace_session.specs.Pieces.{HasNoFeed, Piece, finished, unfinished, pieces, whole_lines}
 use Rattle.trace_session.proofs.PieceLemmas.{pieces_line, pieces_last}
 use Rattle.trace_replay.specs.Naming.{HasFewWorkers, meant}
 use Rattle.trace_session.proofs.PieceLemmas.{BeginsLong, long_finished, long_unfinished, whole_lines_are}
 use Rattle.machine.specs.MachineValue.{MachineValue, setting_in}
 use Rattle.machine.specs.Events.{IsSameCollection, IsFullForEvent, IsShortOfBlocks}
-use Rattle.trace_replay.specs.Runs.{Brings, LinesRun, stay, go, BringsOn, HasCarried, IsSchedule}
+use Rattle.trace_replay.specs.Runs.{Brings, LinesRun, stay, go, BringsOn, IsSchedule}
 use Rattle.trace_replay.specs.Stops.{IsUnreadable, IsFaulty, unlawful, IsRefusedBlocks, by_event, by_finish, IsShort, IsStuckAfter, IsSoundLine, IsUsedUp, OfLine, StopsAt, StopsWith, cut_short, faulty}
+
+-- lines, one after another
+pub record CarriesOn (lines : List (List ℕ)) (old new : MachineValue) : Type 0 where
+  pub same : IsSameCollection old new
+  pub run : LinesRun (setting_in old) old.system lines new.system
+
+-- from line `number` of a text on, up to the line before this number, and this is the rest of the text
+pub record HasCarried (number : ℕ) (text : List ℕ) (number' : ℕ) (rest : List ℕ) (old new : MachineValue) : Type 0 where
+  pub lines : List (List ℕ)
+  pub carries : CarriesOn lines old new
+  pub pieces_are : pieces text ≡ map finished lines ++ pieces rest
+  pub number_is : number' ≡ number + length lines
 
 -- numbers of 32 bits are enough for sixteen workers
 pub few_workers : (s : System) (n : ℕ) → HasWorkers s n → n ≤ 16 → HasFewWorkers s
@@ -110,18 +122,8 @@ module _ (start : ℕ) (text : List ℕ) (number' : ℕ) (rest : List ℕ) (old 
 
     -- the fault of a line is that of the schedule
     pub fault_of_line : (e : Fault)
-        → MatchEachFault e
-        (λ at kind. (at ≡ number') × (schedule_line_of line ≡ Err (faults.Trace kind)))
-        (λ at kind. (at ≡ number') × IsFaulty (setting_in mid) mid.system line kind)
-        (λ at. (at ≡ Some number') × IsShort line mid)
-        (λ at. (at ≡ Some number') × IsSoundLine (setting_in mid) mid.system line)
-        ⊥ ⊥
-        → MatchEachFault e
-        (λ at kind. StopsAt (IsUnreadable kind) (setting_in old) old.system (start + 1) text at)
-        (λ at kind. StopsWith (setting_in old) old.system start text at kind)
-        (λ at. MatchOption at ⊥ (λ line. StopsAt (OfLine (IsRefusedBlocks (setting_in old))) (setting_in old) old.system (start + 1) text line × IsShortOfBlocks old.heap old.collection.generation old.workers))
-        (λ at. MatchOption at ⊥ (λ line. StopsAt (OfLine (IsSoundLine (setting_in old))) (setting_in old) old.system (start + 1) text line))
-        ⊥ ⊥
+        → AtFault (record never { trace = λ at kind. (at ≡ number') × (schedule_line_of line ≡ Err (faults.Trace kind)); schedule = λ at kind. (at ≡ number') × IsFaulty (setting_in mid) mid.system line kind; full = λ at. (at ≡ Some number') × IsShort line mid; memory = λ at. (at ≡ Some number') × IsSoundLine (setting_in mid) mid.system line }) e
+        → AtFault (record never { trace = λ at kind. StopsAt (IsUnreadable kind) (setting_in old) old.system (start + 1) text at; schedule = λ at kind. StopsWith (setting_in old) old.system start text at kind; full = λ at. MatchOption at ⊥ (λ line. StopsAt (OfLine (IsRefusedBlocks (setting_in old))) (setting_in old) old.system (start + 1) text line × IsShortOfBlocks old.heap old.collection.generation old.workers); memory = λ at. MatchOption at ⊥ (λ line. StopsAt (OfLine (IsSoundLine (setting_in old))) (setting_in old) old.system (start + 1) text line) }) e
     fault_of_line (BadTrace at kind) f = stops_at (IsUnreadable kind) at f.0 f.1
     fault_of_line (BadSchedule at kind) f = faulty (stops_at (OfLine (λ s l. IsFaulty (setting_in old) s l kind)) at f.0 (subst (λ k. IsFaulty k mid.system line kind) same_is f.1))
     fault_of_line (HeapFull None) f = absurd (let none = f.0 in cc)
@@ -172,18 +174,8 @@ module _ (start : ℕ) (text : List ℕ) (number' : ℕ) (rest : List ℕ) (old 
 -- the fault of what a line says is that of the line
 module _ (number : ℕ) (line : List ℕ) (m : MachineValue) where
   pub fault_of_event : (event : ScheduleEvent) → schedule_line_of line ≡ Ok (Event event) → (e : Fault)
-      → MatchEachFault e
-      (λ _ _. ⊥)
-      (λ at kind. (at ≡ number) × (kind ≡ NotLawful) × ¬ IsLawful (setting_in m) m.system (meant event))
-      (λ at. (at ≡ Some number) × IsFullForEvent (meant event) m)
-      (λ at. (at ≡ Some number) × IsLawful (setting_in m) m.system (meant event))
-      ⊥ ⊥
-      → MatchEachFault e
-      (λ at kind. (at ≡ number) × (schedule_line_of line ≡ Err (faults.Trace kind)))
-      (λ at kind. (at ≡ number) × IsFaulty (setting_in m) m.system line kind)
-      (λ at. (at ≡ Some number) × IsShort line m)
-      (λ at. (at ≡ Some number) × IsSoundLine (setting_in m) m.system line)
-      ⊥ ⊥
+      → AtFault (record never { schedule = λ at kind. (at ≡ number) × (kind ≡ NotLawful) × ¬ IsLawful (setting_in m) m.system (meant event); full = λ at. (at ≡ Some number) × IsFullForEvent (meant event) m; memory = λ at. (at ≡ Some number) × IsLawful (setting_in m) m.system (meant event) }) e
+      → AtFault (record never { trace = λ at kind. (at ≡ number) × (schedule_line_of line ≡ Err (faults.Trace kind)); schedule = λ at kind. (at ≡ number) × IsFaulty (setting_in m) m.system line kind; full = λ at. (at ≡ Some number) × IsShort line m; memory = λ at. (at ≡ Some number) × IsSoundLine (setting_in m) m.system line }) e
   fault_of_event event says (BadTrace at kind) f = absurd f
   fault_of_event event says (BadSchedule at kind) f = (f.0, subst (IsFaulty (setting_in m) m.system line) (sym f.1) (unlawful says f.2))
   fault_of_event event says (HeapFull at) f = (f.0, record { wants = by_event says f.1.refused; short = f.1.short })
@@ -193,13 +185,8 @@ module _ (number : ℕ) (line : List ℕ) (m : MachineValue) where
   fault_of_event event says WriteFailed f = f
 
   pub fault_of_finish : schedule_line_of line ≡ Ok Finish → (e : Fault)
-      → MatchEachFault e (λ _ _. ⊥) (λ _ _. ⊥) (λ at. (at ≡ Some number) × IsStuckAfter m) (λ at. at ≡ Some number) ⊥ ⊥
-      → MatchEachFault e
-      (λ at kind. (at ≡ number) × (schedule_line_of line ≡ Err (faults.Trace kind)))
-      (λ at kind. (at ≡ number) × IsFaulty (setting_in m) m.system line kind)
-      (λ at. (at ≡ Some number) × IsShort line m)
-      (λ at. (at ≡ Some number) × IsSoundLine (setting_in m) m.system line)
-      ⊥ ⊥
+      → AtFault (record never { full = λ at. (at ≡ Some number) × IsStuckAfter m; memory = λ at. at ≡ Some number }) e
+      → AtFault (record never { trace = λ at kind. (at ≡ number) × (schedule_line_of line ≡ Err (faults.Trace kind)); schedule = λ at kind. (at ≡ number) × IsFaulty (setting_in m) m.system line kind; full = λ at. (at ≡ Some number) × IsShort line m; memory = λ at. (at ≡ Some number) × IsSoundLine (setting_in m) m.system line }) e
   fault_of_finish says (BadTrace at kind) f = absurd f
   fault_of_finish says (BadSchedule at kind) f = absurd f
   fault_of_finish says (HeapFull at) f = (f.0, record { wants = by_finish says f.1.comes; short = f.1.short })

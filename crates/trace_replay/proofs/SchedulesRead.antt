@@ -10,17 +10,17 @@ use Rattle.trace_text.specs.declared.schedule.ScheduleKind.TheVariants.{Unfinish
 use Rattle.trace_text.specs.declared.schedule.LineFault.TheVariants as faults
 use Rattle.trace_session.specs.declared.trace_lines.fault.Fault.{Fault}
 use Rattle.trace_session.specs.declared.trace_lines.fault.Fault.TheVariants.{BadTrace, BadSchedule, HeapFull, NoMemory, Unsettled, ReadFailed, WriteFailed}
-use Rattle.trace_session.specs.Faults.{MatchEachFault}
+use Rattle.trace_session.specs.Faults.{never, AtFault}
 use Rattle.trace_session.specs.Lines.{LinesValue, Moves, Cuts, Waits}
 use Rattle.trace_session.specs.Pieces.{HasNoFeed}
 use Rattle.machine.specs.MachineValue.{MachineValue, setting_in}
 use Rattle.machine.specs.Events.{IsSameCollection, IsShortOfBlocks}
-use Rattle.trace_replay.specs.Runs.{BringsOn, HasCarried, IsSchedule}
+use Rattle.trace_replay.specs.Runs.{BringsOn, IsSchedule}
 use Rattle.trace_replay.specs.Stops.{IsUnreadable, IsFaulty, IsRefusedBlocks, IsShort, IsSoundLine, IsUsedUp, OfLine, StopsAt, StopsWith}
 use Rattle.trace_session.proofs.LineLemmas.{at_line, at_wait, moves_as, stops_moved, stops_pending, stops_ended, given_moved}
 use Rattle.trace_session.proofs.PieceLemmas.{begins_long}
 use Rattle.trace_replay.proofs.SchedulesLineByLine as by_text
-use Rattle.trace_replay.proofs.SchedulesLineByLine.{carried_none}
+use Rattle.trace_replay.proofs.SchedulesLineByLine.{carried_none, HasCarried}
 
 -- nothing was read yet
 pub nothing_carried : (number : ℕ) (m : MachineValue) (a : LinesValue) (i : Input) → Moves a a i i (λ text rest. HasCarried number text number rest m m)
@@ -51,19 +51,15 @@ module _ (start number' : ℕ) (old mid : MachineValue) (a b c : LinesValue) (i 
     same_at_end new ends = by_text.same_at_end start _ number' _ old mid (before_line.holds []) line _ refl free new ends
 
     pub fault_of_line : (read : Type 0) (e : Fault)
-        → MatchEachFault e
-        (λ at kind. (at ≡ number') × (schedule_line_of line ≡ Err (faults.Trace kind)))
-        (λ at kind. (at ≡ number') × IsFaulty (setting_in mid) mid.system line kind)
-        (λ at. (at ≡ Some number') × IsShort line mid)
-        (λ at. (at ≡ Some number') × IsSoundLine (setting_in mid) mid.system line)
-        ⊥ ⊥
-        → MatchEachFault e
-        (λ at kind. OfInput a.pending i k (λ text. StopsAt (IsUnreadable kind) (setting_in old) old.system (start + 1) text at))
-        (λ at kind. OfInput a.pending i k (λ text. StopsWith (setting_in old) old.system start text at kind))
-        (λ at. MatchOption at ⊥ (λ line. OfInput a.pending i k (λ text. StopsAt (OfLine (IsRefusedBlocks (setting_in old))) (setting_in old) old.system (start + 1) text line)
-        × IsShortOfBlocks old.heap old.collection.generation old.workers))
-        (λ at. MatchOption at ⊥ (λ line. OfInput a.pending i k (λ text. StopsAt (OfLine (IsSoundLine (setting_in old))) (setting_in old) old.system (start + 1) text line)))
-        read ⊥
+        → AtFault (record never { trace = λ at kind. (at ≡ number') × (schedule_line_of line ≡ Err (faults.Trace kind)); schedule = λ at kind. (at ≡ number') × IsFaulty (setting_in mid) mid.system line kind; full = λ at. (at ≡ Some number') × IsShort line mid; memory = λ at. (at ≡ Some number') × IsSoundLine (setting_in mid) mid.system line }) e
+        → AtFault (record never {
+          trace = λ at kind. OfInput a.pending i k (λ text. StopsAt (IsUnreadable kind) (setting_in old) old.system (start + 1) text at);
+          schedule = λ at kind. OfInput a.pending i k (λ text. StopsWith (setting_in old) old.system start text at kind);
+          full = λ at. MatchOption at ⊥ (λ line. OfInput a.pending i k (λ text. StopsAt (OfLine (IsRefusedBlocks (setting_in old))) (setting_in old) old.system (start + 1) text line)
+              × IsShortOfBlocks old.heap old.collection.generation old.workers);
+          memory = λ at. MatchOption at ⊥ (λ line. OfInput a.pending i k (λ text. StopsAt (OfLine (IsSoundLine (setting_in old))) (setting_in old) old.system (start + 1) text line));
+          read = read;
+        }) e
     fault_of_line read (BadTrace at kind) f =
         stops_moved a c i k before_line (λ text rest h. by_text.fault_of_line start text number' (line ++ 10 ∷ rest) old mid h line rest refl free (BadTrace at kind) f)
     fault_of_line read (BadSchedule at kind) f =

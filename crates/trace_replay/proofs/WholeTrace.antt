@@ -6,7 +6,7 @@ use Rattle.model.specs.Config.{Config}
 use Rattle.model.specs.Store.{empty_store}
 use Rattle.trace_session.specs.declared.trace_lines.fault.Fault.{Fault}
 use Rattle.trace_session.specs.declared.trace_lines.fault.Fault.TheVariants.{BadTrace, BadSchedule, HeapFull, NoMemory, Unsettled, ReadFailed, WriteFailed}
-use Rattle.trace_session.specs.Faults.{MatchEachFault}
+use Rattle.trace_session.specs.Faults.{never, AtFault}
 use Rattle.trace_session.specs.Lines.{LinesValue, IsOutOfReads, most_left}
 use Rattle.trace_session.specs.Pieces.{Piece, pieces}
 use Rattle.trace_session.specs.Stepped.{AtEach}
@@ -52,13 +52,7 @@ module _ {A : Type 0} (session : Session A) (config : Config) (stands : Stands s
   no_reads_left {F} failed = subst (λ reads. F ⊎ IsOutOfReads reads i j) (ap (λ (v : LinesValue). v.reads) fresh) failed
 
   fault_of_trace : (untouched failed written : Type 0) → (e : Fault)
-      → MatchEachFault e
-      (λ at kind. OfInput lines.pending i j (λ text. AtEach (Stands session) (λ config store. StopsIn (Quietly (HasTraceFault config n kind)) config n (state_of session store) 1 (pieces text) at printed printed')))
-      (λ at kind. OfInput lines.pending i j (λ text. AtEach (Stands session) (λ config store. StopsIn (Quietly (HasScheduleFault config n kind)) config n (state_of session store) 1 (pieces text) at printed printed')))
-      (λ at. MatchOption at ⊥ (λ line. OfInput lines.pending i j (λ text. AtEach (Stands session) (λ config store. StopsIn (Quietly (WantsBlocks config n)) config n (state_of session store) 1 (pieces text) line printed printed'))))
-      (λ at. MatchOption at ⊥ (λ line. OfInput lines.pending i j (λ text. AtEach (Stands session) (λ config store. StopsIn (IsSoundAt config n) config n (state_of session store) 1 (pieces text) line printed printed'))))
-      (OfGiven lines.pending i j (λ text. AtEach (Stands session) (λ config store. ReplaysWholeIn config n (state_of session store) (pieces text) printed printed')) × (failed ⊎ IsOutOfReads lines.reads i j))
-      written
+      → AtFault (record never { trace = λ at kind. OfInput lines.pending i j (λ text. AtEach (Stands session) (λ config store. StopsIn (Quietly (HasTraceFault config n kind)) config n (state_of session store) 1 (pieces text) at printed printed')); schedule = λ at kind. OfInput lines.pending i j (λ text. AtEach (Stands session) (λ config store. StopsIn (Quietly (HasScheduleFault config n kind)) config n (state_of session store) 1 (pieces text) at printed printed')); full = λ at. MatchOption at ⊥ (λ line. OfInput lines.pending i j (λ text. AtEach (Stands session) (λ config store. StopsIn (Quietly (WantsBlocks config n)) config n (state_of session store) 1 (pieces text) line printed printed'))); memory = λ at. MatchOption at ⊥ (λ line. OfInput lines.pending i j (λ text. AtEach (Stands session) (λ config store. StopsIn (IsSoundAt config n) config n (state_of session store) 1 (pieces text) line printed printed'))); read = OfGiven lines.pending i j (λ text. AtEach (Stands session) (λ config store. ReplaysWholeIn config n (state_of session store) (pieces text) printed printed')) × (failed ⊎ IsOutOfReads lines.reads i j); write = written }) e
       → IsReplayStopped config n untouched i j printed printed' failed written e
   fault_of_trace untouched failed written (BadTrace at kind) f = stops_somewhere (λ config. Quietly (HasTraceFault config n kind)) at f
   fault_of_trace untouched failed written (BadSchedule at kind) f = stops_somewhere (λ config. Quietly (HasScheduleFault config n kind)) at f
@@ -78,13 +72,7 @@ module _ {A : Type 0} (session : Session A) (config : Config) (stands : Stands s
   whole_if_ok (Err e) all = tt
 
   pub fault_if_err : (untouched failed written : Type 0) → {T : Type 0} (r : Result T Fault)
-      → IfErr r (λ e. MatchEachFault e
-      (λ at kind. OfInput lines.pending i j (λ text. AtEach (Stands session) (λ config store. StopsIn (Quietly (HasTraceFault config n kind)) config n (state_of session store) 1 (pieces text) at printed printed')))
-      (λ at kind. OfInput lines.pending i j (λ text. AtEach (Stands session) (λ config store. StopsIn (Quietly (HasScheduleFault config n kind)) config n (state_of session store) 1 (pieces text) at printed printed')))
-      (λ at. MatchOption at ⊥ (λ line. OfInput lines.pending i j (λ text. AtEach (Stands session) (λ config store. StopsIn (Quietly (WantsBlocks config n)) config n (state_of session store) 1 (pieces text) line printed printed'))))
-      (λ at. MatchOption at ⊥ (λ line. OfInput lines.pending i j (λ text. AtEach (Stands session) (λ config store. StopsIn (IsSoundAt config n) config n (state_of session store) 1 (pieces text) line printed printed'))))
-      (OfGiven lines.pending i j (λ text. AtEach (Stands session) (λ config store. ReplaysWholeIn config n (state_of session store) (pieces text) printed printed')) × (failed ⊎ IsOutOfReads lines.reads i j))
-      written)
+      → IfErr r (AtFault (record never { trace = λ at kind. OfInput lines.pending i j (λ text. AtEach (Stands session) (λ config store. StopsIn (Quietly (HasTraceFault config n kind)) config n (state_of session store) 1 (pieces text) at printed printed')); schedule = λ at kind. OfInput lines.pending i j (λ text. AtEach (Stands session) (λ config store. StopsIn (Quietly (HasScheduleFault config n kind)) config n (state_of session store) 1 (pieces text) at printed printed')); full = λ at. MatchOption at ⊥ (λ line. OfInput lines.pending i j (λ text. AtEach (Stands session) (λ config store. StopsIn (Quietly (WantsBlocks config n)) config n (state_of session store) 1 (pieces text) line printed printed'))); memory = λ at. MatchOption at ⊥ (λ line. OfInput lines.pending i j (λ text. AtEach (Stands session) (λ config store. StopsIn (IsSoundAt config n) config n (state_of session store) 1 (pieces text) line printed printed'))); read = OfGiven lines.pending i j (λ text. AtEach (Stands session) (λ config store. ReplaysWholeIn config n (state_of session store) (pieces text) printed printed')) × (failed ⊎ IsOutOfReads lines.reads i j); write = written }))
       → IfErr r (IsReplayStopped config n untouched i j printed printed' failed written)
   fault_if_err untouched failed written (Ok x) f = tt
   fault_if_err untouched failed written (Err e) f = fault_of_trace untouched failed written e f

@@ -10,7 +10,7 @@ use Rattle.trace_text.specs.Grammar.{entry_of}
 use Rattle.trace_text.specs.declared.schedule.ScheduleKind.{ScheduleKind}
 use Rattle.trace_session.specs.Lines.{IsOutOfReads}
 use Rattle.trace_session.specs.declared.trace_lines.fault.Fault.{Fault}
-use Rattle.trace_session.specs.Faults.{MatchEachFault}
+use Rattle.trace_session.specs.Faults.{never, AtFault}
 use Rattle.trace_session.specs.Pieces.{Piece, finished, pieces, whole_lines}
 use Rattle.trace_session.specs.Outcome.{piece_step}
 use Rattle.trace_session.specs.Sound.{IsSoundTraceLine, IsSoundCommand}
@@ -116,10 +116,11 @@ pub record IsReplayDone (config : Config) (n : ℕ) (i i' : Input) (o o' : Outpu
 
 -- why a replay by n workers stops, and what was then written of each text that begins with what was read; nothing was touched before the first read
 abbrev pub IsReplayStopped : Config → ℕ → (untouched : Type 0) → (i i' : Input) (o o' : Output) → (failed_read failed_write : Type 0) → Fault → Type 0
-IsReplayStopped config n untouched i i' o o' failed_read failed_write fault = MatchEachFault fault
-    (λ at kind. OfInput [] i i' (Stops (Quietly (HasTraceFault config n kind)) config n at o o'))
-    (λ at kind. OfInput [] i i' (Stops (Quietly (HasScheduleFault config n kind)) config n at o o'))
-    (λ at. MatchOption at ((config.blocks < config.mutators * config.nursery_blocks) × untouched) (λ line. OfInput [] i i' (Stops (Quietly (WantsBlocks config n)) config n line o o')))
-    (λ at. MatchOption at untouched (λ line. OfInput [] i i' (Stops (IsSoundAt config n) config n line o o')))
-    (OfGiven [] i i' (ReplaysWhole config n o o') × (failed_read ⊎ IsOutOfReads (2 ^ 64 - 1) i i'))
-    failed_write
+IsReplayStopped config n untouched i i' o o' failed_read failed_write fault = AtFault (record never {
+  trace = λ at kind. OfInput [] i i' (Stops (Quietly (HasTraceFault config n kind)) config n at o o');
+  schedule = λ at kind. OfInput [] i i' (Stops (Quietly (HasScheduleFault config n kind)) config n at o o');
+  full = λ at. MatchOption at ((config.blocks < config.mutators * config.nursery_blocks) × untouched) (λ line. OfInput [] i i' (Stops (Quietly (WantsBlocks config n)) config n line o o'));
+  memory = λ at. MatchOption at untouched (λ line. OfInput [] i i' (Stops (IsSoundAt config n) config n line o o'));
+  read = OfGiven [] i i' (ReplaysWhole config n o o') × (failed_read ⊎ IsOutOfReads (2 ^ 64 - 1) i i');
+  write = failed_write;
+}) fault

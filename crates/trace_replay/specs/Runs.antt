@@ -50,19 +50,7 @@ abbrev pub Answers : Progress → List ℕ → MachineValue → MachineValue →
 Answers GoesOn line old new = BringsOn line old new
 Answers Ends line old new = (schedule_line_of line ≡ Ok Commit) × (new ≡ old)
 
--- lines, one after another
-pub record CarriesOn (lines : List (List ℕ)) (old new : MachineValue) : Type 0 where
-  pub same : IsSameCollection old new
-  pub run : LinesRun (setting_in old) old.system lines new.system
-
--- from line `number` of a text on, up to the line before this number, and this is the rest of the text
-pub record HasCarried (number : ℕ) (text : List ℕ) (number' : ℕ) (rest : List ℕ) (old new : MachineValue) : Type 0 where
-  pub lines : List (List ℕ)
-  pub carries : CarriesOn lines old new
-  pub pieces_are : pieces text ≡ map finished lines ++ pieces rest
-  pub number_is : number' ≡ number + length lines
-
--- from line `number` of a text on lines bring the workers on, up to `commit`, whose number is this, and leave the rest of the text
+-- from line `number` of a text on, lines bring the workers on, up to `commit`, whose number is this, and leave the rest of the text
 pub record IsSchedule (setting : Setting) (first : System) (number : ℕ) (text : List ℕ) (commit : ℕ) (rest : List ℕ) (last : System) : Type 0 where
   pub lines : List (List ℕ)
   pub run : LinesRun setting first lines last

@@ -2,7 +2,7 @@
 ghost use Rattle.std.specs.Prelude.{◌≡◌, ◌+◌, ◌-◌, ◌^◌, ◌<◌, ◌≤◌, ◌⊎◌, [], Some, MatchOption, IfOk, OnOk, IfErr};
 ghost use Rattle.heap_text.specs.Streams.{OfGiven, OfInput};
 ghost use Rattle.model.specs.Store.{collected};
-ghost use Rattle.trace_session.specs.Faults.{MatchFault, MatchEachFault, UnlessOfWrite};
+ghost use Rattle.trace_session.specs.Faults.{never, AtFault, UnlessOfWrite};
 ghost use Rattle.trace_session.specs.Lines.{IsOutOfReads, Moves, most_left};
 ghost use Rattle.trace_session.specs.Stepped.{AtEach, Writes};
 ghost use Rattle.trace_session.specs.Session.{Stands};
@@ -28,8 +28,7 @@ pub(crate) fn collect<A: Allocator + Clone, S: Source, W: Sink>(
     reader: &mut S,
     writer: &mut W,
 ) -> Result<u128, Fault>
-    requires some { 0 < workers }
-    requires most { workers ≤ 16 }
+    requires workers { (0 < workers) × (workers ≤ 16) }
     requires room { number + 1 + most_left lines.old < 2 ^ 127 }
     requires readable { S.failed_reads reader.old < 2 ^ 64 - 1 }
     requires countable { W.failed_writes writer.old < 2 ^ 64 - 1 }
@@ -42,25 +41,29 @@ pub(crate) fn collect<A: Allocator + Clone, S: Source, W: Sink>(
     ensures read_rises { S.failed_reads reader.new ≤ S.failed_reads reader.old + 1 }
     ensures counts { OnOk result (W.failed_writes writer.new ≡ W.failed_writes writer.old) }
     ensures rises { W.failed_writes writer.new ≤ W.failed_writes writer.old + 1 }
-    ensures err { IfErr result (λ e. MatchEachFault e
-        (λ at kind. OfInput lines.old.pending (S.input reader.old) (S.input reader.new) (λ text.
-        AtEach (Stands session.old) (λ config store. AfterCollect generation text (λ left.
-        HasTraceFault config workers kind (state_of session.old store) number left at))) × (writer.new ≡ writer.old))
-        (λ at kind. OfInput lines.old.pending (S.input reader.old) (S.input reader.new) (λ text.
-        AtEach (Stands session.old) (λ config store. AfterCollect generation text (λ left.
-        HasScheduleFault config workers kind (state_of session.old store) number left at))) × (writer.new ≡ writer.old))
-        (λ at. MatchOption at ⊥ (λ line. OfInput lines.old.pending (S.input reader.old) (S.input reader.new) (λ text.
-        AtEach (Stands session.old) (λ config store. AfterCollect generation text (λ left.
-        WantsBlocks config workers (state_of session.old store) number left line)))) × (writer.new ≡ writer.old))
-        (λ at. MatchOption at ⊥ (λ line. OfInput lines.old.pending (S.input reader.old) (S.input reader.new) (λ text.
-        AtEach (Stands session.old) (λ config store. AfterCollect generation text (λ left.
-        IsSoundAt config workers (state_of session.old store) number left line [])))) × (writer.new ≡ writer.old))
-        (OfGiven lines.old.pending (S.input reader.old) (S.input reader.new) (λ text.
-        AtEach (Stands session.old) (λ config store. AfterCollect generation text
-        (LeavesNothingWhole config workers (state_of session.old store)))) × (writer.new ≡ writer.old)
-        × ((S.failed_reads reader.new ≡ S.failed_reads reader.old + 1)
-        ⊎ IsOutOfReads lines.old.reads (S.input reader.old) (S.input reader.new)))
-        (W.failed_writes writer.new ≡ W.failed_writes writer.old + 1)) }
+    ensures err { IfErr result (AtFault (record never {
+      trace = λ at kind. OfInput lines.old.pending (S.input reader.old) (S.input reader.new) (λ text.
+          AtEach (Stands session.old) (λ config store. AfterCollect generation text (λ left.
+          HasTraceFault config workers kind (state_of session.old store) number left at))) × (writer.new ≡ writer.old);
+      schedule = λ at kind. OfInput lines.old.pending (S.input reader.old) (S.input reader.new) (λ text.
+          AtEach (Stands session.old) (λ config store. AfterCollect generation text (λ left.
+          HasScheduleFault config workers kind (state_of session.old store) number left at))) ×
+          (writer.new ≡ writer.old);
+      full = λ at. MatchOption at ⊥ (λ line. OfInput lines.old.pending (S.input reader.old) (S.input reader.new)
+          (λ text.
+          AtEach (Stands session.old) (λ config store. AfterCollect generation text (λ left.
+          WantsBlocks config workers (state_of session.old store) number left line)))) × (writer.new ≡ writer.old);
+      memory = λ at. MatchOption at ⊥ (λ line. OfInput lines.old.pending (S.input reader.old) (S.input reader.new)
+          (λ text.
+          AtEach (Stands session.old) (λ config store. AfterCollect generation text (λ left.
+          IsSoundAt config workers (state_of session.old store) number left line [])))) × (writer.new ≡ writer.old);
+      read = OfGiven lines.old.pending (S.input reader.old) (S.input reader.new) (λ text.
+          AtEach (Stands session.old) (λ config store. AfterCollect generation text
+          (LeavesNothingWhole config workers (state_of session.old store)))) × (writer.new ≡ writer.old)
+          × ((S.failed_reads reader.new ≡ S.failed_reads reader.old + 1)
+          ⊎ IsOutOfReads lines.old.reads (S.input reader.old) (S.input reader.new));
+      write = W.failed_writes writer.new ≡ W.failed_writes writer.old + 1;
+    })) }
     ensures before { IfErr result (λ e. UnlessOfWrite e (session.new ≡ session.old)) }
 {
     if generation >= session.heap.config().generations() as u64 {
@@ -117,8 +120,7 @@ pub(crate) fn make_room<A: Allocator + Clone, W: Sink>(
     number: u128,
     writer: &mut W,
 ) -> Result<(), Fault>
-    requires some { 0 < workers }
-    requires most { workers ≤ 16 }
+    requires workers { (0 < workers) × (workers ≤ 16) }
     requires countable { W.failed_writes writer.old < 2 ^ 64 - 1 }
     ensures ok { OnOk result
         (AtEach (Stands session.old) (λ config store. Stands session.new config (collected config 0 store)
@@ -127,12 +129,12 @@ pub(crate) fn make_room<A: Allocator + Clone, W: Sink>(
     ensures names { OnOk result (session.new.names ≡ session.old.names) }
     ensures counts { OnOk result (W.failed_writes writer.new ≡ W.failed_writes writer.old) }
     ensures rises { W.failed_writes writer.new ≤ W.failed_writes writer.old + 1 }
-    ensures err { IfErr result (λ e. MatchFault e (λ _ _. ⊥)
-        (λ at. (at ≡ Some number) × IsFullInTurn session.old.heap 0 workers × (session.new ≡ session.old) ×
-        (writer.new ≡ writer.old))
-        (λ at. (at ≡ Some number) × (session.new ≡ session.old) × (writer.new ≡ writer.old))
-        ⊥
-        (W.failed_writes writer.new ≡ W.failed_writes writer.old + 1)) }
+    ensures err { IfErr result (AtFault (record never {
+      full = λ at. (at ≡ Some number) × IsFullInTurn session.old.heap 0 workers × (session.new ≡ session.old) ×
+          (writer.new ≡ writer.old);
+      memory = λ at. (at ≡ Some number) × (session.new ≡ session.old) × (writer.new ≡ writer.old);
+      write = W.failed_writes writer.new ≡ W.failed_writes writer.old + 1;
+    })) }
 {
     let _generations = session.heap.config().generations();
     let Ok(alloc) = session.alloc.clone() else {

@@ -2,7 +2,7 @@
 ghost use Rattle.std.specs.Prelude.{◌≡◌, ◌+◌, ◌-◌, ◌^◌, ◌<◌, ◌≤◌, ◌⊎◌, ◌∷◌, Some, Err, IsTrue, MatchOption, IfOk, OnOk, IfErr};
 ghost use Rattle.heap_text.specs.Streams.{OfGiven, OfInput};
 ghost use Rattle.trace_text.specs.Grammar.{entry_of};
-ghost use Rattle.trace_session.specs.Faults.{MatchFault, MatchEachFault};
+ghost use Rattle.trace_session.specs.Faults.{never, AtFault};
 ghost use Rattle.trace_session.specs.Commands.{IsNoCollection};
 ghost use Rattle.trace_session.specs.Lines.{IsOutOfReads, Moves, most_left};
 ghost use Rattle.trace_session.specs.Outcome.{line_step};
@@ -29,8 +29,7 @@ fn carry_out_line<A: Allocator + Clone, W: Sink>(
     line: &[u8],
     writer: &mut W,
 ) -> Result<(), Fault>
-    requires some { 0 < workers }
-    requires most { workers ≤ 16 }
+    requires workers { (0 < workers) × (workers ≤ 16) }
     requires plain { IsNoCollection (entry_of line.now) }
     requires countable { W.failed_writes writer.old < 2 ^ 64 - 1 }
     ensures ok { OnOk result (AtEach (Stands session.old) (λ config store.
@@ -38,20 +37,20 @@ fn carry_out_line<A: Allocator + Clone, W: Sink>(
         (W.output writer.new))) }
     ensures counts { OnOk result (W.failed_writes writer.new ≡ W.failed_writes writer.old) }
     ensures rises { W.failed_writes writer.new ≤ W.failed_writes writer.old + 1 }
-    ensures err { IfErr result (λ e. MatchFault e
-        (λ at kind. (at ≡ number) ×
-        AtEach (Stands session.old) (λ config store. (line_step config store line.now ≡ Err kind) ×
-        (writer.new ≡ writer.old)))
-        (λ at. (at ≡ Some number) ×
-        AtEach (Stands session.old)
-        (λ config store. WantsRoom config workers (state_of session.old store) line.now ×
-        (writer.new ≡ writer.old)))
-        (λ at. (at ≡ Some number) ×
-        AtEach (Stands session.old)
-        (λ config store. Writes (IsLineSoFar config workers (state_of session.old store) line.now)
-        (W.output writer.old) (W.output writer.new)))
-        ⊥
-        (W.failed_writes writer.new ≡ W.failed_writes writer.old + 1)) }
+    ensures err { IfErr result (AtFault (record never {
+      trace = λ at kind. (at ≡ number) ×
+          AtEach (Stands session.old) (λ config store. (line_step config store line.now ≡ Err kind) ×
+          (writer.new ≡ writer.old));
+      full = λ at. (at ≡ Some number) ×
+          AtEach (Stands session.old)
+          (λ config store. WantsRoom config workers (state_of session.old store) line.now ×
+          (writer.new ≡ writer.old));
+      memory = λ at. (at ≡ Some number) ×
+          AtEach (Stands session.old)
+          (λ config store. Writes (IsLineSoFar config workers (state_of session.old store) line.now)
+          (W.output writer.old) (W.output writer.new));
+      write = W.failed_writes writer.new ≡ W.failed_writes writer.old + 1;
+    })) }
 {
     match attempt_line(session, number, line, writer) {
         Ok(Attempt::Done) => return Ok(()),
@@ -80,8 +79,7 @@ fn carry_out_first<A: Allocator + Clone, S: Source, W: Sink>(
     reader: &mut S,
     writer: &mut W,
 ) -> Result<u128, Fault>
-    requires some { 0 < workers }
-    requires most { workers ≤ 16 }
+    requires workers { (0 < workers) × (workers ≤ 16) }
     requires room { number + 1 + most_left lines.old < 2 ^ 127 }
     requires readable { S.failed_reads reader.old < 2 ^ 64 - 1 }
     requires countable { W.failed_writes writer.old < 2 ^ 64 - 1 }
@@ -94,26 +92,27 @@ fn carry_out_first<A: Allocator + Clone, S: Source, W: Sink>(
     ensures read_rises { S.failed_reads reader.new ≤ S.failed_reads reader.old + 1 }
     ensures counts { OnOk result (W.failed_writes writer.new ≡ W.failed_writes writer.old) }
     ensures rises { W.failed_writes writer.new ≤ W.failed_writes writer.old + 1 }
-    ensures err { IfErr result (λ e. MatchEachFault e
-        (λ at kind. OfInput lines.old.pending (S.input reader.old) (S.input reader.new) (λ text.
-        AtEach (Stands session.old) (λ config store. HasTraceFault config workers kind
-        (state_of session.old store) number (finished lines.old.line ∷ pieces text) at × (writer.new ≡ writer.old))))
-        (λ at kind. OfInput lines.old.pending (S.input reader.old) (S.input reader.new) (λ text.
-        AtEach (Stands session.old) (λ config store. HasScheduleFault config workers kind
-        (state_of session.old store) number (finished lines.old.line ∷ pieces text) at × (writer.new ≡ writer.old))))
-        (λ at. MatchOption at ⊥ (λ k. OfInput lines.old.pending (S.input reader.old) (S.input reader.new) (λ text.
-        AtEach (Stands session.old) (λ config store. WantsBlocks config workers
-        (state_of session.old store) number (finished lines.old.line ∷ pieces text) k × (writer.new ≡ writer.old)))))
-        (λ at. MatchOption at ⊥ (λ k. OfInput lines.old.pending (S.input reader.old) (S.input reader.new) (λ text.
-        AtEach (Stands session.old) (λ config store. Writes (IsSoundAt config workers
-        (state_of session.old store) number (finished lines.old.line ∷ pieces text) k)
-        (W.output writer.old) (W.output writer.new)))))
-        (OfGiven lines.old.pending (S.input reader.old) (S.input reader.new) (λ text.
-        AtEach (Stands session.old) (λ config store. LeavesNothingWhole config workers
-        (state_of session.old store) (finished lines.old.line ∷ pieces text))) × (writer.new ≡ writer.old)
-        × ((S.failed_reads reader.new ≡ S.failed_reads reader.old + 1)
-        ⊎ IsOutOfReads lines.old.reads (S.input reader.old) (S.input reader.new)))
-        (W.failed_writes writer.new ≡ W.failed_writes writer.old + 1)) }
+    ensures err { IfErr result (AtFault (record never {
+      trace = λ at kind. OfInput lines.old.pending (S.input reader.old) (S.input reader.new) (λ text.
+          AtEach (Stands session.old) (λ config store. HasTraceFault config workers kind
+          (state_of session.old store) number (finished lines.old.line ∷ pieces text) at × (writer.new ≡ writer.old)));
+      schedule = λ at kind. OfInput lines.old.pending (S.input reader.old) (S.input reader.new) (λ text.
+          AtEach (Stands session.old) (λ config store. HasScheduleFault config workers kind
+          (state_of session.old store) number (finished lines.old.line ∷ pieces text) at × (writer.new ≡ writer.old)));
+      full = λ at. MatchOption at ⊥ (λ k. OfInput lines.old.pending (S.input reader.old) (S.input reader.new) (λ text.
+          AtEach (Stands session.old) (λ config store. WantsBlocks config workers
+          (state_of session.old store) number (finished lines.old.line ∷ pieces text) k × (writer.new ≡ writer.old))));
+      memory = λ at. MatchOption at ⊥ (λ k. OfInput lines.old.pending (S.input reader.old) (S.input reader.new) (λ text.
+          AtEach (Stands session.old) (λ config store. Writes (IsSoundAt config workers
+          (state_of session.old store) number (finished lines.old.line ∷ pieces text) k)
+          (W.output writer.old) (W.output writer.new))));
+      read = OfGiven lines.old.pending (S.input reader.old) (S.input reader.new) (λ text.
+          AtEach (Stands session.old) (λ config store. LeavesNothingWhole config workers
+          (state_of session.old store) (finished lines.old.line ∷ pieces text))) × (writer.new ≡ writer.old)
+          × ((S.failed_reads reader.new ≡ S.failed_reads reader.old + 1)
+          ⊎ IsOutOfReads lines.old.reads (S.input reader.old) (S.input reader.new));
+      write = W.failed_writes writer.new ≡ W.failed_writes writer.old + 1;
+    })) }
 {
     if let Some(generation) = collected(lines.line()) {
         return collect(session, workers, number, generation, lines, reader, writer);
@@ -132,8 +131,7 @@ fn carry_out_lines<A: Allocator + Clone, S: Source, W: Sink>(
     reader: &mut S,
     writer: &mut W,
 ) -> Result<(), Fault>
-    requires some { 0 < workers }
-    requires most { workers ≤ 16 }
+    requires workers { (0 < workers) × (workers ≤ 16) }
     requires room { most_left lines.old < 2 ^ 81 }
     requires readable { S.failed_reads reader.old < 2 ^ 64 - 1 }
     requires countable { W.failed_writes writer.old < 2 ^ 64 - 1 }
@@ -143,25 +141,28 @@ fn carry_out_lines<A: Allocator + Clone, S: Source, W: Sink>(
         (state_of session.old store) (pieces text) (W.output writer.old) (W.output writer.new)))) }
     ensures read_rises { S.failed_reads reader.new ≤ S.failed_reads reader.old + 1 }
     ensures rises { W.failed_writes writer.new ≤ W.failed_writes writer.old + 1 }
-    ensures err { IfErr result (λ e. MatchEachFault e
-        (λ at kind. OfInput lines.old.pending (S.input reader.old) (S.input reader.new) (λ text.
-        AtEach (Stands session.old) (λ config store. StopsIn (Quietly (HasTraceFault config workers kind)) config
-        workers (state_of session.old store) 1 (pieces text) at (W.output writer.old) (W.output writer.new))))
-        (λ at kind. OfInput lines.old.pending (S.input reader.old) (S.input reader.new) (λ text.
-        AtEach (Stands session.old) (λ config store. StopsIn (Quietly (HasScheduleFault config workers kind)) config
-        workers (state_of session.old store) 1 (pieces text) at (W.output writer.old) (W.output writer.new))))
-        (λ at. MatchOption at ⊥ (λ line. OfInput lines.old.pending (S.input reader.old) (S.input reader.new) (λ text.
-        AtEach (Stands session.old) (λ config store. StopsIn (Quietly (WantsBlocks config workers)) config workers
-        (state_of session.old store) 1 (pieces text) line (W.output writer.old) (W.output writer.new)))))
-        (λ at. MatchOption at ⊥ (λ line. OfInput lines.old.pending (S.input reader.old) (S.input reader.new) (λ text.
-        AtEach (Stands session.old) (λ config store. StopsIn (IsSoundAt config workers) config workers
-        (state_of session.old store) 1 (pieces text) line (W.output writer.old) (W.output writer.new)))))
-        (OfGiven lines.old.pending (S.input reader.old) (S.input reader.new) (λ text.
-        AtEach (Stands session.old) (λ config store. ReplaysWholeIn config workers
-        (state_of session.old store) (pieces text) (W.output writer.old) (W.output writer.new)))
-        × ((S.failed_reads reader.new ≡ S.failed_reads reader.old + 1)
-        ⊎ IsOutOfReads lines.old.reads (S.input reader.old) (S.input reader.new)))
-        (W.failed_writes writer.new ≡ W.failed_writes writer.old + 1)) }
+    ensures err { IfErr result (AtFault (record never {
+      trace = λ at kind. OfInput lines.old.pending (S.input reader.old) (S.input reader.new) (λ text.
+          AtEach (Stands session.old) (λ config store. StopsIn (Quietly (HasTraceFault config workers kind)) config
+          workers (state_of session.old store) 1 (pieces text) at (W.output writer.old) (W.output writer.new)));
+      schedule = λ at kind. OfInput lines.old.pending (S.input reader.old) (S.input reader.new) (λ text.
+          AtEach (Stands session.old) (λ config store. StopsIn (Quietly (HasScheduleFault config workers kind)) config
+          workers (state_of session.old store) 1 (pieces text) at (W.output writer.old) (W.output writer.new)));
+      full = λ at. MatchOption at ⊥ (λ line. OfInput lines.old.pending (S.input reader.old) (S.input reader.new)
+          (λ text.
+          AtEach (Stands session.old) (λ config store. StopsIn (Quietly (WantsBlocks config workers)) config workers
+          (state_of session.old store) 1 (pieces text) line (W.output writer.old) (W.output writer.new))));
+      memory = λ at. MatchOption at ⊥ (λ line. OfInput lines.old.pending (S.input reader.old) (S.input reader.new)
+          (λ text.
+          AtEach (Stands session.old) (λ config store. StopsIn (IsSoundAt config workers) config workers
+          (state_of session.old store) 1 (pieces text) line (W.output writer.old) (W.output writer.new))));
+      read = OfGiven lines.old.pending (S.input reader.old) (S.input reader.new) (λ text.
+          AtEach (Stands session.old) (λ config store. ReplaysWholeIn config workers
+          (state_of session.old store) (pieces text) (W.output writer.old) (W.output writer.new)))
+          × ((S.failed_reads reader.new ≡ S.failed_reads reader.old + 1)
+          ⊎ IsOutOfReads lines.old.reads (S.input reader.old) (S.input reader.new));
+      write = W.failed_writes writer.new ≡ W.failed_writes writer.old + 1;
+    })) }
 {
     let mut number = 1;
     loop {
@@ -191,8 +192,7 @@ pub fn replay<A: Allocator + Clone, S: Source, W: Sink>(
     piece: usize,
     seed: u128,
 ) -> Result<(), Fault>
-    requires some { 0 < workers }
-    requires most { workers ≤ 16 }
+    requires workers { (0 < workers) × (workers ≤ 16) }
     requires piece_some { 0 < piece }
     requires piece_most { piece ≤ 65536 }
     requires readable { S.failed_reads reader.old < 2 ^ 64 - 1 }

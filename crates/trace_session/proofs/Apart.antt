@@ -14,7 +14,7 @@ use Rattle.trace_session.specs.declared.trace_lines.fault.Fault.{Fault}
 use Rattle.trace_session.specs.declared.trace_lines.fault.Fault.TheVariants.{BadTrace, BadSchedule, HeapFull, NoMemory, Unsettled, ReadFailed, WriteFailed}
 use Rattle.trace_session.specs.CollectsFirst.{ReadCollectsFirst, LineCollectsFirst, IsSoundSoFar, auto_line}
 use Rattle.trace_session.specs.Commands.{IsNoCollection}
-use Rattle.trace_session.specs.Faults.{MatchFault, MatchFaultApart}
+use Rattle.trace_session.specs.Faults.{never, AtFault}
 use Rattle.trace_session.specs.Outcome.{line_step, command_step}
 use Rattle.trace_session.specs.Sound.{IsSoundTraceLine, IsSoundCommand}
 use Rattle.trace_session.specs.Stepped.{AtEach, StepsTo, Writes}
@@ -29,9 +29,9 @@ must_be_box kinds.Word not_word = absurd (not_word refl)
 
 -- what follows from a fault where no thread shares cells follows where some do, if it does where cells are unsettled
 pub tells_apart : (trace trace' : ℕ → Kind → Type 0) (full full' memory memory' : Option ℕ → Type 0) (unsettled unsettled' : ℕ → Type 0) (read read' write write' : Type 0) (e : Fault)
-    → (MatchFault e trace full memory read write → MatchFault e trace' full' memory' read' write')
+    → (AtFault (record never { trace = trace; full = full; memory = memory; read = read; write = write }) e → AtFault (record never { trace = trace'; full = full'; memory = memory'; read = read'; write = write' }) e)
     → ((at : ℕ) → unsettled at → unsettled' at)
-    → MatchFaultApart e trace full memory unsettled read write → MatchFaultApart e trace' full' memory' unsettled' read' write'
+    → AtFault (record never { trace = trace; full = full; memory = memory; unsettled = unsettled; read = read; write = write }) e → AtFault (record never { trace = trace'; full = full'; memory = memory'; unsettled = unsettled'; read = read'; write = write' }) e
 tells_apart trace trace' full full' memory memory' unsettled unsettled' read read' write write' (BadTrace at kind) others unsettled_too f = others f
 tells_apart trace trace' full full' memory memory' unsettled unsettled' read read' write write' (BadSchedule at kind) others unsettled_too f = absurd f
 tells_apart trace trace' full full' memory memory' unsettled unsettled' read read' write write' (HeapFull at) others unsettled_too f = others f
@@ -41,7 +41,7 @@ tells_apart trace trace' full full' memory memory' unsettled unsettled' read rea
 tells_apart trace trace' full full' memory memory' unsettled unsettled' read read' write write' WriteFailed others unsettled_too f = others f
 
 -- where no thread shared cells none are unsettled
-pub never_unsettled : (trace : ℕ → Kind → Type 0) (full memory : Option ℕ → Type 0) (unsettled : ℕ → Type 0) (read write : Type 0) (e : Fault) → MatchFault e trace full memory read write → MatchFaultApart e trace full memory unsettled read write
+pub never_unsettled : (trace : ℕ → Kind → Type 0) (full memory : Option ℕ → Type 0) (unsettled : ℕ → Type 0) (read write : Type 0) (e : Fault) → AtFault (record never { trace = trace; full = full; memory = memory; read = read; write = write }) e → AtFault (record never { trace = trace; full = full; memory = memory; unsettled = unsettled; read = read; write = write }) e
 never_unsettled trace full memory unsettled read write (BadTrace at kind) f = f
 never_unsettled trace full memory unsettled read write (BadSchedule at kind) f = f
 never_unsettled trace full memory unsettled read write (HeapFull at) f = f
@@ -89,20 +89,10 @@ module _ (line : List ℕ) (g : ℕ) (says : entry_of line ≡ Ok (Some (Collect
     -- what a fault of the collection tells
     abbrev OfCollection : Fault → Type 0
     OfCollection e =
-        MatchFaultApart e
-        (λ at kind. (at ≡ number) × AtEach stands (λ config store. command_step config store (Collect g) ≡ Err kind) × (new ≡ old))
-        (λ at. (at ≡ Some number) × IsFullToCollect heap g n × AtEach stands (λ config store. CommandMayBeFull n config store (Collect g)) × (new ≡ old))
-        (λ at. (at ≡ Some number) × AtEach stands (λ config store. IsSoundCommand config store (Collect g)) × (new ≡ old))
-        (λ at. (at ≡ number) × box × AtEach stands (λ config store. IsSoundCommand config store (Collect g)) × (new ≡ old))
-        ⊥ written
+        AtFault (record never { trace = λ at kind. (at ≡ number) × AtEach stands (λ config store. command_step config store (Collect g) ≡ Err kind) × (new ≡ old); full = λ at. (at ≡ Some number) × IsFullToCollect heap g n × AtEach stands (λ config store. CommandMayBeFull n config store (Collect g)) × (new ≡ old); memory = λ at. (at ≡ Some number) × AtEach stands (λ config store. IsSoundCommand config store (Collect g)) × (new ≡ old); unsettled = λ at. (at ≡ number) × box × AtEach stands (λ config store. IsSoundCommand config store (Collect g)) × (new ≡ old); write = written }) e
 
     fault_of_collect : (e : Fault) → OfCollection e
-        → MatchFaultApart e
-        (λ at kind. (at ≡ number) × AtEach stands (λ config store. (line_step config store line ≡ Err kind) × (new ≡ old)))
-        (λ at. (at ≡ Some number) × AtEach stands (λ config store. MayBeFull n config store line × (new ≡ old)))
-        (λ at. (at ≡ Some number) × AtEach stands (λ config store. Writes (IsSoundSoFar config store line) (contents old) (contents new)))
-        (λ at. (at ≡ number) × box × AtEach stands (λ config store. IsSoundTraceLine config store line × (new ≡ old)))
-        ⊥ written
+        → AtFault (record never { trace = λ at kind. (at ≡ number) × AtEach stands (λ config store. (line_step config store line ≡ Err kind) × (new ≡ old)); full = λ at. (at ≡ Some number) × AtEach stands (λ config store. MayBeFull n config store line × (new ≡ old)); memory = λ at. (at ≡ Some number) × AtEach stands (λ config store. Writes (IsSoundSoFar config store line) (contents old) (contents new)); unsettled = λ at. (at ≡ number) × box × AtEach stands (λ config store. IsSoundTraceLine config store line × (new ≡ old)); write = written }) e
     fault_of_collect (BadTrace at kind) f = (f.0, λ config store there. (line_is config store line (Collect g) says ∙ f.1 config store there, f.2))
     fault_of_collect (BadSchedule at kind) f = absurd f
     fault_of_collect (HeapFull at) f = (
@@ -118,12 +108,7 @@ module _ (line : List ℕ) (g : ℕ) (says : entry_of line ≡ Ok (Some (Collect
     fault_of_collect WriteFailed f = f
 
     pub faults_of_collect : {X : Type 0} (r : Result X Fault) → IfErr r OfCollection
-        → IfErr r (λ e. MatchFaultApart e
-        (λ at kind. (at ≡ number) × AtEach stands (λ config store. (line_step config store line ≡ Err kind) × (new ≡ old)))
-        (λ at. (at ≡ Some number) × AtEach stands (λ config store. MayBeFull n config store line × (new ≡ old)))
-        (λ at. (at ≡ Some number) × AtEach stands (λ config store. Writes (IsSoundSoFar config store line) (contents old) (contents new)))
-        (λ at. (at ≡ number) × box × AtEach stands (λ config store. IsSoundTraceLine config store line × (new ≡ old)))
-        ⊥ written)
+        → IfErr r (AtFault (record never { trace = λ at kind. (at ≡ number) × AtEach stands (λ config store. (line_step config store line ≡ Err kind) × (new ≡ old)); full = λ at. (at ≡ Some number) × AtEach stands (λ config store. MayBeFull n config store line × (new ≡ old)); memory = λ at. (at ≡ Some number) × AtEach stands (λ config store. Writes (IsSoundSoFar config store line) (contents old) (contents new)); unsettled = λ at. (at ≡ number) × box × AtEach stands (λ config store. IsSoundTraceLine config store line × (new ≡ old)); write = written }))
     faults_of_collect (Ok x) f = tt
     faults_of_collect (Err e) f = fault_of_collect e f
 
@@ -132,5 +117,5 @@ module _ (line : List ℕ) (g : ℕ) (says : entry_of line ≡ Ok (Some (Collect
     with_full r at is f = λ config store there. inl (subst (IsFullFor n heap) (sym says) (subst (λ x. IfErr x OfCollection) is f).1)
 
 -- what is told where it says that the heap is full
-pub full_of : (trace : ℕ → Kind → Type 0) (full memory : Option ℕ → Type 0) (unsettled : ℕ → Type 0) (read write : Type 0) (e : Fault) (at : Option ℕ) → e ≡ HeapFull at → MatchFaultApart e trace full memory unsettled read write → full at
-full_of trace full memory unsettled read write e at is f = subst (λ x. MatchFaultApart x trace full memory unsettled read write) is f
+pub full_of : (trace : ℕ → Kind → Type 0) (full memory : Option ℕ → Type 0) (unsettled : ℕ → Type 0) (read write : Type 0) (e : Fault) (at : Option ℕ) → e ≡ HeapFull at → AtFault (record never { trace = trace; full = full; memory = memory; unsettled = unsettled; read = read; write = write }) e → full at
+full_of trace full memory unsettled read write e at is f = subst (λ x. AtFault (record never { trace = trace; full = full; memory = memory; unsettled = unsettled; read = read; write = write }) x) is f

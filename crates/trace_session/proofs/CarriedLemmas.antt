@@ -11,13 +11,14 @@ use Rattle.model.specs.Store.{Store}
 use Rattle.model.specs.Commands.{Run}
 use Rattle.trace_session.specs.declared.trace_lines.fault.Fault.{Fault}
 use Rattle.trace_session.specs.declared.trace_lines.fault.Fault.TheVariants.{BadTrace, BadSchedule, HeapFull, NoMemory, Unsettled, ReadFailed, WriteFailed}
-use Rattle.trace_session.specs.Faults.{MatchFault}
+use Rattle.trace_session.specs.Faults.{never, AtFault}
 use Rattle.trace_session.specs.Pieces.{HasNoFeed, finished, pieces}
 use Rattle.trace_session.specs.Outcome.{after, outcome_from, line_step}
 use Rattle.trace_session.specs.CollectsFirst.{IsSoundSoFar}
-use Rattle.trace_session.specs.Carried.{Carried, CarriesOut, StopsAt, Silently, LeavesBefore}
-use Rattle.trace_session.specs.Stepped.{AtEach, StepsTo, Writes, CarriesOutTo}
+use Rattle.trace_session.specs.Carried.{Silently, LeavesBefore}
+use Rattle.trace_session.specs.Stepped.{AtEach, StepsTo, Writes}
 use Rattle.trace_session.proofs.PieceLemmas.{pieces_line}
+use Rattle.trace_session.proofs.Carrying.{Carried, CarriesOut, StopsAt, CarriesOutTo}
 
 after-after : (a b : List ℕ) (o : Run) → after a (after b o) ≡ after (a ++ b) o
 after-after a b o = ap (λ xs. record { store = o.store; output = xs; fault = o.fault }) (sym (append_assoc a b o.output))
@@ -137,16 +138,8 @@ module _ (stands stands' : Config → Store → Type 0) (number : ℕ) (text : L
       leaves_before config number store text number' before.next rest old now before.carries line next is free (P config) at here new (own config before.next before.stands')
 
   pub fault_of_line : (wants : Config → Store → List ℕ → Type 0) {T : Type 0} (contents : T → Output) (before new : T) (failed : Type 0) (e : Fault) → contents before ≡ now
-      → MatchFault e
-      (λ at kind. (at ≡ number') × AtEach stands' (λ config store. (line_step config store line ≡ Err kind) × (new ≡ before)))
-      (λ at. (at ≡ Some number') × AtEach stands' (λ config store. wants config store line × (new ≡ before)))
-      (λ at. (at ≡ Some number') × AtEach stands' (λ config store. Writes (IsSoundSoFar config store line) (contents before) (contents new)))
-      ⊥ failed
-      → MatchFault e
-      (λ at kind. AtEach stands (λ config store. StopsAt config number store text at kind old (contents new)))
-      (λ at. AtEach stands (λ config store. LeavesBefore (Silently (wants config)) config number store text at old (contents new)))
-      (λ at. AtEach stands (λ config store. LeavesBefore (IsSoundSoFar config) config number store text at old (contents new)))
-      ⊥ failed
+      → AtFault (record never { trace = λ at kind. (at ≡ number') × AtEach stands' (λ config store. (line_step config store line ≡ Err kind) × (new ≡ before)); full = λ at. (at ≡ Some number') × AtEach stands' (λ config store. wants config store line × (new ≡ before)); memory = λ at. (at ≡ Some number') × AtEach stands' (λ config store. Writes (IsSoundSoFar config store line) (contents before) (contents new)); write = failed }) e
+      → AtFault (record never { trace = λ at kind. AtEach stands (λ config store. StopsAt config number store text at kind old (contents new)); full = λ at. AtEach stands (λ config store. LeavesBefore (Silently (wants config)) config number store text at old (contents new)); memory = λ at. AtEach stands (λ config store. LeavesBefore (IsSoundSoFar config) config number store text at old (contents new)); write = failed }) e
   fault_of_line wants contents before new failed (BadTrace at kind) same facts = λ config store there.
       let here = so_far config store there in
       let fault = facts.1 config here.next here.stands' in

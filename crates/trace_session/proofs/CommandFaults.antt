@@ -9,7 +9,7 @@ use Rattle.model.specs.Store.{Store}
 use Rattle.model.specs.Commands.{Outcome as Stepped}
 use Rattle.trace_session.specs.declared.trace_lines.fault.Fault.{Fault}
 use Rattle.trace_session.specs.declared.trace_lines.fault.Fault.TheVariants.{BadTrace, BadSchedule, HeapFull, NoMemory, Unsettled, ReadFailed, WriteFailed}
-use Rattle.trace_session.specs.Faults.{MatchFault, UnlessOfWrite}
+use Rattle.trace_session.specs.Faults.{never, AtFault, UnlessOfWrite}
 use Rattle.trace_session.specs.Stepped.{AtEach, StepsTo, StepsQuietly}
 
 -- what was written stays as it is
@@ -20,7 +20,7 @@ quiet_steps (Ok x) stands stands' step held steps = λ config store at.
 quiet_steps (Err e) stands stands' step held steps = tt
 
 -- no fault says that blocks are wanting
-pub never_full : {X : Type 0} (r : Result X Fault) (trace : ℕ → Kind → Type 0) (full memory : Option ℕ → Type 0) (written : Type 0) → IfErr r (λ e. MatchFault e trace (λ _. ⊥) memory ⊥ written) → IfErr r (λ e. MatchFault e trace full memory ⊥ written)
+pub never_full : {X : Type 0} (r : Result X Fault) (trace : ℕ → Kind → Type 0) (full memory : Option ℕ → Type 0) (written : Type 0) → IfErr r (AtFault (record never { trace = trace; memory = memory; write = written })) → IfErr r (AtFault (record never { trace = trace; full = full; memory = memory; write = written }))
 never_full (Ok x) trace full memory written fault = tt
 never_full (Err (BadTrace line kind)) trace full memory written fault = fault
 never_full (Err (BadSchedule line kind)) trace full memory written fault = fault
@@ -33,16 +33,8 @@ never_full (Err WriteFailed) trace full memory written fault = fault
 module _ {X T : Type 0} (number : ℕ) (before after : T) (same : after ≡ before) (stands : Config → Store → Type 0) (step : Config → Store → Stepped) (full : Option ℕ → Type 0) (written : Type 0) where
   -- and the writer is as before at each fault
   pub quiet_faults : (r : Result X Fault)
-      → IfErr r (λ e. MatchFault e
-      (λ at kind. (at ≡ number) × AtEach stands (λ config store. step config store ≡ Err kind))
-      (λ _. ⊥)
-      (λ at. (at ≡ Some number) × AtEach stands (λ config store. IsOk (step config store)))
-      ⊥ ⊥)
-      → IfErr r (λ e. MatchFault e
-      (λ at kind. (at ≡ number) × AtEach stands (λ config store. step config store ≡ Err kind) × (after ≡ before))
-      full
-      (λ at. (at ≡ Some number) × AtEach stands (λ config store. IsOk (step config store)) × (after ≡ before))
-      ⊥ written)
+      → IfErr r (AtFault (record never { trace = λ at kind. (at ≡ number) × AtEach stands (λ config store. step config store ≡ Err kind); memory = λ at. (at ≡ Some number) × AtEach stands (λ config store. IsOk (step config store)) }))
+      → IfErr r (AtFault (record never { trace = λ at kind. (at ≡ number) × AtEach stands (λ config store. step config store ≡ Err kind) × (after ≡ before); full = full; memory = λ at. (at ≡ Some number) × AtEach stands (λ config store. IsOk (step config store)) × (after ≡ before); write = written }))
   quiet_faults (Ok x) fault = tt
   quiet_faults (Err (BadTrace line kind)) fault = (fault.0, fault.1, same)
   quiet_faults (Err (BadSchedule line kind)) fault = absurd fault

@@ -14,7 +14,7 @@ use Rattle.trace_session.specs.declared.trace_lines.attempt.Attempt.{Attempt}
 use Rattle.trace_session.specs.declared.trace_lines.attempt.Attempt.TheVariants.{Done, NurseryFull}
 use Rattle.trace_session.specs.Attempts.{MatchAttempt}
 use Rattle.trace_session.specs.CollectsFirst.{CollectsFirst, ReadCollectsFirst, LineCollectsFirst}
-use Rattle.trace_session.specs.Faults.{MatchFault}
+use Rattle.trace_session.specs.Faults.{never, AtFault}
 use Rattle.trace_session.specs.Outcome.{line_step, entry_step, command_step}
 use Rattle.trace_session.specs.Sound.{IsSoundTraceLine, IsSoundCommand}
 use Rattle.trace_session.specs.Stepped.{AtEach, StepsTo, StepsQuietly}
@@ -81,16 +81,8 @@ new_line stands stands' line command says held (Err e) f = tt
 
 -- a new object that may not be made
 pub new_fault : {A : Type 0} (session : Session A) (stands : Config → Store → Type 0) (number : ℕ) (line text : List ℕ) (m p q : ℕ) → entry_of line ≡ Ok (Some (New text m p q)) → {W : Type 0} (held : W) (written : Type 0) (r : Result Attempt Fault)
-    → IfErr r (λ e. MatchFault e
-    (λ at kind. (at ≡ number) × AtEach stands (λ config store. command_step config store (New text m p q) ≡ Err kind))
-    (λ at. (at ≡ Some number) × LacksBlocks session.heap p q × AtEach stands (λ config store. CommandMayBeFull 1 config store (New text m p q) × ¬ CollectsFirst config store (New text m p q)))
-    (λ at. (at ≡ Some number) × AtEach stands (λ config store. IsSoundCommand config store (New text m p q)))
-    ⊥ ⊥)
-    → IfErr r (λ e. MatchFault e
-    (λ at kind. (at ≡ number) × AtEach stands (λ config store. line_step config store line ≡ Err kind) × (held ≡ held))
-    (λ at. (at ≡ Some number) × IsFullFor 1 session.heap (entry_of line) × AtEach stands (λ config store. MayBeFull 1 config store line × ¬ LineCollectsFirst config store line) × (held ≡ held))
-    (λ at. (at ≡ Some number) × AtEach stands (λ config store. IsSoundTraceLine config store line) × (held ≡ held))
-    ⊥ written)
+    → IfErr r (AtFault (record never { trace = λ at kind. (at ≡ number) × AtEach stands (λ config store. command_step config store (New text m p q) ≡ Err kind); full = λ at. (at ≡ Some number) × LacksBlocks session.heap p q × AtEach stands (λ config store. CommandMayBeFull 1 config store (New text m p q) × ¬ CollectsFirst config store (New text m p q)); memory = λ at. (at ≡ Some number) × AtEach stands (λ config store. IsSoundCommand config store (New text m p q)) }))
+    → IfErr r (AtFault (record never { trace = λ at kind. (at ≡ number) × AtEach stands (λ config store. line_step config store line ≡ Err kind) × (held ≡ held); full = λ at. (at ≡ Some number) × IsFullFor 1 session.heap (entry_of line) × AtEach stands (λ config store. MayBeFull 1 config store line × ¬ LineCollectsFirst config store line) × (held ≡ held); memory = λ at. (at ≡ Some number) × AtEach stands (λ config store. IsSoundTraceLine config store line) × (held ≡ held); write = written }))
 new_fault session stands number line text m p q says held written (Ok a) facts = tt
 new_fault session stands number line text m p q says held written (Err (BadTrace at kind)) facts = (facts.0, λ config store there. line_is config store line (New text m p q) says ∙ facts.1 config store there, refl)
 new_fault session stands number line text m p q says held written (Err (BadSchedule at kind)) facts = absurd facts
@@ -107,16 +99,8 @@ new_fault session stands number line text m p q says held written (Err WriteFail
 
 module _ {A : Type 0} (session : Session A) (stands : Config → Store → Type 0) (number : ℕ) (line : List ℕ) (command : Command) (says : entry_of line ≡ Ok (Some command)) {W : Type 0} (old new : W) (written : Type 0) where
   pub line_fault : (e : Fault)
-      → MatchFault e
-      (λ at kind. (at ≡ number) × AtEach stands (λ config store. command_step config store command ≡ Err kind) × (new ≡ old))
-      (λ at. (at ≡ Some number) × MakesNone command × IsFullFor 1 session.heap (Ok (Some command)) × AtEach stands (λ config store. CommandMayBeFull 1 config store command) × (new ≡ old))
-      (λ at. (at ≡ Some number) × AtEach stands (λ config store. IsSoundCommand config store command) × (new ≡ old))
-      ⊥ written
-      → MatchFault e
-      (λ at kind. (at ≡ number) × AtEach stands (λ config store. line_step config store line ≡ Err kind) × (new ≡ old))
-      (λ at. (at ≡ Some number) × IsFullFor 1 session.heap (entry_of line) × AtEach stands (λ config store. MayBeFull 1 config store line × ¬ LineCollectsFirst config store line) × (new ≡ old))
-      (λ at. (at ≡ Some number) × AtEach stands (λ config store. IsSoundTraceLine config store line) × (new ≡ old))
-      ⊥ written
+      → AtFault (record never { trace = λ at kind. (at ≡ number) × AtEach stands (λ config store. command_step config store command ≡ Err kind) × (new ≡ old); full = λ at. (at ≡ Some number) × MakesNone command × IsFullFor 1 session.heap (Ok (Some command)) × AtEach stands (λ config store. CommandMayBeFull 1 config store command) × (new ≡ old); memory = λ at. (at ≡ Some number) × AtEach stands (λ config store. IsSoundCommand config store command) × (new ≡ old); write = written }) e
+      → AtFault (record never { trace = λ at kind. (at ≡ number) × AtEach stands (λ config store. line_step config store line ≡ Err kind) × (new ≡ old); full = λ at. (at ≡ Some number) × IsFullFor 1 session.heap (entry_of line) × AtEach stands (λ config store. MayBeFull 1 config store line × ¬ LineCollectsFirst config store line) × (new ≡ old); memory = λ at. (at ≡ Some number) × AtEach stands (λ config store. IsSoundTraceLine config store line) × (new ≡ old); write = written }) e
   line_fault (BadTrace at kind) facts = (facts.0, λ config store there. line_is config store line command says ∙ facts.1 config store there, facts.2)
   line_fault (BadSchedule at kind) facts = absurd facts
   line_fault (HeapFull at) facts = (

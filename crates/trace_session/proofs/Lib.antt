@@ -8,6 +8,7 @@ pub mod NamesLemmas
 pub mod NamesOrder
 -- Lemmas on the lines of a trace.
 pub mod PieceLemmas
+pub mod Carrying
 pub mod CarriedLemmas
 pub mod TextLemmas
 pub mod LineLemmas

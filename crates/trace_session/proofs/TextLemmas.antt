@@ -9,9 +9,10 @@ use Rattle.model.specs.Store.{Store, empty_store}
 use Rattle.trace_session.specs.Pieces.{HasNoFeed, finished, pieces}
 use Rattle.trace_text.specs.Grammar.{entry_of}
 use Rattle.trace_session.specs.Outcome.{after, outcome_from, outcome_before, line_step}
-use Rattle.trace_session.specs.Carried.{CarriesOut, StopsAt, LeavesBefore, LeavesOutput, Prints}
+use Rattle.trace_session.specs.Carried.{LeavesBefore, LeavesOutput, Prints}
 use Rattle.trace_session.proofs.PieceLemmas.{pieces_last, BeginsLong, long_finished, long_unfinished, begins_long, long_line}
 use Rattle.trace_session.proofs.CarriedLemmas.{Carried-whole}
+use Rattle.trace_session.proofs.Carrying.{CarriesOut, StopsAt}
 
 -- the rest after the lines that were carried out ends the run
 ends_as : (config : Config) (number : ℕ) (store : Store) (text : List ℕ) (number' : ℕ) (store' : Store) (rest : List ℕ) (old new : Output) (fault : Option (ℕ × Kind)) → CarriesOut config number store text number' store' rest old new → outcome_from config number' store' (pieces rest) ≡ record { store = store'; output = []; fault = fault } → Prints (outcome_from config number store (pieces text)) fault old new

@@ -14,7 +14,7 @@ use Rattle.trace_session.specs.declared.trace_lines.fault.Fault.TheVariants.{Bad
 use Rattle.trace_session.specs.declared.trace_lines.attempt.Attempt.{Attempt}
 use Rattle.trace_session.specs.Attempts.{MatchAttempt}
 use Rattle.trace_session.specs.CollectsFirst.{ReadCollectsFirst, LineCollectsFirst, auto_line}
-use Rattle.trace_session.specs.Faults.{MatchFault}
+use Rattle.trace_session.specs.Faults.{never, AtFault}
 use Rattle.trace_session.specs.Outcome.{line_step}
 use Rattle.trace_session.specs.Sound.{IsSoundTraceLine}
 use Rattle.trace_session.specs.Stepped.{AtEach, StepsTo, Writes}
@@ -70,11 +70,7 @@ module _ (stands : Config → Store → Type 0) (number : ℕ) (line : List ℕ)
   -- what a fault of the line tells
   abbrev Tells : (new : W) (failed : Type 0) → Fault → Type 0
   Tells new failed e =
-      MatchFault e
-      (λ at kind. (at ≡ number) × AtEach stands (λ config store. (line_step config store line ≡ Err kind) × (new ≡ old)))
-      (λ at. (at ≡ Some number) × AtEach stands (λ config store. Full config store × (new ≡ old)))
-      (λ at. (at ≡ Some number) × AtEach stands (λ config store. Writes (SoFar config store) (contents old) (contents new)))
-      ⊥ failed
+      AtFault (record never { trace = λ at kind. (at ≡ number) × AtEach stands (λ config store. (line_step config store line ≡ Err kind) × (new ≡ old)); full = λ at. (at ≡ Some number) × AtEach stands (λ config store. Full config store × (new ≡ old)); memory = λ at. (at ≡ Some number) × AtEach stands (λ config store. Writes (SoFar config store) (contents old) (contents new)); write = failed }) e
 
   -- where it says that the heap is full
   pub tells_full : (new : W) (failed : Type 0) (e : Fault) (at : Option ℕ) → e ≡ HeapFull at → Tells new failed e → AtEach stands Full
@@ -89,11 +85,7 @@ module _ (stands : Config → Store → Type 0) (number : ℕ) (line : List ℕ)
 
   -- a first attempt
   pub first_fault : {Lacks : Type 0} → ((config : Config) (store : Store) → MayBeFull 1 config store line → ¬ LineCollectsFirst config store line → Lacks → Full config store) → (new : W) (failed : Type 0) (e : Fault)
-      → MatchFault e
-      (λ at kind. (at ≡ number) × AtEach stands (λ config store. line_step config store line ≡ Err kind) × (new ≡ old))
-      (λ at. (at ≡ Some number) × Lacks × AtEach stands (λ config store. MayBeFull 1 config store line × ¬ LineCollectsFirst config store line) × (new ≡ old))
-      (λ at. (at ≡ Some number) × AtEach stands (λ config store. IsSoundTraceLine config store line) × (new ≡ old))
-      ⊥ failed
+      → AtFault (record never { trace = λ at kind. (at ≡ number) × AtEach stands (λ config store. line_step config store line ≡ Err kind) × (new ≡ old); full = λ at. (at ≡ Some number) × Lacks × AtEach stands (λ config store. MayBeFull 1 config store line × ¬ LineCollectsFirst config store line) × (new ≡ old); memory = λ at. (at ≡ Some number) × AtEach stands (λ config store. IsSoundTraceLine config store line) × (new ≡ old); write = failed }) e
       → Tells new failed e
   first_fault full new failed (BadTrace at kind) f = (f.0, λ config store there. (f.1 config store there, f.2))
   first_fault full new failed (BadSchedule at kind) f = f
@@ -108,10 +100,7 @@ module _ (stands : Config → Store → Type 0) (number : ℕ) (line : List ℕ)
     -- where no room was made, though nothing had changed
     pub room_fault : (before : W) → before ≡ old → (Short : Type 0) → ((config : Config) (store : Store) → stands config store → IsSoundTraceLine config store line → LineCollectsFirst config store line → Short → Full config store)
         → {S : Type 0} (session session' : S) (new : W) (failed failed' : Type 0) → (failed → failed') → (e : Fault)
-        → MatchFault e (λ _ _. ⊥)
-        (λ at. (at ≡ Some number) × Short × (session' ≡ session) × (new ≡ before))
-        (λ at. (at ≡ Some number) × (session' ≡ session) × (new ≡ before))
-        ⊥ failed
+        → AtFault (record never { full = λ at. (at ≡ Some number) × Short × (session' ≡ session) × (new ≡ before); memory = λ at. (at ≡ Some number) × (session' ≡ session) × (new ≡ before); write = failed }) e
         → Tells new failed' e
     room_fault before same Short full session session' new failed failed' told (BadTrace at kind) f = absurd f
     room_fault before same Short full session session' new failed failed' told (BadSchedule at kind) f = f
@@ -151,11 +140,7 @@ module _ (stands : Config → Store → Type 0) (number : ℕ) (line : List ℕ)
           absurd (again.has_room (full config (collected config 0 store) (room config store there).0).1)
 
       pub second_fault : (Lacks : Type 0) (before new : W) (failed failed' : Type 0) → contents before ≡ between → (failed → failed') → (e : Fault)
-          → MatchFault e
-          (λ at kind. (at ≡ number) × AtEach mid (λ config store. line_step config store line ≡ Err kind) × (new ≡ before))
-          (λ at. (at ≡ Some number) × Lacks × AtEach mid (λ config store. MayBeFull 1 config store line × ¬ LineCollectsFirst config store line) × (new ≡ before))
-          (λ at. (at ≡ Some number) × AtEach mid (λ config store. IsSoundTraceLine config store line) × (new ≡ before))
-          ⊥ failed
+          → AtFault (record never { trace = λ at kind. (at ≡ number) × AtEach mid (λ config store. line_step config store line ≡ Err kind) × (new ≡ before); full = λ at. (at ≡ Some number) × Lacks × AtEach mid (λ config store. MayBeFull 1 config store line × ¬ LineCollectsFirst config store line) × (new ≡ before); memory = λ at. (at ≡ Some number) × AtEach mid (λ config store. IsSoundTraceLine config store line) × (new ≡ before); write = failed }) e
           → Tells new failed' e
       second_fault Lacks before new failed failed' same told (BadTrace at kind) f = (
         f.0,

@@ -5,26 +5,30 @@ use Rattle.trace_text.specs.declared.schedule.ScheduleKind.{ScheduleKind}
 use Rattle.trace_session.specs.declared.trace_lines.fault.Fault.{Fault}
 use Rattle.trace_session.specs.declared.trace_lines.fault.Fault.TheVariants.{BadTrace, BadSchedule, HeapFull, NoMemory, Unsettled, ReadFailed, WriteFailed}
 
-abbrev pub MatchAnyFault : Fault → (ℕ → Kind → Type 0) → (ℕ → ScheduleKind → Type 0) → (Option ℕ → Type 0) → (Option ℕ → Type 0) → (ℕ → Type 0) → Type 0 → Type 0 → Type 0
-MatchAnyFault (BadTrace line kind) trace schedule full memory unsettled read write = trace line kind
-MatchAnyFault (BadSchedule line kind) trace schedule full memory unsettled read write = schedule line kind
-MatchAnyFault (HeapFull line) trace schedule full memory unsettled read write = full line
-MatchAnyFault (NoMemory line) trace schedule full memory unsettled read write = memory line
-MatchAnyFault (Unsettled line) trace schedule full memory unsettled read write = unsettled line
-MatchAnyFault ReadFailed trace schedule full memory unsettled read write = read
-MatchAnyFault WriteFailed trace schedule full memory unsettled read write = write
+-- what is so where a command has a fault, a line of a schedule has one, blocks or memory run out, cells are not settled, and a read or a
+-- write fails; the first five of the line that the fault tells
+pub record FaultCases : Type 1 where
+  pub trace : ℕ → Kind → Type 0
+  pub schedule : ℕ → ScheduleKind → Type 0
+  pub full : Option ℕ → Type 0
+  pub memory : Option ℕ → Type 0
+  pub unsettled : ℕ → Type 0
+  pub read : Type 0
+  pub write : Type 0
 
--- where no line is one of a schedule: workers on threads of their own collect
-abbrev pub MatchFaultApart : Fault → (ℕ → Kind → Type 0) → (Option ℕ → Type 0) → (Option ℕ → Type 0) → (ℕ → Type 0) → Type 0 → Type 0 → Type 0
-MatchFaultApart fault trace full memory unsettled read write = MatchAnyFault fault trace (λ _ _. ⊥) full memory unsettled read write
+-- none of them comes
+abbrev pub never : FaultCases
+never = record { trace = λ _ _. ⊥; schedule = λ _ _. ⊥; full = λ _. ⊥; memory = λ _. ⊥; unsettled = λ _. ⊥; read = ⊥; write = ⊥ }
 
--- where no thread shares cells
-abbrev pub MatchEachFault : Fault → (ℕ → Kind → Type 0) → (ℕ → ScheduleKind → Type 0) → (Option ℕ → Type 0) → (Option ℕ → Type 0) → Type 0 → Type 0 → Type 0
-MatchEachFault fault trace schedule full memory read write = MatchAnyFault fault trace schedule full memory (λ _. ⊥) read write
-
--- where no thread shares cells, and no line is one of a schedule
-abbrev pub MatchFault : Fault → (ℕ → Kind → Type 0) → (Option ℕ → Type 0) → (Option ℕ → Type 0) → Type 0 → Type 0 → Type 0
-MatchFault fault trace full memory read write = MatchEachFault fault trace (λ _ _. ⊥) full memory read write
+-- what is so at this fault
+abbrev pub AtFault : FaultCases → Fault → Type 0
+AtFault cases (BadTrace line kind) = cases.trace line kind
+AtFault cases (BadSchedule line kind) = cases.schedule line kind
+AtFault cases (HeapFull line) = cases.full line
+AtFault cases (NoMemory line) = cases.memory line
+AtFault cases (Unsettled line) = cases.unsettled line
+AtFault cases ReadFailed = cases.read
+AtFault cases WriteFailed = cases.write
 
 -- what holds at each fault but that of a write
 abbrev pub UnlessOfWrite : Fault → Type 0 → Type 0

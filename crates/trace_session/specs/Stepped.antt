@@ -4,7 +4,6 @@ use Rattle.heap_text.specs.Streams.{Output, Appends}
 use Rattle.model.specs.Config.{Config}
 use Rattle.model.specs.Store.{Store}
 use Rattle.model.specs.Commands.{Outcome as Stepped}
-use Rattle.trace_session.specs.Carried.{CarriesOut}
 
 -- at each sizes and store that pass the test
 abbrev pub AtEach : (Config → Store → Type 0) → (Config → Store → Type 0) → Type 0
@@ -29,9 +28,3 @@ pub record Writes (P : List ℕ → Type 0) (old new : Output) : Type 0 where
   pub written : List ℕ
   pub held : Appends old new written
   pub holds : P written
-
--- the lines before the rest were carried out and printed, and the store then passes the test
-pub record CarriesOutTo (stands : Config → Store → Type 0) (config : Config) (number : ℕ) (store : Store) (text : List ℕ) (number' : ℕ) (rest : List ℕ) (old new : Output) : Type 0 where
-  pub next : Store
-  pub stands' : stands config next
-  pub carries : CarriesOut config number store text number' next rest old new

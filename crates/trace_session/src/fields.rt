@@ -4,7 +4,7 @@ ghost use Rattle.std.specs.Option.{option_map};
 ghost use Rattle.model.specs.Commands.{Set, Put, Get, target_of};
 ghost use Rattle.heap.specs.Commands.{HasPointer};
 ghost use Rattle.trace_session.specs.Does.{Does};
-ghost use Rattle.trace_session.specs.Faults.{MatchFault};
+ghost use Rattle.trace_session.specs.Faults.{never, AtFault};
 ghost use Rattle.trace_session.specs.Outcome.{command_step};
 ghost use Rattle.trace_session.specs.Sound.{IsSoundCommand};
 ghost use Rattle.trace_session.specs.Session.{Stands};
@@ -61,17 +61,16 @@ impl<A: Allocator + Clone> Session<A> {
         ensures own { OnOk result
             (Does self.old.heap self.old.names
             (Set name.now field (target_of (λ x. x.now) target.entry)) self.new.heap self.new.names) }
-        ensures err { IfErr result (λ e. MatchFault e
-            (λ at kind. (at ≡ number) ×
-            AtEach (Stands self.old)
-            (λ config store. command_step config store (Set name.now field (target_of (λ x. x.now) target.entry)) ≡
-            Err kind))
-            (λ _. ⊥)
-            (λ at. (at ≡ Some number) ×
-            AtEach (Stands self.old)
-            (λ config store. IsSoundCommand config store
-            (Set name.now field (target_of (λ x. x.now) target.entry))))
-            ⊥ ⊥) }
+        ensures err { IfErr result (AtFault (record never {
+          trace = λ at kind. (at ≡ number) ×
+              AtEach (Stands self.old)
+              (λ config store. command_step config store (Set name.now field (target_of (λ x. x.now) target.entry)) ≡
+              Err kind);
+          memory = λ at. (at ≡ Some number) ×
+              AtEach (Stands self.old)
+              (λ config store. IsSoundCommand config store
+              (Set name.now field (target_of (λ x. x.now) target.entry)));
+        })) }
         ensures before { OnErr result (self.new ≡ self.old) }
     {
         let Some(holder) = self.names.get(name) else {
@@ -100,11 +99,11 @@ impl<A: Allocator + Clone> Session<A> {
             StepsQuietly (Stands self.new) config (command_step config store (Put name.now field value)))) }
         ensures own { OnOk result
             (Does self.old.heap self.old.names (Put name.now field value) self.new.heap self.new.names) }
-        ensures err { IfErr result (λ e. MatchFault e
-            (λ at kind. (at ≡ number) ×
-            AtEach (Stands self.old) (λ config store. command_step config store (Put name.now field value) ≡
-            Err kind))
-            (λ _. ⊥) (λ _. ⊥) ⊥ ⊥) }
+        ensures err { IfErr result (AtFault (record never {
+          trace = λ at kind. (at ≡ number) ×
+              AtEach (Stands self.old) (λ config store. command_step config store (Put name.now field value) ≡
+              Err kind);
+        })) }
         ensures before { OnErr result (self.new ≡ self.old) }
     {
         let Some(root) = self.names.get(name) else {
@@ -130,15 +129,14 @@ impl<A: Allocator + Clone> Session<A> {
             StepsQuietly (Stands self.new) config (command_step config store (Get new_name.now name.now field)))) }
         ensures own { OnOk result
             (Does self.old.heap self.old.names (Get new_name.now name.now field) self.new.heap self.new.names) }
-        ensures err { IfErr result (λ e. MatchFault e
-            (λ at kind. (at ≡ number) ×
-            AtEach (Stands self.old) (λ config store. command_step config store (Get new_name.now name.now field) ≡
-            Err kind))
-            (λ _. ⊥)
-            (λ at. (at ≡ Some number) ×
-            AtEach (Stands self.old)
-            (λ config store. IsSoundCommand config store (Get new_name.now name.now field)))
-            ⊥ ⊥) }
+        ensures err { IfErr result (AtFault (record never {
+          trace = λ at kind. (at ≡ number) ×
+              AtEach (Stands self.old) (λ config store. command_step config store (Get new_name.now name.now field) ≡
+              Err kind);
+          memory = λ at. (at ≡ Some number) ×
+              AtEach (Stands self.old)
+              (λ config store. IsSoundCommand config store (Get new_name.now name.now field));
+        })) }
         ensures before { OnErr result (self.new ≡ self.old) }
     {
         if self.names.get(new_name).is_some() {

@@ -6,7 +6,7 @@ ghost use Rattle.heap.specs.HeapValue.{empty_heap};
 ghost use Rattle.trace_session.specs.Attempts.{MatchAttempt};
 ghost use Rattle.trace_session.specs.CollectsFirst.{CollectsFirst};
 ghost use Rattle.trace_session.specs.Does.{Does};
-ghost use Rattle.trace_session.specs.Faults.{MatchFault};
+ghost use Rattle.trace_session.specs.Faults.{never, AtFault};
 ghost use Rattle.trace_session.specs.Outcome.{command_step};
 ghost use Rattle.trace_session.specs.Sound.{IsSoundCommand, IsFaultOfNew};
 ghost use Rattle.trace_session.specs.Stepped.{AtEach, StepsQuietly};
@@ -20,11 +20,10 @@ use std::alloc::{Allocator, Global};
 
 /// The fault of a new object where memory is wanting: its own comes first.
 fn without_memory(number: u128, config: Config, mutator: u64, pointers: u64, plain: u64) -> Fault
-    ensures { MatchFault result
-        (λ at kind. (at ≡ number) × IsFaultOfNew config mutator pointers plain kind)
-        (λ _. ⊥)
-        (λ at. (at ≡ Some number) × (mutator < config.mutators) × (is_too_big pointers plain ≡ false))
-        ⊥ ⊥ }
+    ensures { AtFault (record never {
+      trace = λ at kind. (at ≡ number) × IsFaultOfNew config mutator pointers plain kind;
+      memory = λ at. (at ≡ Some number) × (mutator < config.mutators) × (is_too_big pointers plain ≡ false);
+    }) result }
 {
     if mutator >= config.mutators() as u64 {
         return Fault::BadTrace(number, Kind::NoMutator);
@@ -55,9 +54,10 @@ impl<A: Allocator + Clone> Session<A> {
     pub fn new(alloc: A, config: Config, seed: u128) -> Result<Session<A>, Fault>
         ensures ok { IfOk result (λ session. Stands session config (empty_store config)) }
         ensures first { IfOk result (λ session. (session.heap ≡ empty_heap config) × (session.names ≡ [])) }
-        ensures err { IfErr result (λ e. MatchFault e (λ _ _. ⊥)
-            (λ at. (at ≡ None) × (config.blocks < config.mutators * config.nursery_blocks))
-            (λ at. at ≡ None) ⊥ ⊥) }
+        ensures err { IfErr result (AtFault (record never {
+          full = λ at. (at ≡ None) × (config.blocks < config.mutators * config.nursery_blocks);
+          memory = λ at. at ≡ None;
+        })) }
     {
         let Ok(heap_alloc) = alloc.clone() else {
             return Err(Fault::NoMemory(None));
@@ -93,18 +93,18 @@ impl<A: Allocator + Clone> Session<A> {
             (Does self.old.heap self.old.names (New name.now mutator pointers plain) self.new.heap self.new.names)
             (Unit {0})) }
         ensures full { result ≡ Ok Attempt.NurseryFull → self.new ≡ self.old }
-        ensures err { IfErr result (λ e. MatchFault e
-            (λ at kind. (at ≡ number) ×
-            AtEach (Stands self.old)
-            (λ config store. command_step config store (New name.now mutator pointers plain) ≡ Err kind))
-            (λ at. (at ≡ Some number) × LacksBlocks self.old.heap pointers plain ×
-            AtEach (Stands self.old)
-            (λ config store. CommandMayBeFull 1 config store (New name.now mutator pointers plain) ×
-            ¬ CollectsFirst config store (New name.now mutator pointers plain)))
-            (λ at. (at ≡ Some number) ×
-            AtEach (Stands self.old)
-            (λ config store. IsSoundCommand config store (New name.now mutator pointers plain)))
-            ⊥ ⊥) }
+        ensures err { IfErr result (AtFault (record never {
+          trace = λ at kind. (at ≡ number) ×
+              AtEach (Stands self.old)
+              (λ config store. command_step config store (New name.now mutator pointers plain) ≡ Err kind);
+          full = λ at. (at ≡ Some number) × LacksBlocks self.old.heap pointers plain ×
+              AtEach (Stands self.old)
+              (λ config store. CommandMayBeFull 1 config store (New name.now mutator pointers plain) ×
+              ¬ CollectsFirst config store (New name.now mutator pointers plain));
+          memory = λ at. (at ≡ Some number) ×
+              AtEach (Stands self.old)
+              (λ config store. IsSoundCommand config store (New name.now mutator pointers plain));
+        })) }
         ensures before { OnErr result (self.new ≡ self.old) }
     {
         if self.names.get(name).is_some() {
@@ -130,10 +130,10 @@ impl<A: Allocator + Clone> Session<A> {
         ensures ok { OnOk result (AtEach (Stands self.old) (λ config store.
             StepsQuietly (Stands self.new) config (command_step config store (Drop name.now)))) }
         ensures own { OnOk result (Does self.old.heap self.old.names (Drop name.now) self.new.heap self.new.names) }
-        ensures err { IfErr result (λ e. MatchFault e
-            (λ at kind. (at ≡ number) ×
-            AtEach (Stands self.old) (λ config store. command_step config store (Drop name.now) ≡ Err kind))
-            (λ _. ⊥) (λ _. ⊥) ⊥ ⊥) }
+        ensures err { IfErr result (AtFault (record never {
+          trace = λ at kind. (at ≡ number) ×
+              AtEach (Stands self.old) (λ config store. command_step config store (Drop name.now) ≡ Err kind);
+        })) }
         ensures before { OnErr result (self.new ≡ self.old) }
     {
         let Some(root) = self.names.get(name) else {

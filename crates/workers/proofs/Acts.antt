@@ -5,13 +5,13 @@ use Rattle.std.specs.Prelude.{if◌then◌else◌, IsSome}
 use Rattle.std.specs.Option.{option_and_then, option_map, option_map_or}
 use Rattle.model.specs.Graph.{Object, size_of, is_large}
 use Rattle.workers.specs.Block.{Block, Copy, used_words, empty_block, has_unscanned, front_copy, updated, with_copy, with_front_moved}
-use Rattle.workers.specs.Setting.{Setting, old_field, is_collected, is_large_name, destination_of, copy_into, fits_in, IsFullBlock}
+use Rattle.workers.specs.Setting.{Setting, old_field, is_collected, is_large_name, destination_of, copy_into, fits_in}
 use Rattle.workers.specs.Worker.{Worker, Proposal, Copied, Claimed, Hand, Nothing, Open, Holding, HoldingLarge, allocation_at, current_in, current_object}
 use Rattle.workers.specs.WorkerSteps.{slot_of_starts, current_slot, collected_target, cell_wanted, write_hand, finish_first, finish_slot, is_open_at, retired, with_new_block, propose_into, propose_copy, look_at, look_slot, after_look, race_of, after_race, scan_open, scan_hand, log_scan, after_scan, without_oldest, after_take, after_own, claim_first, CanScan, IsFree, has_open_work}
 use Rattle.workers.specs.WorkerRun.{WorkerRun, stay, go, Act, Looked, Raced, Scanned, Exported, Took, Owned, OwnedLarge, after, CanAct, History, no_history, noted, noted_look, known_by_race, first_alone}
 use Rattle.workers.specs.Joined.{Roomy}
 use Rattle.workers.proofs.Lists.{OnSome, at, mapped, at-updated_same, at-updated_other, at-set_either, at-set_other, none-some}
-use Rattle.workers.proofs.Moves.{Move, Moves, none, more, learns, proposes, finishes, writes_open, writes_held, writes_large, draws, retires_open, retires_aside, retires_done, copies, claims, scans_open_more, scans_open_last, scans_held_more, scans_held_last, scans_large, exports, takes, owns, owns_large, moves-append, HandFit, Fit, name_place, front_of, front_there, front-copy, Wrote, WroteTo, move_fit, moves_fit, destinations}
+use Rattle.workers.proofs.Moves.{Move, Moves, none, more, learns, proposes, finishes, writes_open, writes_held, writes_large, draws, retires_open, retires_aside, retires_done, copies, claims, scans_open_more, scans_open_last, scans_held_more, scans_held_last, scans_large, exports, takes, owns, owns_large, moves-append, HandFit, Fit, name_place, front_of, front_there, front-copy, Wrote, WroteTo, move_fit, moves_fit, destinations, IsFullBlock}
 
 pub record CopyFit (setting : Setting) (w : Worker) (copy : Copy) (d : ℕ) : Type 0 where
   pub wanted : cell_wanted setting w ≡ Some copy.name

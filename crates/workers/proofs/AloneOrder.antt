@@ -3,7 +3,8 @@ use Rattle.std.proofs.Common.{◌≡◌, ◌≢◌, ℕ, ◌+◌, ◌<◌, ◌�
 use Rattle.std.proofs.lemmas.List.{append-nil, append_assoc, map-append}
 use Rattle.std.specs.Prelude.{slice_set}
 use Rattle.workers.specs.Block.{Block, Copy, used_words, empty_block, has_unscanned, updated, with_field, with_copy}
-use Rattle.workers.specs.Setting.{Setting, is_collected, is_large_name, destination_of, words_of, small_word}
+use Rattle.layout.specs.Place.{small_word}
+use Rattle.workers.specs.Setting.{Setting, is_collected, is_large_name, destination_of, words_of}
 use Rattle.workers.specs.Worker.{Worker, Proposal, Copied, Claimed, Hand, Nothing, Open, Holding, HoldingLarge, allocation_at}
 use Rattle.workers.specs.WorkerSteps.{current_slot, collected_target, write_hand, finish_first, finish_slot, is_open_at, retired, with_new_block, draws_for, draw_at, draw_wanted, propose_into, look_at, look_slot, after_look, race_of, after_race}
 use Rattle.workers.specs.Total.{times}

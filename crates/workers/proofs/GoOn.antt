@@ -2,7 +2,8 @@
 use Rattle.std.proofs.Common.{◌≡◌, ◌≢◌, ℕ, zero, suc, ◌+◌, ◌/◌, ◌<◌, ◌≤◌, Bool, true, false, List, [], ◌∷◌, ◌++◌, Option, Some, refl, sym, ap, ◌∙◌, ◌⊎◌, inl, inr, ⊎_elim, arith, nat_eq, eq-eqb, ne_eqb, slice_get, cond, map, nat_lt, ltb-true, ltb-false}
 use Rattle.std.proofs.lemmas.Bool.{cases_eq}
 use Rattle.workers.specs.Block.{Block, Copy}
-use Rattle.workers.specs.Setting.{Setting, small_word, words_of}
+use Rattle.layout.specs.Place.{small_word}
+use Rattle.workers.specs.Setting.{Setting, words_of}
 use Rattle.workers.specs.Total.{total, front_total, one_if, times}
 use Rattle.workers.specs.Joined.{Each, Part, WasExported, Joined}
 use Rattle.workers.specs.Kept.{AreFresh}

@@ -1,7 +1,8 @@
 -- What exporter and taker of a block scanned of it.
 use Rattle.std.proofs.Common.{◌≡◌, ℕ, zero, suc, ◌+◌, ◌/◌, ◌<◌, ◌≤◌, Bool, true, false, List, [], ◌∷◌, Option, Some, refl, sym, ap, ◌∙◌, arith, nat_eq, eq-eqb, ne_eqb, ltb-false, slice_get, cond}
 use Rattle.workers.specs.Block.{Block, Copy, has_unscanned}
-use Rattle.workers.specs.Setting.{Setting, is_large_name, small_word}
+use Rattle.layout.specs.Place.{small_word}
+use Rattle.workers.specs.Setting.{Setting, is_large_name}
 use Rattle.workers.specs.Total.{total, front_total, one_if, times}
 use Rattle.workers.specs.Joined.{Each, Part, HasRun, WasExported, Joined, blocks_of}
 use Rattle.workers.specs.Kept.{AreFresh}

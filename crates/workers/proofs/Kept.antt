@@ -13,14 +13,14 @@ use Rattle.model.specs.Collected.{Renaming, IsLiveOrOlder, renamed}
 use Rattle.workers.specs.Block.{Block, Copy, has_unscanned}
 use Rattle.workers.specs.Setting.{Setting, setting_of, old_field, is_collected, is_large_name}
 use Rattle.workers.specs.Worker.{Worker}
-use Rattle.workers.specs.Places.{HasPlace, IsPair}
+use Rattle.workers.specs.Places.{IsPair}
 use Rattle.workers.specs.Total.{total, one_if, times, wins_of, ones}
 use Rattle.workers.specs.Joined.{Each, OnSome, IsOpening, Part, HasRun, Joined, blocks_of}
-use Rattle.workers.specs.Kept.{won_lists, LiveOrOlder, AreFresh, Brought, Kept, IsLeft, IsCopy}
+use Rattle.workers.specs.Kept.{won_lists, AreFresh, Brought, Kept, IsLeft, IsCopy}
 use Rattle.workers.specs.Laid.{Laid}
 use Rattle.workers.proofs.Lists.{Each-append, Each-zip, Each-map}
 use Rattle.workers.proofs.Totals.{total-append}
-use Rattle.workers.proofs.Pointed.{Wholly}
+use Rattle.workers.proofs.Pointed.{Wholly, HasPlace}
 use Rattle.workers.proofs.OnePart.{all_scanned, large_are}
 use Rattle.workers.proofs.OwnLive.{OwnLive, BlockLive, ProposalLive, HandLive, run_live}
 use Rattle.workers.proofs.Whole.{live_placed, scanned_once, stands_once, all_finished}
@@ -71,39 +71,39 @@ module _ (graph : Graph) (g : ℕ) (shape : Shape) (block_words workers : ℕ) w
       let b : g < o.object.generation = o.older in
       absurd (omega arith)
 
-  pub keep : (name i target : ℕ) → LiveOrOlder graph g name → old_field setting name i ≡ Some (Some target) → is_collected setting target ≡ true → LiveOrOlder graph g target
+  pub keep : (name i target : ℕ) → IsLiveOrOlder graph g name → old_field setting name i ≡ Some (Some target) → is_collected setting target ≡ true → IsLiveOrOlder graph g target
   keep name i target (inl l) e y = inl (later l (record { i = i; leads = e; young = collected-young target y }))
   keep name i target (inr o) e y = inl (first (collected-young target y, inr (name, (i, record { holder = o; leads = e }))))
 
-  pub opening_live : (w : Worker) → IsOpening w → Each (LiveOrOlder graph g) w.starts → OwnLive (LiveOrOlder graph g) w
+  pub opening_live : (w : Worker) → IsOpening w → Each (IsLiveOrOlder graph g) w.starts → OwnLive (IsLiveOrOlder graph g) w
   opening_live w o s =
       record {
         starts = s;
-        proposal = subst (OnSome (ProposalLive (LiveOrOlder graph g))) (sym o.no_proposal) tt;
-        hand = subst (HandLive (LiveOrOlder graph g)) (sym o.no_hand) tt;
-        allocation = Each-map (λ b. b ≡ None) (OnSome (BlockLive (LiveOrOlder graph g))) (λ b e. subst (OnSome (BlockLive (LiveOrOlder graph g))) (sym e) tt) w.allocation o.no_allocation;
-        aside = subst (Each (BlockLive (LiveOrOlder graph g))) (sym o.no_aside) tt;
-        done = subst (Each (BlockLive (LiveOrOlder graph g))) (sym o.no_done) tt;
-        large = subst (Each (LiveOrOlder graph g)) (sym o.no_large) tt;
-        large_done = subst (Each (LiveOrOlder graph g)) (sym o.no_large_done) tt;
-        won = subst (Each (λ (q : ℕ × ℕ). LiveOrOlder graph g q.0)) (sym o.no_won) tt;
+        proposal = subst (OnSome (ProposalLive (IsLiveOrOlder graph g))) (sym o.no_proposal) tt;
+        hand = subst (HandLive (IsLiveOrOlder graph g)) (sym o.no_hand) tt;
+        allocation = Each-map (λ b. b ≡ None) (OnSome (BlockLive (IsLiveOrOlder graph g))) (λ b e. subst (OnSome (BlockLive (IsLiveOrOlder graph g))) (sym e) tt) w.allocation o.no_allocation;
+        aside = subst (Each (BlockLive (IsLiveOrOlder graph g))) (sym o.no_aside) tt;
+        done = subst (Each (BlockLive (IsLiveOrOlder graph g))) (sym o.no_done) tt;
+        large = subst (Each (IsLiveOrOlder graph g)) (sym o.no_large) tt;
+        large_done = subst (Each (IsLiveOrOlder graph g)) (sym o.no_large_done) tt;
+        won = subst (Each (λ (q : ℕ × ℕ). IsLiveOrOlder graph g q.0)) (sym o.no_won) tt;
       }
 
   module _ (f : ℕ → Option ℕ) (parts : List Part) (j : Joined setting f parts)
       (starts : (target : ℕ) → IsStart graph g target → 0 < total (λ (p : Part). times target p.start.starts) parts)
-      (only_starts : Each (λ (p : Part). Each (LiveOrOlder graph g) p.start.starts) parts)
-      (taken_live : Each (λ (p : Part). Each (BlockLive (LiveOrOlder graph g)) p.history.taken) parts) where
-    won_live : Each (λ (p : Part). Each (λ (q : ℕ × ℕ). LiveOrOlder graph g q.0) p.final.won) parts
+      (only_starts : Each (λ (p : Part). Each (IsLiveOrOlder graph g) p.start.starts) parts)
+      (taken_live : Each (λ (p : Part). Each (BlockLive (IsLiveOrOlder graph g)) p.history.taken) parts) where
+    won_live : Each (λ (p : Part). Each (λ (q : ℕ × ℕ). IsLiveOrOlder graph g q.0) p.final.won) parts
     won_live =
-        Each-map (λ (p : Part). (HasRun setting p × Each (LiveOrOlder graph g) p.start.starts) × Each (BlockLive (LiveOrOlder graph g)) p.history.taken) _
-        (λ p h. (let o : OwnLive (LiveOrOlder graph g) p.final = run_live (LiveOrOlder graph g) setting keep h.0.0.run h.1 (opening_live p.start h.0.0.opening h.0.1) in o.won))
-        parts (Each-zip (λ (p : Part). HasRun setting p × Each (LiveOrOlder graph g) p.start.starts) (λ (p : Part). Each (BlockLive (LiveOrOlder graph g)) p.history.taken) parts (Each-zip (HasRun setting) (λ (p : Part). Each (LiveOrOlder graph g) p.start.starts) parts j.runs only_starts) taken_live)
+        Each-map (λ (p : Part). (HasRun setting p × Each (IsLiveOrOlder graph g) p.start.starts) × Each (BlockLive (IsLiveOrOlder graph g)) p.history.taken) _
+        (λ p h. (let o : OwnLive (IsLiveOrOlder graph g) p.final = run_live (IsLiveOrOlder graph g) setting keep h.0.0.run h.1 (opening_live p.start h.0.0.opening h.0.1) in o.won))
+        parts (Each-zip (λ (p : Part). HasRun setting p × Each (IsLiveOrOlder graph g) p.start.starts) (λ (p : Part). Each (BlockLive (IsLiveOrOlder graph g)) p.history.taken) parts (Each-zip (HasRun setting) (λ (p : Part). Each (IsLiveOrOlder graph g) p.start.starts) parts j.runs only_starts) taken_live)
 
     -- a name with a place is live
     pub placed_live : (name : ℕ) → HasPlace f name → Live graph g name
     placed_live name h =
-        let q = won_by_some setting f parts j (λ (q : ℕ × ℕ). LiveOrOlder graph g q.0) won_live name h.0 h.1 in
-        let l : LiveOrOlder graph g name = subst (LiveOrOlder graph g) q.1.0 q.1.1.1 in
+        let q = won_by_some setting f parts j (λ (q : ℕ × ℕ). IsLiveOrOlder graph g q.0) won_live name h.0 h.1 in
+        let l : IsLiveOrOlder graph g name = subst (IsLiveOrOlder graph g) q.1.0 q.1.1.1 in
         ⊎_elim (λ (x : Live graph g name). x) (λ o. absurd (young-not_older name (collected-young name (placed_collected setting f parts j name h)) o)) l
 
     -- the won lists know each place

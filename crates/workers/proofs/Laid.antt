@@ -5,7 +5,8 @@ use Rattle.std.specs.Prelude.{slice_set, sum_by, length}
 use Rattle.std.specs.Option.{option_map_or}
 use Rattle.model.specs.Graph.{Object, size_of}
 use Rattle.workers.specs.Block.{Block, Copy, copy_words, used_words, empty_block, updated, with_field, with_copy, with_front_moved}
-use Rattle.workers.specs.Setting.{Setting, is_collected, words_of, small_word, copy_into, fits_in, destination_of}
+use Rattle.layout.specs.Place.{small_word}
+use Rattle.workers.specs.Setting.{Setting, is_collected, words_of, copy_into, fits_in, destination_of}
 use Rattle.workers.specs.Worker.{Worker, Hand, Nothing, Open, Holding, HoldingLarge, allocation_at}
 use Rattle.workers.specs.WorkerRun.{History}
 use Rattle.workers.specs.Total.{total, one_if}

@@ -1,12 +1,16 @@
 -- A worker's acts as moves, each of which changes little.
-use Rattle.std.proofs.Common.{◌≡◌, ◌≢◌, ℕ, ◌+◌, ◌<◌, Bool, true, false, List, [], ◌∷◌, ◌++◌, Option, Some, None, refl, sym, ap, subst, ◌∙◌, ⊎_elim, set, length, arith, nat_lt, ltb-true, lt-ltb, length-append}
+use Rattle.std.proofs.Common.{◌≡◌, ◌≢◌, ℕ, ◌+◌, ◌<◌, Bool, true, false, List, [], ◌∷◌, ◌++◌, Option, Some, None, refl, sym, ap, subst, ◌∙◌, ⊎_elim, set, length, arith, nat_lt, ltb-true, lt-ltb, length-append, ◌/◌}
 use Rattle.std.proofs.lemmas.Bool.{cases_eq}
 use Rattle.std.specs.Option.{option_and_then, option_map}
-use Rattle.workers.specs.Block.{Block, Copy, empty_block, has_unscanned, front_copy, updated, with_field, with_copy, with_front_moved}
-use Rattle.workers.specs.Setting.{Setting, old_field, is_collected, is_large_name, destination_of, copy_into, fits_in, IsFullBlock}
+use Rattle.workers.specs.Block.{Block, Copy, empty_block, has_unscanned, front_copy, updated, with_field, with_copy, with_front_moved, used_words}
+use Rattle.workers.specs.Setting.{Setting, old_field, is_collected, is_large_name, destination_of, copy_into, fits_in}
 use Rattle.workers.specs.Worker.{Worker, Proposal, Hand, Nothing, Open, Holding, HoldingLarge, allocation_at}
 use Rattle.workers.specs.WorkerRun.{History}
 use Rattle.workers.proofs.Lists.{length-set_any, at, mapped, at-updated_same, at-updated_other, at-set_same, at-set_other, length-updated, get-append, get-some, none-some}
+
+-- no small object is sure to fit any more
+abbrev pub IsFullBlock : Setting → Block → Type 0
+IsFullBlock setting block = setting.block_words < used_words block + setting.block_words / 4
 
 -- what a finished slot got, where it held o
 abbrev pub WroteTo : Bool → List (ℕ × ℕ) → ℕ → Option ℕ → Type 0

@@ -5,14 +5,14 @@ use Rattle.workers.specs.Block.{Block, Copy, empty_block, has_unscanned, front_c
 use Rattle.workers.specs.Setting.{Setting, old_pointers, is_large_name}
 use Rattle.workers.specs.Worker.{Worker}
 use Rattle.workers.specs.WorkerRun.{no_history}
-use Rattle.workers.specs.Places.{IsLed, IsPair}
+use Rattle.workers.specs.Places.{IsPair}
 use Rattle.workers.specs.Total.{total, one_if}
 use Rattle.workers.specs.Joined.{Each, OnSome, IsOpening, Part, HasRun, somes, blocks_of}
 use Rattle.workers.proofs.Lists.{Each-append, at, none-OnSome, at-none, Each-at_all}
 use Rattle.workers.proofs.Totals.{total-append, total-push, total-updated_same, front_total-updated, front_total-push, front_total_more, of_some}
 use Rattle.workers.proofs.Moves.{Moves, Fit, HandFit}
 use Rattle.workers.proofs.Acts.{run_moves, Stepped}
-use Rattle.workers.proofs.Pointed.{Pointed, moves_pointed, Good, Copies, Wholly, HandGood, open_fields}
+use Rattle.workers.proofs.Pointed.{Pointed, moves_pointed, Good, Copies, Wholly, HandGood, open_fields, IsLed}
 use Rattle.workers.proofs.Balance.{InFront, balance, got, has, in_hand, pairs_in, scans_in, done_scanned}
 
 pub total-somes : {A : Type 0} (f : A → ℕ) (xs : List (Option A)) → total f (somes xs) ≡ total (of_some f) xs

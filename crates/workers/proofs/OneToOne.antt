@@ -4,7 +4,8 @@ use Rattle.std.proofs.lemmas.Bool.{cases_eq}
 use Rattle.std.specs.Option.{option_map_or}
 use Rattle.model.specs.Graph.{is_large}
 use Rattle.workers.specs.Block.{Block, Copy}
-use Rattle.workers.specs.Setting.{Setting, is_large_name, small_word, words_of}
+use Rattle.layout.specs.Place.{small_word}
+use Rattle.workers.specs.Setting.{Setting, is_large_name, words_of}
 use Rattle.workers.specs.Places.{IsPair}
 use Rattle.workers.specs.Total.{total, one_if, times, wins_of, ones}
 use Rattle.workers.specs.Joined.{Each, Part, HasRun, Joined, blocks_of, named_in}

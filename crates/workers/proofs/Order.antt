@@ -4,7 +4,8 @@ use Rattle.std.proofs.lemmas.Bool.{cases_eq}
 use Rattle.std.specs.Option.{option_map_or}
 use Rattle.model.specs.Graph.{is_large}
 use Rattle.workers.specs.Block.{Block}
-use Rattle.workers.specs.Setting.{Setting, is_large_name, small_word}
+use Rattle.layout.specs.Place.{small_word}
+use Rattle.workers.specs.Setting.{Setting, is_large_name}
 use Rattle.workers.specs.WorkerRun.{no_history}
 use Rattle.workers.specs.Total.{total, one_if, times}
 use Rattle.workers.specs.Joined.{Each, Part, HasRun, WasExported, Joined}

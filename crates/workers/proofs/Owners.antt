@@ -1,7 +1,8 @@
 -- What a worker won stands in blocks that it drew.
 use Rattle.std.proofs.Common.{◌≡◌, ℕ, ◌+◌, ◌/◌, ◌<◌, ◌≤◌, Bool, true, false, zero, suc, List, [], ◌∷◌, ◌++◌, Option, Some, refl, ap, ◌⊎◌, inl, inr, set, arith, nat_eq, eqb-true, eq-eqb, leb-true}
 use Rattle.workers.specs.Block.{Block, Copy, used_words, empty_block, updated, with_field, with_copy, with_front_moved}
-use Rattle.workers.specs.Setting.{Setting, is_large_name, words_of, small_word}
+use Rattle.layout.specs.Place.{small_word}
+use Rattle.workers.specs.Setting.{Setting, is_large_name, words_of}
 use Rattle.workers.specs.Worker.{Worker, allocation_at}
 use Rattle.workers.specs.WorkerRun.{History}
 use Rattle.workers.specs.Total.{total, one_if, times}

@@ -8,9 +8,18 @@ use Rattle.workers.specs.Block.{Block, Copy, empty_block, front_copy, updated, w
 use Rattle.workers.specs.Setting.{Setting, old_field, old_pointers, is_collected}
 use Rattle.workers.specs.Worker.{Worker, Hand, Nothing, Open, Holding, HoldingLarge, allocation_at}
 use Rattle.workers.specs.WorkerRun.{History}
-use Rattle.workers.specs.Places.{HasPlace, new_pointer, new_pointers, IsLed, IsPair}
+use Rattle.workers.specs.Places.{new_pointer, new_pointers, IsPair}
 use Rattle.workers.proofs.Lists.{Each, OnSome, Each-append, Each-left, Each-right, at, mapped, at-updated_same, at-updated_other, at-set_either, at-set_other, none-some}
 use Rattle.workers.proofs.Moves.{Move, Moves, none, more, learns, proposes, finishes, writes_open, writes_held, writes_large, draws, retires_open, retires_aside, retires_done, copies, claims, scans_open_more, scans_open_last, scans_held_more, scans_held_last, scans_large, exports, takes, owns, owns_large, HandFit, Fit, Wrote, WroteTo, moves_fit}
+
+-- it has a place
+abbrev pub HasPlace : (ℕ → Option ℕ) → ℕ → Type 0
+HasPlace f name = (place : ℕ) × (f name ≡ Some place)
+
+-- where it leads to a collected object, this has a place
+abbrev pub IsLed : Setting → (ℕ → Option ℕ) → Option ℕ → Type 0
+IsLed setting f None = Unit {0}
+IsLed setting f (Some t) = is_collected setting t ≡ true → HasPlace f t
 
 pub old_field-get : (setting : Setting) (name i : ℕ) → old_field setting name i ≡ slice_get (old_pointers setting name) i
 old_field-get setting name i = go (setting.object name)

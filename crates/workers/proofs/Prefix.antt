@@ -2,7 +2,8 @@
 use Rattle.std.proofs.Common.{◌≡◌, ℕ, ◌+◌, ◌/◌, ◌<◌, ◌≤◌, Bool, true, false, not, zero, suc, List, [], ◌∷◌, ◌++◌, Option, Some, None, refl, sym, ap, subst, ◌∙◌, cond, arith, nat_le, eqb-true, ne_eqb, add-zero, ◌≢◌, slice_get}
 use Rattle.std.proofs.lemmas.Bool.{lt-leb}
 use Rattle.workers.specs.Block.{Block, Copy, empty_block, front_copy, with_field, with_copy, with_front_moved}
-use Rattle.workers.specs.Setting.{Setting, is_large_name, words_of, small_word}
+use Rattle.layout.specs.Place.{small_word}
+use Rattle.workers.specs.Setting.{Setting, is_large_name, words_of}
 use Rattle.workers.specs.Worker.{Worker, Hand, Nothing, Open, Holding, HoldingLarge}
 use Rattle.workers.specs.WorkerRun.{no_history}
 use Rattle.workers.specs.Total.{total, front_total, one_if}

@@ -12,7 +12,7 @@ use Rattle.workers.specs.Worker.{Worker, Proposal, Copied, Claimed, Hand, Nothin
 use Rattle.workers.specs.WorkerSteps.{slot_of_starts, current_slot, cell_wanted}
 use Rattle.workers.specs.WorkerRun.{WorkerRun, stay, go, Looked, Raced, Scanned, Exported, Took, Owned, OwnedLarge, History, no_history, first_alone, proposed_name}
 use Rattle.workers.specs.Joined.{Each, OnSome, IsOpening, Roomy}
-use Rattle.workers.specs.Kept.{LiveOrOlder}
+use Rattle.model.specs.Collected.{IsLiveOrOlder}
 use Rattle.workers.specs.Laid.{Laid}
 use Rattle.workers.specs.Ready.{HasField, CanWrite, CanFinish, CanPass, IsUnscanned, copy_in, HoldsOld, IsUntouched, IsHanded, IsReady}
 use Rattle.workers.proofs.Lists.{Each-append, Each-left, Each-zip, Each-map, at-none, get-lt}
@@ -144,41 +144,41 @@ module _ (graph : Graph) (g : ℕ) (shape : Shape) (block_words workers : ℕ) w
       (λ b x. (Each-map (λ (c : Copy). Live graph g c.name) (IsYoungCopy setting) (λ c l. young-collected graph g shape block_words workers c.name (Live-young graph g c.name l)) b.copies x.live, each_rest setting (drop b.front b.copies) x.rest))
       bs h
 
-  handed_live : (bs : List Block) → Handed bs → Each (BlockLive (LiveOrOlder graph g)) bs
-  handed_live bs h = Each-map (IsHanded graph g shape block_words workers) (BlockLive (LiveOrOlder graph g)) (λ b x. Each-map (λ (c : Copy). Live graph g c.name) (λ (c : Copy). LiveOrOlder graph g c.name) (λ c l. inl l) b.copies x.live) bs h
+  handed_live : (bs : List Block) → Handed bs → Each (BlockLive (IsLiveOrOlder graph g)) bs
+  handed_live bs h = Each-map (IsHanded graph g shape block_words workers) (BlockLive (IsLiveOrOlder graph g)) (λ b x. Each-map (λ (c : Copy). Live graph g c.name) (λ (c : Copy). IsLiveOrOlder graph g c.name) (λ c l. inl l) b.copies x.live) bs h
 
   pub run_ready : (start w : Worker) (h : History) → IsOpening start → Roomy setting start → Handed h.taken → WorkerRun setting start w h → IsReady setting w
   run_ready start w h opening room taken run = ready setting start w h opening room run (handed_ahead h.taken taken)
 
   -- a copy of a collected object that is live or older is live
-  young_live : (name : ℕ) → is_collected setting name ≡ true → LiveOrOlder graph g name → Live graph g name
+  young_live : (name : ℕ) → is_collected setting name ≡ true → IsLiveOrOlder graph g name → Live graph g name
   young_live name y (inl l) = l
   young_live name y (inr o) = absurd (young-not_older graph g shape block_words workers name (collected-young graph g shape block_words workers name y) o)
 
-  aside_handed : (start w : Worker) (h : History) → IsOpening start → Roomy setting start → Each (LiveOrOlder graph g) start.starts → Handed h.taken → WorkerRun setting start w h → Handed w.aside
+  aside_handed : (start w : Worker) (h : History) → IsOpening start → Roomy setting start → Each (IsLiveOrOlder graph g) start.starts → Handed h.taken → WorkerRun setting start w h → Handed w.aside
   aside_handed start w h opening room starts taken run =
-      Each-map (λ (b : Block). (Waits setting b × Laid setting b) × BlockLive (LiveOrOlder graph g) b) (IsHanded graph g shape block_words workers)
+      Each-map (λ (b : Block). (Waits setting b × Laid setting b) × BlockLive (IsLiveOrOlder graph g) b) (IsHanded graph g shape block_words workers)
       (λ b x.
       record {
-        live = Each-map (λ (c : Copy). IsYoungCopy setting c × LiveOrOlder graph g c.name) (λ (c : Copy). Live graph g c.name) (λ c y. young_live c.name y.0 y.1) b.copies (Each-zip (IsYoungCopy setting) (λ (c : Copy). LiveOrOlder graph g c.name) b.copies x.0.0.0.0 x.1);
+        live = Each-map (λ (c : Copy). IsYoungCopy setting c × IsLiveOrOlder graph g c.name) (λ (c : Copy). Live graph g c.name) (λ c y. young_live c.name y.0 y.1) b.copies (Each-zip (IsYoungCopy setting) (λ (c : Copy). IsLiveOrOlder graph g c.name) b.copies x.0.0.0.0 x.1);
         laid = x.0.1;
         rest = rest_each setting (drop b.front b.copies) x.0.0.0.1;
         some = x.0.0.1;
       })
       w.aside
-      (Each-zip (λ (b : Block). Waits setting b × Laid setting b) (BlockLive (LiveOrOlder graph g)) w.aside
+      (Each-zip (λ (b : Block). Waits setting b × Laid setting b) (BlockLive (IsLiveOrOlder graph g)) w.aside
       (Each-zip (Waits setting) (Laid setting) w.aside (keeps setting start w h opening room run (handed_ahead h.taken taken)).1.1 (aside_laid setting start w h opening room run))
       own.aside)
     where
-      own : OwnLive (LiveOrOlder graph g) w
-      own = run_live (LiveOrOlder graph g) setting (keep graph g shape block_words workers) run (handed_live h.taken taken) (opening_live graph g shape block_words workers start opening starts)
+      own : OwnLive (IsLiveOrOlder graph g) w
+      own = run_live (IsLiveOrOlder graph g) setting (keep graph g shape block_words workers) run (handed_live h.taken taken) (opening_live graph g shape block_words workers start opening starts)
 
   first_handed : (bs : List Block) → Handed bs → Handed (first_alone bs)
   first_handed [] x = tt
   first_handed (b ∷ bs) x = (x.0, tt)
 
   -- what a worker handed on was its oldest aside
-  sent_handed : (start : Worker) → IsOpening start → Roomy setting start → Each (LiveOrOlder graph g) start.starts → {w : Worker} {h : History} → WorkerRun setting start w h → Handed h.taken → Handed h.exported
+  sent_handed : (start : Worker) → IsOpening start → Roomy setting start → Each (IsLiveOrOlder graph g) start.starts → {w : Worker} {h : History} → WorkerRun setting start w h → Handed h.taken → Handed h.exported
   sent_handed start opening room starts stay t = tt
   sent_handed start opening room starts (go (Looked cell number) run can) t = sent_handed start opening room starts run t
   sent_handed start opening room starts (go (Raced lost) run can) t = sent_handed start opening room starts run t
@@ -189,5 +189,5 @@ module _ (graph : Graph) (g : ℕ) (shape : Shape) (block_words workers : ℕ) w
   sent_handed start opening room starts (go (Owned d) run can) t = sent_handed start opening room starts run t
   sent_handed start opening room starts (go OwnedLarge run can) t = sent_handed start opening room starts run t
 
-  pub exports_handed : (start w : Worker) (h : History) → IsOpening start → Roomy setting start → Each (LiveOrOlder graph g) start.starts → Handed h.taken → WorkerRun setting start w h → Handed w.aside × Handed h.exported
+  pub exports_handed : (start w : Worker) (h : History) → IsOpening start → Roomy setting start → Each (IsLiveOrOlder graph g) start.starts → Handed h.taken → WorkerRun setting start w h → Handed w.aside × Handed h.exported
   exports_handed start w h opening room starts taken run = (aside_handed start w h opening room starts taken run, sent_handed start opening room starts run taken)

@@ -3,7 +3,7 @@ use Rattle.std.proofs.Common.{◌≡◌, ℕ, zero, suc, ◌+◌, ◌<◌, ◌�
 use Rattle.workers.specs.Block.{Block, Copy}
 use Rattle.workers.specs.Setting.{Setting, is_collected, is_large_name}
 use Rattle.workers.specs.WorkerRun.{no_history}
-use Rattle.workers.specs.Places.{HasPlace, IsPair}
+use Rattle.workers.specs.Places.{IsPair}
 use Rattle.workers.specs.Total.{total, one_if, times, wins_of, ones}
 use Rattle.workers.specs.Joined.{Each, OnSome, Part, HasRun, WasExported, Joined, blocks_of, somes}
 use Rattle.workers.proofs.Lists.{Each-append, Each-zip, Each-map, Each-at, Each-at_all, at, at-none}
@@ -14,6 +14,7 @@ use Rattle.workers.proofs.Deliveries.{deliveries-total}
 use Rattle.workers.proofs.Won.{won_known, known_collected, won_stays, Stays}
 use Rattle.workers.proofs.Laid.{Laid, LaidOut, HandLaid, moves_laid}
 use Rattle.workers.proofs.Whole.{accounts, won_stands}
+use Rattle.workers.proofs.Pointed.{HasPlace}
 
 pub total-le : {A : Type 0} (f g : A → ℕ) (P : A → Type 0) → ((x : A) → P x → f x ≤ g x) → (xs : List A) → Each P xs → total f xs ≤ total g xs
 total-le f g P k [] h = omega arith

@@ -17,7 +17,8 @@ use Rattle.workers.specs.Steps.{Step}
 use Rattle.workers.specs.Steps as steps
 use Rattle.workers.specs.Total.{total, one_if, times, ones}
 use Rattle.workers.specs.Joined.{Each, Part}
-use Rattle.workers.specs.Kept.{LiveOrOlder, CopiesLive}
+use Rattle.model.specs.Collected.{IsLiveOrOlder}
+use Rattle.workers.specs.Kept.{CopiesLive}
 use Rattle.workers.specs.Lawful.{AllEnded, IsRefused}
 use Rattle.workers.specs.Refused.{HasBegun, Refused}
 use Rattle.workers.specs.Finish.{IsReached}
@@ -94,12 +95,12 @@ step_parts setting d n slots free s s' event e p =
     let h = run_held setting (steps.go {event = event} e steps.stay) p.parts p.held in
     record { parts = h.0; held = h.1.0; starts = h.1.1.0 ∙ p.starts; drawn = λ f. h.1.1.1 f ∙ p.drawn f }
 
-module _ (graph : Graph) (g : ℕ) (shape : Shape) (block_words d n : ℕ) (slots free : List ℕ) (s : System) (r : IsReached (setting_of graph g shape block_words n) d n slots free s) (only : Each (LiveOrOlder graph g) slots) where
+module _ (graph : Graph) (g : ℕ) (shape : Shape) (block_words d n : ℕ) (slots free : List ℕ) (s : System) (r : IsReached (setting_of graph g shape block_words n) d n slots free s) (only : Each (IsLiveOrOlder graph g) slots) where
   abbrev setting : Setting
   setting = setting_of graph g shape block_words n
 
   abbrev L : ℕ → Type 0
-  L = LiveOrOlder graph g
+  L = IsLiveOrOlder graph g
 
   brought_parts : Parts setting d n slots free s
   brought_parts = parts_of setting d n slots free s r

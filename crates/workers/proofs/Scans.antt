@@ -7,7 +7,8 @@ use Rattle.std.specs.Ordering.{nat_cmp}
 use Rattle.std.specs.FinMap.{find}
 use Rattle.model.specs.Graph.{Graph, is_large}
 use Rattle.model.specs.Destination.{Shape}
-use Rattle.workers.specs.Setting.{Setting, setting_of, is_large_name, small_word}
+use Rattle.layout.specs.Place.{small_word}
+use Rattle.workers.specs.Setting.{Setting, setting_of, is_large_name}
 use Rattle.workers.specs.Worker.{Worker}
 use Rattle.workers.specs.WorkerSteps.{IsOutOfWork}
 use Rattle.workers.specs.WorkerRun.{stay}

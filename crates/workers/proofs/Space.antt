@@ -2,7 +2,7 @@
 use Rattle.std.proofs.Common.{◌≡◌, ℕ, zero, suc, ◌+◌, ◌-◌, ◌/◌, ◌<◌, ◌≤◌, Bool, true, false, not, ◌&&◌, List, [], ◌∷◌, ◌++◌, Option, Some, None, refl, sym, ap, subst, ◌∙◌, set, cond, length, arith, true≢false}
 use Rattle.std.specs.Prelude.{slice_set}
 use Rattle.workers.specs.Block.{Block, Copy, copy_words, used_words, empty_block, updated, with_field, with_copy, with_front_moved}
-use Rattle.workers.specs.Setting.{Setting, is_large_name, is_collected, words_of, destination_of, fits_in, IsFullBlock}
+use Rattle.workers.specs.Setting.{Setting, is_large_name, is_collected, words_of, destination_of, fits_in}
 use Rattle.workers.specs.Worker.{Worker, allocation_at}
 use Rattle.workers.specs.WorkerSteps.{current_slot, collected_target, draw_at, draw_wanted}
 use Rattle.workers.specs.WorkerRun.{History, no_history}
@@ -11,7 +11,7 @@ use Rattle.workers.specs.Joined.{OnSome, Part}
 use Rattle.workers.specs.Refused.{HasBegun}
 use Rattle.workers.proofs.Lists.{at, mapped, length-set_any}
 use Rattle.workers.proofs.Totals.{total-push, total-updated_same, of_some, total-set_some, total-set_none, total-updated_some}
-use Rattle.workers.proofs.Moves.{Move, Moves, none, more, writes_open, draws, retires_open, retires_aside, retires_done, copies, claims, scans_open_more, scans_open_last, destinations}
+use Rattle.workers.proofs.Moves.{Move, Moves, none, more, writes_open, draws, retires_open, retires_aside, retires_done, copies, claims, scans_open_more, scans_open_last, destinations, IsFullBlock}
 use Rattle.workers.proofs.Acts.{run_moves, wanted-slot, not-fits-full}
 use Rattle.workers.proofs.Laid.{sum_by-total, copied-size}
 use Rattle.workers.proofs.OnePart.{opening-fit, total-none}

@@ -12,7 +12,8 @@ use Rattle.model.specs.SpaceBound.{space_bound}
 use Rattle.workers.specs.Setting.{Setting, setting_of, is_collected}
 use Rattle.workers.specs.Total.{total, one_if, wins_of}
 use Rattle.workers.specs.Joined.{Each, Part}
-use Rattle.workers.specs.Kept.{LiveOrOlder, CopiesLive, won_lists}
+use Rattle.model.specs.Collected.{IsLiveOrOlder}
+use Rattle.workers.specs.Kept.{CopiesLive, won_lists}
 use Rattle.workers.specs.Refused.{HasBegun, Refused}
 use Rattle.workers.proofs.Lists.{Each-zip, Each-map, none-some}
 use Rattle.workers.proofs.Totals.{total-same, total-Each, total-sum}
@@ -124,16 +125,16 @@ module _ (graph : Graph) (g : ℕ) (shape : Shape) (block_words workers d drawn 
   abbrev W : Part → Type 0
   W p = Each (λ (q : ℕ × ℕ). Live graph g q.0) p.final.won
 
-  part_live : (p : Part) → HasBegun s p → Each (LiveOrOlder graph g) p.start.starts → Each (CopiesLive graph g) p.history.taken → W p
+  part_live : (p : Part) → HasBegun s p → Each (IsLiveOrOlder graph g) p.start.starts → Each (CopiesLive graph g) p.history.taken → W p
   part_live p b starts taken =
-      let o : OwnLive (LiveOrOlder graph g) p.final = run_live (LiveOrOlder graph g) s (keep graph g shape block_words workers) b.run taken (opening_live graph g shape block_words workers p.start b.opening starts) in
+      let o : OwnLive (IsLiveOrOlder graph g) p.final = run_live (IsLiveOrOlder graph g) s (keep graph g shape block_words workers) b.run taken (opening_live graph g shape block_words workers p.start b.opening starts) in
       let y : Each (λ (q : ℕ × ℕ). is_collected s q.0 ≡ true) p.final.won =
       won_known s (λ (q : ℕ × ℕ). is_collected s q.0 ≡ true) (moves s p b) (known_collected s (moves s p b) tt) (subst (Each (λ (q : ℕ × ℕ). is_collected s q.0 ≡ true)) (sym b.opening.no_won) tt) in
-      Each-map (λ (q : ℕ × ℕ). LiveOrOlder graph g q.0 × (is_collected s q.0 ≡ true)) (λ (q : ℕ × ℕ). Live graph g q.0)
+      Each-map (λ (q : ℕ × ℕ). IsLiveOrOlder graph g q.0 × (is_collected s q.0 ≡ true)) (λ (q : ℕ × ℕ). Live graph g q.0)
       (λ q h. ⊎_elim (λ (x : Live graph g q.0). x) (λ x. absurd (young-not_older graph g shape block_words workers q.0 (collected-young graph g shape block_words workers q.0 h.1) x)) h.0)
-      p.final.won (Each-zip (λ (q : ℕ × ℕ). LiveOrOlder graph g q.0) (λ (q : ℕ × ℕ). is_collected s q.0 ≡ true) p.final.won o.won y)
+      p.final.won (Each-zip (λ (q : ℕ × ℕ). IsLiveOrOlder graph g q.0) (λ (q : ℕ × ℕ). is_collected s q.0 ≡ true) p.final.won o.won y)
 
-  all_live : (ps : List Part) → Each (HasBegun s) ps → Each (λ (p : Part). Each (LiveOrOlder graph g) p.start.starts) ps → Each (λ (p : Part). Each (CopiesLive graph g) p.history.taken) ps → Each W ps
+  all_live : (ps : List Part) → Each (HasBegun s) ps → Each (λ (p : Part). Each (IsLiveOrOlder graph g) p.start.starts) ps → Each (λ (p : Part). Each (CopiesLive graph g) p.history.taken) ps → Each W ps
   all_live [] a b c = tt
   all_live (p ∷ ps) a b c = (part_live p a.0 b.0 c.0, all_live ps a.1 b.1 c.1)
 

@@ -7,12 +7,12 @@ use Rattle.model.specs.Live.{Live, IsStart, IsYoung}
 use Rattle.model.specs.Destination.{Shape}
 use Rattle.workers.specs.Block.{Block, Copy, has_unscanned}
 use Rattle.workers.specs.Setting.{Setting, setting_of, old_pointers, old_field, is_collected}
-use Rattle.workers.specs.Places.{HasPlace, IsLed, IsPair}
+use Rattle.workers.specs.Places.{IsPair}
 use Rattle.workers.specs.Total.{total, one_if, times, ones}
 use Rattle.workers.specs.Joined.{Each, OnSome, Part, HasRun, WasExported, Joined, blocks_of, named_in}
 use Rattle.workers.proofs.Lists.{Each-zip, Each-map, Each-at, Each-get}
 use Rattle.workers.proofs.Totals.{total_some, total-Each, front_total_all, one_if-positive}
-use Rattle.workers.proofs.Pointed.{Good, Wholly, old_field-get}
+use Rattle.workers.proofs.Pointed.{Good, Wholly, old_field-get, HasPlace, IsLed}
 use Rattle.workers.proofs.Balance.{pairs_in, scans_in}
 use Rattle.workers.proofs.OnePart.{Led, exported_good, led, won_account, scan_account, all_scanned}
 use Rattle.workers.proofs.Deliveries.{deliveries-total}

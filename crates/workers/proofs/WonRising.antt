@@ -2,7 +2,8 @@
 use Rattle.std.proofs.Common.{◌≡◌, ◌≢◌, ℕ, zero, suc, ◌+◌, ◌/◌, ◌<◌, ◌≤◌, Bool, true, false, List, [], ◌∷◌, ◌++◌, Option, Some, None, refl, sym, ap, subst, ◌∙◌, inl, inr, ⊎_elim, set, length, map, cond, arith, nat_eq, eqb-true, eq-eqb, leb-true, append-nil}
 use Rattle.std.proofs.lemmas.Bool.{cases_eq}
 use Rattle.workers.specs.Block.{Block, Copy, used_words, copy_words, empty_block, updated, with_field, with_copy, with_front_moved}
-use Rattle.workers.specs.Setting.{Setting, is_large_name, words_of, small_word}
+use Rattle.layout.specs.Place.{small_word}
+use Rattle.workers.specs.Setting.{Setting, is_large_name, words_of}
 use Rattle.workers.specs.Worker.{Worker}
 use Rattle.workers.specs.WorkerRun.{History, no_history}
 use Rattle.workers.specs.Total.{total, one_if, times}

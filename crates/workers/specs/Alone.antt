@@ -5,7 +5,8 @@ use Rattle.std.specs.FinMap.{find}
 use Rattle.model.specs.Graph.{Graph, object_at}
 use Rattle.model.specs.Live.{IsStart}
 use Rattle.model.specs.Destination.{Shape}
-use Rattle.workers.specs.Setting.{Setting, small_word, is_large_name}
+use Rattle.layout.specs.Place.{small_word}
+use Rattle.workers.specs.Setting.{Setting, is_large_name}
 use Rattle.workers.specs.Worker.{Worker}
 use Rattle.workers.specs.System.{System, opening_workers}
 use Rattle.workers.specs.Total.{times}

@@ -1,13 +1,14 @@
 -- What the workers' parts together leave of a heap.
-use Rattle.std.specs.Prelude.{◌≡◌, ℕ, ◌+◌, ◌<◌, ◌≤◌, ◌⊎◌, true, false, List, [], ◌∷◌, ◌++◌, Option, Some, None, nat_eq}
+use Rattle.std.specs.Prelude.{◌≡◌, ℕ, ◌+◌, ◌<◌, ◌≤◌, true, false, List, [], ◌∷◌, ◌++◌, Option, Some, None, nat_eq}
 use Rattle.std.specs.Ordering.{nat_cmp}
 use Rattle.std.specs.FinMap.{find}
 use Rattle.model.specs.Graph.{Graph}
-use Rattle.model.specs.Live.{Live, IsStart, IsOlder}
+use Rattle.model.specs.Live.{IsStart}
 use Rattle.model.specs.Destination.{Shape}
-use Rattle.model.specs.Collected.{Renaming}
+use Rattle.model.specs.Collected.{Renaming, IsLiveOrOlder}
 use Rattle.workers.specs.Block.{Block, Copy, has_unscanned}
-use Rattle.workers.specs.Setting.{Setting, setting_of, small_word, is_large_name}
+use Rattle.layout.specs.Place.{small_word}
+use Rattle.workers.specs.Setting.{Setting, setting_of, is_large_name}
 use Rattle.workers.specs.Places.{new_pointers}
 use Rattle.workers.specs.Total.{total, one_if, times, wins_of, ones}
 use Rattle.workers.specs.Joined.{Each, Part, Joined, blocks_of, named_in}
@@ -18,11 +19,8 @@ abbrev pub won_lists : List Part → List (ℕ × ℕ)
 won_lists [] = []
 won_lists (p ∷ ps) = p.final.won ++ won_lists ps
 
-abbrev pub LiveOrOlder : Graph → ℕ → ℕ → Type 0
-LiveOrOlder graph g name = Live graph g name ⊎ IsOlder graph g name
-
 abbrev pub CopiesLive : Graph → ℕ → Block → Type 0
-CopiesLive graph g block = Each (λ (c : Copy). LiveOrOlder graph g c.name) block.copies
+CopiesLive graph g block = Each (λ (c : Copy). IsLiveOrOlder graph g c.name) block.copies
 
 -- in a drawn block nothing stood
 abbrev pub AreFresh : Setting → List Part → Type 0
@@ -32,7 +30,7 @@ AreFresh setting parts = (number offset : ℕ) → 0 < total (λ (p : Part). tim
 pub record Brought (graph : Graph) (g : ℕ) (shape : Shape) (block_words workers : ℕ) (f : ℕ → Option ℕ) (parts : List Part) : Type 0 where
   pub joined : Joined (setting_of graph g shape block_words workers) f parts
   pub starts : (target : ℕ) → IsStart graph g target → 0 < total (λ (p : Part). times target p.start.starts) parts
-  pub only_starts : Each (λ (p : Part). Each (LiveOrOlder graph g) p.start.starts) parts
+  pub only_starts : Each (λ (p : Part). Each (IsLiveOrOlder graph g) p.start.starts) parts
   pub taken_live : Each (λ (p : Part). Each (CopiesLive graph g) p.history.taken) parts
   pub small_blocks : block_words ≤ 65536
   pub fresh : AreFresh (setting_of graph g shape block_words workers) parts

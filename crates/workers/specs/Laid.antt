@@ -1,7 +1,8 @@
 -- How copies lie in their block.
 use Rattle.std.specs.Prelude.{◌≡◌, ℕ, ◌+◌, ◌<◌, ◌≤◌, List, [], ◌∷◌}
 use Rattle.workers.specs.Block.{Block, Copy, copy_words}
-use Rattle.workers.specs.Setting.{Setting, words_of, small_word, old_plain, destination_of}
+use Rattle.layout.specs.Place.{small_word}
+use Rattle.workers.specs.Setting.{Setting, words_of, old_plain, destination_of}
 use Rattle.workers.specs.Total.{total}
 
 -- a copy at this offset of that block, of its object's size and with its plain words

@@ -7,7 +7,8 @@ use Rattle.workers.specs.WorkerSteps.{draw_wanted}
 use Rattle.workers.specs.WorkerRun.{WorkerRun}
 use Rattle.workers.specs.Total.{total, wins_of}
 use Rattle.workers.specs.Joined.{Each, Part, IsOpening, Roomy}
-use Rattle.workers.specs.Kept.{LiveOrOlder, CopiesLive}
+use Rattle.model.specs.Collected.{IsLiveOrOlder}
+use Rattle.workers.specs.Kept.{CopiesLive}
 
 -- it ran from its opening, and may have stopped anywhere
 pub record HasBegun (setting : Setting) (part : Part) : Type 0 where
@@ -20,7 +21,7 @@ pub record Refused (graph : Graph) (g : ℕ) (shape : Shape) (block_words worker
   pub runs : Each (HasBegun (setting_of graph g shape block_words workers)) parts
   pub destinations_are : Each (λ (p : Part). length p.start.allocation ≡ destinations) parts
   pub won_once : (name : ℕ) → total (λ (p : Part). wins_of name p.final.won) parts ≤ 1
-  pub only_starts : Each (λ (p : Part). Each (LiveOrOlder graph g) p.start.starts) parts
+  pub only_starts : Each (λ (p : Part). Each (IsLiveOrOlder graph g) p.start.starts) parts
   pub taken_live : Each (λ (p : Part). Each (CopiesLive graph g) p.history.taken) parts
   pub all_drawn : total (λ (p : Part). length p.history.drawn) parts ≡ drawn
   -- the worker, and what the cell showed that it looked at

@@ -1,9 +1,10 @@
 -- What all workers read during a collection, and none changes.
-use Rattle.std.specs.Prelude.{ℕ, ◌<◌, ◌/◌, ◌+◌, ◌-◌, ◌*◌, Bool, false, List, [], Option, Some, None, nat_le, slice_get, option_and_then}
+use Rattle.std.specs.Prelude.{ℕ, ◌+◌, ◌-◌, ◌*◌, Bool, false, List, [], Option, Some, None, nat_le, slice_get, option_and_then}
 use Rattle.std.specs.Option.{option_map_or}
 use Rattle.model.specs.Graph.{Graph, Object, object_at, size_of, is_large}
 use Rattle.model.specs.Destination.{Shape, dest}
 use Rattle.workers.specs.Block.{Block, Copy, used_words}
+use Rattle.layout.specs.Place.{small_word}
 
 -- It is never a model's value, so it may hold a function
 pub record Setting : Type 0 where
@@ -43,10 +44,6 @@ destination_number shape at = at.0 * shape.steps + at.1 - 1
 abbrev pub destination_of : Setting → ℕ → ℕ
 destination_of setting name = option_map_or (λ o. destination_number setting.shape (dest setting.shape (o.generation, o.step))) (setting.object name) 0
 
--- the word of a small place
-abbrev pub small_word : ℕ → ℕ → ℕ
-small_word block offset = (block + 1) * 65536 + offset
-
 -- the copy that is made of the object at the end of that block
 abbrev pub copy_into : Setting → Block → ℕ → Copy
 copy_into setting block name = record { name = name; place = small_word block.number (used_words block); pointers = old_pointers setting name; plain = old_plain setting name }
@@ -54,7 +51,3 @@ copy_into setting block name = record { name = name; place = small_word block.nu
 abbrev pub fits_in : Setting → ℕ → Option Block → Bool
 fits_in setting name None = false
 fits_in setting name (Some block) = nat_le (used_words block + words_of setting name) setting.block_words
-
--- no small object is sure to fit any more
-abbrev pub IsFullBlock : Setting → Block → Type 0
-IsFullBlock setting block = setting.block_words < used_words block + setting.block_words / 4

@@ -152,11 +152,7 @@ claim_first worker (name ∷ names) = record worker { hand = HoldingLarge name; 
 abbrev pub after_own_large : Worker → Worker
 after_own_large worker = claim_first worker worker.large
 
--- when each event may come, as far as the worker's own part tells
-abbrev pub NoProposal : Worker → Type 0
-NoProposal worker = worker.proposal ≡ None
-
--- there is a slot to look at and no proposal
+-- when each event may come, as far as the worker's own part tells: there is a slot to look at and no proposal
 pub record CanLook (setting : Setting) (worker : Worker) : Type 0 where
   pub no_proposal : worker.proposal ≡ None
   pub slot : IsSome (current_slot setting worker)

@@ -8,7 +8,7 @@ ghost use Rattle.workers.specs.Setting.{Setting, setting_of};
 ghost use Rattle.workers.specs.Worker.{Worker};
 ghost use Rattle.workers.specs.System.{System, Event, opening};
 ghost use Rattle.workers.specs.Joined.{Each};
-ghost use Rattle.workers.specs.Kept.{LiveOrOlder};
+ghost use Rattle.model.specs.Collected.{IsLiveOrOlder};
 ghost use Rattle.workers.specs.Lawful.{IsRefused, AllEnded, next_alone};
 ghost use Rattle.workers.specs.Finish.{IsReached, Stepped};
 ghost use Rattle.workers.specs.Alone.{HasStarts, AreEmpty, RunBrings, TellsSmall, ScannedInOrder};
@@ -17,14 +17,14 @@ ghost use Rattle.workers.specs.Alone.{HasStarts, AreEmpty, RunBrings, TellsSmall
 pub fn ended_run_brings()
     ensures { (graph : Graph) (g : ℕ) (shape : Shape) (block_words d n : ℕ) (slots free : List ℕ) (s : System) →
         IsReached (setting_of graph g shape block_words n) d n slots free s → AllEnded s → block_words ≤ 65536 →
-        HasStarts graph g slots → Each (LiveOrOlder graph g) slots → AreEmpty graph free →
+        HasStarts graph g slots → Each (IsLiveOrOlder graph g) slots → AreEmpty graph free →
         RunBrings graph g shape block_words d n slots free s }
 {}
 
 /// Where a run is refused a block, fewer were free than the space bound.
 pub fn refused_run_below_bound()
     ensures { (graph : Graph) (g : ℕ) (shape : Shape) (block_words d n : ℕ) (slots free : List ℕ) (s : System) →
-        IsReached (setting_of graph g shape block_words n) d n slots free s → Each (LiveOrOlder graph g) slots →
+        IsReached (setting_of graph g shape block_words n) d n slots free s → Each (IsLiveOrOlder graph g) slots →
         (event : Event) → IsRefused (setting_of graph g shape block_words n) s event → (words : ℕ) →
         LiveWords graph g block_words words → length free < space_bound words block_words n d }
 {}

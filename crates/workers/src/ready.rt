@@ -6,7 +6,7 @@ ghost use Rattle.workers.specs.Setting.{setting_of};
 ghost use Rattle.workers.specs.Worker.{Worker};
 ghost use Rattle.workers.specs.WorkerRun.{WorkerRun, History};
 ghost use Rattle.workers.specs.Joined.{Each, IsOpening, Roomy};
-ghost use Rattle.workers.specs.Kept.{LiveOrOlder};
+ghost use Rattle.model.specs.Collected.{IsLiveOrOlder};
 ghost use Rattle.workers.specs.Ready.{IsHanded, IsReady};
 
 /// A worker that took only blocks as workers hand them on is ready for its next call.
@@ -22,7 +22,7 @@ pub fn run_is_ready()
 pub fn exports_are_handed()
     ensures { (graph : Graph) (g : ℕ) (shape : Shape) (block_words workers : ℕ) (start w : Worker) (h : History) →
         IsOpening start → Roomy (setting_of graph g shape block_words workers) start →
-        Each (LiveOrOlder graph g) start.starts → Each (IsHanded graph g shape block_words workers) h.taken →
+        Each (IsLiveOrOlder graph g) start.starts → Each (IsHanded graph g shape block_words workers) h.taken →
         WorkerRun (setting_of graph g shape block_words workers) start w h →
         Each (IsHanded graph g shape block_words workers) w.aside ×
         Each (IsHanded graph g shape block_words workers) h.exported }

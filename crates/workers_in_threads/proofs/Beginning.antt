@@ -10,13 +10,13 @@ use Rattle.steps.specs.CollectionValue.{young_names}
 use Rattle.workers.specs.WorkerRun.{stay, no_history}
 use Rattle.scavenge.specs.Named.{named}
 use Rattle.scavenge.specs.ReadyToCollect.{IsReadyToCollect}
-use Rattle.workers_in_threads.specs.SharingValue.{SharingValue, begins_as, worker_of, forwarded_in}
+use Rattle.workers_in_threads.specs.SharingValue.{SharingValue, begins, worker_of, forwarded_in}
 use Rattle.workers_in_threads.specs.Queued.{IsQueued}
 use Rattle.workers_in_threads.specs.IsSharing.{IsSharing, HasWorked}
 
 module _ {C P A : Type 0} (fits : C → P → Type 0) (limit : C → ℕ) (known : P → ℕ → Option Place) (won : P → List (ℕ × Place)) (v : SharingValue C P A) where
   pub begun : IsReadyToCollect v.heap v.collection → v.seat.index < v.workers → v.workspace.config ≡ v.heap.config → v.workspace.names ≡ young_names v.heap.graph v.collection.generation → fits v.cells v.pass → v.collection.cells ≤ limit v.cells → won v.pass ≡ [] → v.claims.source.free ≡ v.heap.free → v.draws ≡ unused v.claims.source
-      → v.seat ≡ new_seat v.queues v.seat.index → length v.queues.lanes ≡ v.workers → v.queues.key ≡ record { heap = v.heap; generation = v.collection.generation } → worker_of v ≡ begins_as v → IsSharing fits limit known won v
+      → v.seat ≡ new_seat v.queues v.seat.index → length v.queues.lanes ≡ v.workers → v.queues.key ≡ record { heap = v.heap; generation = v.collection.generation } → worker_of v ≡ begins v.heap v.collection v.workers v.seat.index → IsSharing fits limit known won v
   begun ready member config names pass cells none free draws seat lanes key worker =
       record {
         ready = ready;

@@ -31,7 +31,8 @@ use Rattle.workers.specs.Worker.{Worker}
 use Rattle.workers.specs.System.{opening_workers}
 use Rattle.workers.specs.Total.{total, one_if, times, wins_of, ones}
 use Rattle.workers.specs.Joined.{Each, Part, HasRun, Joined, WasExported, deliveries}
-use Rattle.workers.specs.Kept.{Brought, Kept, LiveOrOlder, CopiesLive}
+use Rattle.model.specs.Collected.{IsLiveOrOlder}
+use Rattle.workers.specs.Kept.{Brought, Kept, CopiesLive}
 use Rattle.workers.specs.Ordered.{TurnRun}
 use Rattle.workers.specs.Places.{IsPair}
 use Rattle.workers.specs.Ready.{IsHanded}
@@ -57,7 +58,7 @@ ones-le None = omega arith
 ones-le (Some x) = omega arith
 
 module _ (heap : HeapValue) (c : CollectionValue) (n : ℕ) where
-  copies_live : (cs : List Copy) → Each (λ (x : Copy). Live heap.graph c.generation x.name) cs → Each (λ (x : Copy). LiveOrOlder heap.graph c.generation x.name) cs
+  copies_live : (cs : List Copy) → Each (λ (x : Copy). Live heap.graph c.generation x.name) cs → Each (λ (x : Copy). IsLiveOrOlder heap.graph c.generation x.name) cs
   copies_live [] h = tt
   copies_live (x ∷ xs) h = (inl h.0, copies_live xs h.1)
 
@@ -293,7 +294,7 @@ module _ {P A : Type 0} {known : P → ℕ → Option Place} {won : P → List (
       record {
         joined = joined;
         starts = λ target is. (let s = starts_total target in let l = has_starts heap c all.ready target is in omega (arith, s, l));
-        only_starts = each_thread known won heap c n (λ (p : Part). Each (LiveOrOlder heap.graph c.generation) p.start.starts) (λ t r k. start_live heap c all.ready n t) 0 rs all.each;
+        only_starts = each_thread known won heap c n (λ (p : Part). Each (IsLiveOrOlder heap.graph c.generation) p.start.starts) (λ t r k. start_live heap c all.ready n t) 0 rs all.each;
         taken_live = each_thread known won heap c n (λ (p : Part). Each (CopiesLive heap.graph c.generation) p.history.taken) (λ t r k. handed_live heap c n k.worked.history.taken k.worked.handed) 0 rs all.each;
         small_blocks = (let l = all.ready.range.most_words in omega (arith, l));
         fresh = λ number offset some below. heap_empty heap all.ready.sound number offset (drawn_has number some) below;

@@ -15,7 +15,8 @@ use Rattle.workers.specs.WorkerRun.{Raced, proposed_name, proposed_place, known_
 use Rattle.workers.specs.Joined.{Each}
 use Rattle.workers.proofs.Acts.{ProposalFit}
 use Rattle.scavenge.specs.Shown.{WorkspaceValue, lost_to, IsBid, name_of}
-use Rattle.scavenge.specs.Told.{IsNumberOf, lost_of}
+use Rattle.heap.specs.Found.{HasNumber}
+use Rattle.scavenge.specs.Told.{lost_of}
 use Rattle.scavenge.specs.Told as told
 use Rattle.scavenge.proofs.Unchanged.{some_there, finish_won}
 use Rattle.workers_in_threads.specs.SharingValue.{SharingValue, setting_in, forwarded_at, forwarded_in, stands_at}
@@ -59,7 +60,7 @@ module _ {C P A : Type 0} (fits : C → P → Type 0) (limit : C → ℕ) (known
       by (Copied copy d) f b = sym (cond-false _ _ _ f.small ∙ b)
       by (Claimed name) f b = sym (cond-true _ _ _ f.1)
 
-  module _ (old new : ℕ → Option Place) (old_won new_won : List (ℕ × Place)) (number : ℕ) (of : IsNumberOf v.heap v.collection (proposed_name p) number) (bid : Place) (is_bid : IsBid v.workspace.claim worker.proposal bid) where
+  module _ (old new : ℕ → Option Place) (old_won new_won : List (ℕ × Place)) (number : ℕ) (of : HasNumber v.heap v.collection (proposed_name p) number) (bid : Place) (is_bid : IsBid v.workspace.claim worker.proposal bid) where
     forwards : forwarded_at v.heap v.collection (number, bid) ≡ (proposed_name p, proposed_place p)
     forwards =
         ap (λ name. (name, stands_at v.heap v.collection name bid)) of.is
@@ -90,8 +91,8 @@ module _ {C P A : Type 0} (fits : C → P → Type 0) (limit : C → ℕ) (known
 
   module _ (gives : ℕ → Place → Outcome → Type 0) (cells : C) (pass : P) (is_fit : fits cells pass) (few : v.collection.cells ≤ limit cells) (new : WorkspaceValue)
       (r : told.Races v.heap v.collection gives (known v.pass) (known pass) (won v.pass) (won pass) v.workspace new) where
-    of : IsNumberOf v.heap v.collection (proposed_name p) r.ends.number
-    of = subst (λ n. IsNumberOf v.heap v.collection n r.ends.number) (ap name_of proposed) r.ends.of
+    of : HasNumber v.heap v.collection (proposed_name p) r.ends.number
+    of = subst (λ n. HasNumber v.heap v.collection n r.ends.number) (ap name_of proposed) r.ends.of
 
     abbrev lost : Option ℕ
     lost = lost_of worker.proposal r.outcome

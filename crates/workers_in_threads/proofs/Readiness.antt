@@ -15,16 +15,16 @@ use Rattle.scavenge.specs.Handed.{CopiesKeyValue}
 use Rattle.workers.specs.Setting.{old_pointers}
 use Rattle.workers.specs.Worker.{Worker}
 use Rattle.workers.specs.Joined.{Each, Roomy}
-use Rattle.workers.specs.Kept.{LiveOrOlder}
-use Rattle.workers.specs.Ready.{IsReady, IsHanded}
+use Rattle.model.specs.Collected.{IsLiveOrOlder}
+use Rattle.workers.specs.Ready.{IsReady, IsHanded, CanFinish, IsUntouched}
 use Rattle.workers.specs.WorkerRun.{proposed_name}
 use Rattle.workers.proofs.Starts.{opens, opens_roomy, opening_each}
 use Rattle.workers.proofs.ReadyRuns.{run_ready, exports_handed}
 use Rattle.workers.proofs.ReadyLemmas.{few_fields}
 use Rattle.workers.proofs.Kept.{collected-young}
 use Rattle.workers.proofs.SystemFalls.{Sound, run_sound}
-use Rattle.scavenge.specs.Shown.{name_of, CanFinish}
-use Rattle.scavenge.specs.Slots.{seen, IsUntouched, HasRoomFor}
+use Rattle.scavenge.specs.Shown.{name_of}
+use Rattle.scavenge.specs.Slots.{seen}
 use Rattle.steps.specs.NamesArePlaces.{NamesArePlaces}
 use Rattle.heap.proofs.SoundHeap.{heap_places}
 use Rattle.workers.specs.WorkerSteps.{CanLook, current_slot}
@@ -42,8 +42,8 @@ module _ (heap : HeapValue) (c : CollectionValue) (ready : IsReadyToCollect heap
   pub start_roomy : (t : ℕ) → Roomy (setting_for heap c n) (begins heap c n t)
   start_roomy t = opens_roomy (setting_for heap c n) destinations n (map target_of_slot c.slots) t (λ name is. destination_below heap c ready n name is)
 
-  pub start_live : (t : ℕ) → Each (LiveOrOlder heap.graph c.generation) (begins heap c n t).starts
-  start_live t = (opening_each (setting_for heap c n) (LiveOrOlder heap.graph c.generation) destinations n (map target_of_slot c.slots) (targets_live heap c ready) t 1).0
+  pub start_live : (t : ℕ) → Each (IsLiveOrOlder heap.graph c.generation) (begins heap c n t).starts
+  start_live t = (opening_each (setting_for heap c n) (IsLiveOrOlder heap.graph c.generation) destinations n (map target_of_slot c.slots) (targets_live heap c ready) t 1).0
 
   module _ {A : Type 0} (t : ℕ) (known : ℕ → Option Place) (won : List (ℕ × Place)) (draws : SeatValue) (seat : QueueSeatValue A CopiesKeyValue) (worker : Worker) (k : HasWorked heap c n t known won draws seat worker) where
     pub ready_of : IsReady (setting_for heap c n) worker
@@ -97,7 +97,7 @@ module _ {C P A : Type 0} {fits : C → P → Type 0} {limit : C → ℕ} {known
   pub untouched_in : IsUntouched (seen v.heap v.collection) (worker_of v)
   untouched_in = ready_in.untouched
 
-  pub rooms_in : HasRoomFor (seen v.heap v.collection) (worker_of v)
+  pub rooms_in : Roomy (seen v.heap v.collection) (worker_of v)
   rooms_in = ready_in.room
 
   pub numbers_in : All (λ number. number < 65535) v.claims.source.free

@@ -12,7 +12,8 @@ use Rattle.workers.specs.Block.{Block}
 use Rattle.workers.specs.System.{opening_worker}
 use Rattle.workers.specs.Total.{total, one_if, wins_of}
 use Rattle.workers.specs.Joined.{Each, Part}
-use Rattle.workers.specs.Kept.{LiveOrOlder, CopiesLive}
+use Rattle.model.specs.Collected.{IsLiveOrOlder}
+use Rattle.workers.specs.Kept.{CopiesLive}
 use Rattle.workers.specs.Ready.{IsHanded}
 use Rattle.workers.specs.Refused.{Refused, HasBegun}
 use Rattle.workers.proofs.Starts.{opens, length-replicate-none}
@@ -74,7 +75,7 @@ module _ {P A : Type 0} {known : P → ℕ → Option Place} {won : P → List (
             (λ t r k. record { opening = opens (dest_count all.heap.config.shape all.collection.generation) all.workers (map target_of_slot all.collection.slots) t; room = start_roomy all.heap all.collection all.ready all.workers t; run = k.worked.run }) 0 all.threads all.each;
         destinations_are = each_thread known won all.heap all.collection all.workers (λ (q : Part). length q.start.allocation ≡ dest_count all.heap.config.shape all.collection.generation) (λ t r k. length-replicate-none (dest_count all.heap.config.shape all.collection.generation)) 0 all.threads all.each;
         won_once = λ name. (let e = won_total name in let l = won_once all.heap all.collection all.ready.opened.cells name pairs in_range all.won_least in omega (arith, e, l));
-        only_starts = each_thread known won all.heap all.collection all.workers (λ (q : Part). Each (LiveOrOlder all.heap.graph all.collection.generation) q.start.starts) (λ t r k. start_live all.heap all.collection all.ready all.workers t) 0 all.threads all.each;
+        only_starts = each_thread known won all.heap all.collection all.workers (λ (q : Part). Each (IsLiveOrOlder all.heap.graph all.collection.generation) q.start.starts) (λ t r k. start_live all.heap all.collection all.ready all.workers t) 0 all.threads all.each;
         taken_live = each_thread known won all.heap all.collection all.workers (λ (q : Part). Each (CopiesLive all.heap.graph all.collection.generation) q.history.taken) (λ t r k. handed_live all.heap all.collection all.workers k.worked.history.taken k.worked.handed) 0 all.threads all.each;
         all_drawn = drawn_total;
         t = all.t;

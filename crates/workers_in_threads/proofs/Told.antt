@@ -23,7 +23,8 @@ use Rattle.heap.proofs.SoundHeap.{heap_empty}
 use Rattle.scavenge.specs.Handed.{CopiesKeyValue}
 use Rattle.scavenge.specs.Named.{named}
 use Rattle.workers.specs.Block.{Block, has_unscanned}
-use Rattle.workers.specs.Setting.{is_large_name, small_word}
+use Rattle.layout.specs.Place.{small_word}
+use Rattle.workers.specs.Setting.{is_large_name}
 use Rattle.workers.specs.Worker.{Worker}
 use Rattle.workers.specs.WorkerSteps.{IsOutOfWork}
 use Rattle.workers.specs.System.{opening_worker}

@@ -13,7 +13,7 @@ use Rattle.workers.specs.Joined.{Each}
 use Rattle.workers.specs.Ordered.{RunsInTurn}
 use Rattle.workers.specs.Ready.{IsHanded}
 use Rattle.scavenge.specs.Named.{named}
-use Rattle.scavenge.specs.Told.{IsNumberOf}
+use Rattle.heap.specs.Found.{HasNumber}
 use Rattle.scavenge.specs.ReadyToCollect.{IsReadyToCollect}
 use Rattle.workers_in_threads.specs.Queued.{IsQueued}
 use Rattle.workers_in_threads.specs.SharingValue.{SharingValue, setting_for, begins, stands_at, forwarded_in, labelled_from}
@@ -21,7 +21,7 @@ use Rattle.workers_in_threads.specs.SharingValue.{SharingValue, setting_for, beg
 -- the pass knows of that name, by its number, where it stands
 pub record KnowsPair (heap : HeapValue) (c : CollectionValue) (known : ℕ → Option Place) (e : ℕ × ℕ) : Type 0 where
   pub number : ℕ
-  pub of : IsNumberOf heap c e.0 number
+  pub of : HasNumber heap c e.0 number
   pub place : Place
   pub shown : known number ≡ Some place
   pub stands : e.1 ≡ stands_at heap c e.0 place

@@ -11,6 +11,7 @@ use Rattle.idle_count.specs.VerdictValue.{VerdictValue}
 use Rattle.pending_queues.specs.PendingValue.{Source, new_seat}
 use Rattle.pending_queues.specs.PendingValue.{IsSeatOf as IsQueueSeat}
 use Rattle.scavenge.specs.Handed.{CopiesKeyValue}
+use Rattle.scavenge.specs.Shown.{WorkspaceValue}
 use Rattle.workers.specs.WorkerSteps.{draw_wanted, CanLook}
 use Rattle.scavenge.specs.declared.looking.LookError.TheVariants.{HeapFull}
 use Rattle.scavenge.specs.ReadyToCollect.{IsReadyToCollect}
@@ -20,22 +21,31 @@ use Rattle.workers_in_threads.specs.Threads.{ThreadValue, IsThread, HasEnded}
 use Rattle.workers_in_threads.specs.declared.kit.Kit.{Kit}
 use Rattle.workers_in_threads.specs.declared.kit.Brought.{Brought}
 
+-- what n workers share: the collection may begin, draws give the heap's free blocks, and each worker has a lane of the queues, which hand
+-- over copies of this collection
+pub record IsShared {A : Type 0} (heap : HeapValue) (c : CollectionValue) (claims : ClaimsValue) (queues : Source A CopiesKeyValue) (n : ℕ) : Type 0 where
+  pub ready : IsReadyToCollect heap c
+  pub free : claims.source.free ≡ heap.free
+  pub lanes : length queues.lanes ≡ n
+  pub key : queues.key ≡ record { heap = heap; generation = c.generation }
+
+-- a workspace of which nothing was done yet, that of worker t of n
+pub record IsNewWorkspace (heap : HeapValue) (c : CollectionValue) (n t : ℕ) (w : WorkspaceValue) : Type 0 where
+  pub config : w.config ≡ heap.config
+  pub names : w.names ≡ young_names heap.graph c.generation
+  pub worker : w.worker ≡ begins heap c n t
+
 module _ {P A : Type 0} where
   -- worker t of n before it begins
   pub record IsKit (limit : ℕ) (is_pass : ℕ → P → Type 0) (won : P → List (ℕ × Place)) (heap : HeapValue) (c : CollectionValue) (claims : ClaimsValue) (queues : Source A CopiesKeyValue) (idle : IdleValue) (verdict : VerdictValue) (n t : ℕ) (k : Kit P A) : Type 0 where
-    pub ready : IsReadyToCollect heap c
+    pub shared : IsShared heap c claims queues n
     pub member : t < n
     pub cells : c.cells ≤ limit
     pub pass : is_pass t k.pass
     pub won_none : won k.pass ≡ []
-    pub free : claims.source.free ≡ heap.free
     pub draws : k.draws ≡ unused claims.source
-    pub lanes : length queues.lanes ≡ n
-    pub key : queues.key ≡ record { heap = heap; generation = c.generation }
     pub seat : k.seat ≡ new_seat queues t
-    pub config : k.workspace.config ≡ heap.config
-    pub names : k.workspace.names ≡ young_names heap.graph c.generation
-    pub worker : k.workspace.worker ≡ begins heap c n t
+    pub workspace : IsNewWorkspace heap c n t k.workspace
     pub rest : IsIdleSeat idle k.rest
     pub busy : k.rest.idle ≡ false
     pub voice : k.voice.name ≡ verdict.name

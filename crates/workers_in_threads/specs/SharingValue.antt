@@ -56,8 +56,5 @@ module _ {C P A : Type 0} where
   abbrev pub setting_in : SharingValue C P A → Setting
   setting_in v = setting_for v.heap v.collection v.workers
 
-  abbrev pub begins_as : SharingValue C P A → Worker
-  begins_as v = begins v.heap v.collection v.workers v.seat.index
-
   abbrev pub worker_of : SharingValue C P A → Worker
   worker_of v = v.workspace.worker

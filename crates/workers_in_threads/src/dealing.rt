@@ -1,12 +1,11 @@
 //! What each worker takes to its thread, of the seats and passes that all share.
 ghost use Rattle.std.specs.Prelude.{◌≡◌, ◌<◌, ◌≤◌, All, IfOk, [], length};
 ghost use Rattle.forwarding.specs.Passes.{AtEach};
-ghost use Rattle.scavenge.specs.ReadyToCollect.{IsReadyToCollect};
 ghost use Rattle.block_pool.specs.ClaimsValue.{unused};
 ghost use Rattle.idle_count.specs.IdleValue.{busy};
 ghost use Rattle.idle_count.specs.VerdictValue.{untold};
 ghost use Rattle.pending_queues.specs.PendingValue.{new_seats};
-ghost use Rattle.workers_in_threads.specs.Kits.{AreKits};
+ghost use Rattle.workers_in_threads.specs.Kits.{IsShared, AreKits};
 
 use crate::kit::Kit;
 use crate::packing::pack;
@@ -37,16 +36,12 @@ pub fn dealt<S: SharedCells, A: Allocator + Clone>(
     mut voices: Vec<VerdictSeat, Global>,
     mut spare: Spare<A>,
 ) -> Result<Vec<Kit<S::Pass, A>, A>, AllocError>
-    requires ready { IsReadyToCollect heap.now collection.now }
+    requires shared { IsShared heap.now collection.now claims.now queues.now workers }
     requires few { workers < 65536 }
     requires cells { collection.now.cells ≤ S.limit cells.now }
     requires many { length passes.items ≡ workers }
-    requires passes { AtEach (S.is_pass cells.now) passes.items }
-    requires won_none { All (λ p. S.won p ≡ []) passes.items }
-    requires free { claims.now.source.free ≡ heap.now.free }
+    requires passes { AtEach (S.is_pass cells.now) passes.items × All (λ p. S.won p ≡ []) passes.items }
     requires draws { All (λ s. s ≡ unused claims.now.source) draws.items × (workers ≤ length draws.items) }
-    requires lanes { length queues.now.lanes ≡ workers }
-    requires key { queues.now.key ≡ record { heap = heap.now; generation = collection.now.generation } }
     requires seats { seats.items ≡ new_seats queues.now workers }
     requires rests { All (λ s. s ≡ busy idle.now) rests.items × (workers ≤ length rests.items) }
     requires voices { All (λ s. s ≡ untold verdict.now) voices.items × (workers ≤ length voices.items) }

@@ -1,10 +1,9 @@
 //! What each worker takes to its thread.
-ghost use Rattle.std.specs.Prelude.{◌≡◌, ◌<◌, ◌≤◌, IfOk, [], false, length};
-ghost use Rattle.scavenge.specs.ReadyToCollect.{IsReadyToCollect};
+ghost use Rattle.std.specs.Prelude.{◌≡◌, ◌<◌, ◌≤◌, IfOk, [], false};
 ghost use Rattle.block_pool.specs.ClaimsValue.{unused};
 ghost use Rattle.idle_count.specs.IdleValue.{IsSeatOf};
 ghost use Rattle.pending_queues.specs.PendingValue.{new_seat};
-ghost use Rattle.workers_in_threads.specs.Kits.{IsKit};
+ghost use Rattle.workers_in_threads.specs.Kits.{IsShared, IsKit};
 
 use crate::kit::Kit;
 use block_pool::{ClaimSeat, Claims};
@@ -34,19 +33,14 @@ pub fn pack<S: SharedCells, A: Allocator + Clone>(
     voice: VerdictSeat,
     spare: Spare<A>,
 ) -> Result<Kit<S::Pass, A>, AllocError>
-    requires ready { IsReadyToCollect heap.now collection.now }
+    requires shared { IsShared heap.now collection.now claims.now queues.now workers }
     requires member { number < workers }
     requires few { workers < 65536 }
     requires cells { collection.now.cells ≤ S.limit cells.now }
-    requires pass { S.is_pass cells.now number pass }
-    requires won_none { S.won pass ≡ [] }
-    requires free { claims.now.source.free ≡ heap.now.free }
+    requires pass { S.is_pass cells.now number pass × (S.won pass ≡ []) }
     requires draws { draws ≡ unused claims.now.source }
-    requires lanes { length queues.now.lanes ≡ workers }
-    requires key { queues.now.key ≡ record { heap = heap.now; generation = collection.now.generation } }
     requires seat { seat ≡ new_seat queues.now number }
-    requires rest { IsSeatOf idle.now rest }
-    requires busy { rest.idle ≡ false }
+    requires rest { IsSeatOf idle.now rest × (rest.idle ≡ false) }
     requires voice { voice.name ≡ verdict.now.name }
     ensures { IfOk result
         (λ k. IsKit (S.limit cells.now)

@@ -2,6 +2,7 @@
 ghost use Rattle.std.specs.Prelude.{◌≡◌, ◌≢◌, ◌<◌, ℕ, List, Option, Some, None, IfOk, OnErr};
 ghost use Rattle.layout.specs.declared.place.Place.{Place as At};
 ghost use Rattle.forwarding.specs.declared.cells.outcome.Outcome.{Outcome as Ended};
+ghost use Rattle.forwarding.specs.KeepsPasses.{KeepsPasses};
 ghost use Rattle.forwarding.specs.Learned.{Learns, RaceEnds, place_after};
 
 use crate::cells::outcome::Outcome;
@@ -50,10 +51,7 @@ pub trait Cells {
         requires pass { fits self.old pass.old }
         requires name { name < limit self.old }
         ensures cells { self.new ≡ self.old }
-        ensures pass { fits self.new pass.new }
-        ensures home { (cells : Self) → at_home cells pass.old → at_home cells pass.new }
-        ensures apart { (other : Self.Pass) → apart pass.old other → apart pass.new other }
-        ensures apart_back { (other : Self.Pass) → apart other pass.old → apart other pass.new }
+        ensures keeps { KeepsPasses limit fits at_home apart self.old pass.old self.new pass.new }
         ensures known { Learns (known pass.old) (known pass.new) name result }
         ensures won { won pass.new ≡ won pass.old }
         ensures exact { look_gives self.old name result };
@@ -68,12 +66,7 @@ pub trait Cells {
     ) -> Result<Outcome, AllocError>
         requires pass { fits self.old pass.old }
         requires name { name < limit self.old }
-        ensures pass { fits self.new pass.new }
-        ensures others { (other : Self.Pass) → apart pass.old other → fits self.old other → fits self.new other }
-        ensures home { (cells : Self) → at_home cells pass.old → at_home cells pass.new }
-        ensures apart { (other : Self.Pass) → apart pass.old other → apart pass.new other }
-        ensures apart_back { (other : Self.Pass) → apart other pass.old → apart other pass.new }
-        ensures limit { limit self.new ≡ limit self.old }
+        ensures keeps { KeepsPasses limit fits at_home apart self.old pass.old self.new pass.new }
         ensures exact { IfOk result (λ o. race_gives self.old name place o self.new) }
         ensures refused { OnErr result may_refuse }
         ensures known { IfOk result (λ o. Learns (known pass.old) (known pass.new) name (Some (place_after o place))) }

@@ -72,9 +72,8 @@ pub fn commit<A: Allocator + Clone>(
     ensures workers { IfOk result (λ report. report.workers ≡ settled.workers) }
     ensures deliveries { IfOk result (λ report. report.deliveries ≡ settled.deliveries) }
     ensures sound { IfOk result (λ _. IsHeap (heap_with objects.new roots.new.slots sets.new)) }
-    ensures objects_as_before { OnErr result (objects.new ≡ objects.old) }
-    ensures roots_as_before { OnErr result (roots.new ≡ roots.old) }
-    ensures sets_as_before { OnErr result (sets.new ≡ sets.old) }
+    ensures err { OnErr result
+        ((objects.new ≡ objects.old) × (roots.new ≡ roots.old) × (sets.new ≡ sets.old)) }
 {
     let _before = objects.free_count();
     let lens = lens(sets);

@@ -6,7 +6,8 @@ ghost use Rattle.workers.specs.WorkerSteps.{CanLook, CanScan, IsFree, IsOutOfWor
 ghost use Rattle.workers.specs.Lawful.{lowest_open, next_of_worker};
 ghost use Rattle.workers.specs.Block.{Block};
 ghost use Rattle.machine.specs.SystemEvents.{event_of};
-ghost use Rattle.scavenge.specs.Slots.{objects_of, IsUntouched};
+ghost use Rattle.workers.specs.Ready.{IsUntouched};
+ghost use Rattle.scavenge.specs.Slots.{objects_of};
 
 use crate::workers_in_turn::event::Event;
 use crate::workers_in_turn::member::Member;

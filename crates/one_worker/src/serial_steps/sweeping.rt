@@ -48,7 +48,7 @@ fn sweep_one<A: Allocator + Clone>(
     ensures stepped { HasStepped sweep.new }
     ensures proposal { result ≡ true → sweep.new.workspace.worker.proposal ≡ None }
     ensures some { result ≡ true → left_to_do sweep.new < left_to_do sweep.old }
-    ensures none { result ≡ false → left_to_do sweep.new ≤ left_to_do sweep.old }
+    ensures less { left_to_do sweep.new ≤ left_to_do sweep.old }
 {
     if !sweep_once(heap, collection, sweep) {
         return false;

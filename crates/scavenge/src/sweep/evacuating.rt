@@ -1,19 +1,22 @@
 //! The current slot's object is evacuated in a sweep: looked at, and copied and raced for at once.
-ghost use Rattle.std.specs.Prelude.{◌≡◌, ◌<◌, ◌≤◌, ◌≢◌, [], true, false, None, IsSome, IsSomeAnd, OnOk, OnErr, length, slice_index};
+ghost use Rattle.std.specs.Prelude.{◌≡◌, ◌<◌, ◌≤◌, ◌≢◌, ◌⊎◌, [], true, false, None, IsSome, IsSomeAnd, OnOk, OnErr, length, slice_index};
 ghost use Rattle.std.specs.Option.{option_map};
 ghost use Rattle.model.specs.Graph.{IsClosed, object_at};
 ghost use Rattle.layout.specs.Place.{place_word};
 ghost use Rattle.layout.specs.ObjectRef.{raw_of};
 ghost use Rattle.block_pool.specs.ClaimsValue.{SeatValue};
-ghost use Rattle.heap.specs.CollectionValue.{IsOpened, young_names};
+ghost use Rattle.forwarding.specs.KeepsPasses.{KeepsPasses};
+ghost use Rattle.heap.specs.CollectionValue.{young_names};
 ghost use Rattle.heap.specs.NamesArePlaces.{NamesArePlaces};
 ghost use Rattle.heap.specs.StepPairs.{step_pair, stands_at};
 ghost use Rattle.heap.specs.Words.{IsShownAs};
 ghost use Rattle.workers.specs.Worker.{Nothing};
 ghost use Rattle.workers.specs.WorkerSteps.{current_slot};
-ghost use Rattle.scavenge.specs.Shown.{CanFinish, name_of};
-ghost use Rattle.scavenge.specs.Slots.{seen, objects_of, IsUntouched, Looks};
-ghost use Rattle.scavenge.specs.Told.{StillKnows, RacesAt};
+ghost use Rattle.scavenge.specs.Shown.{name_of};
+ghost use Rattle.workers.specs.Ready.{IsUntouched};
+ghost use Rattle.scavenge.specs.Slots.{seen, objects_of, Looks};
+ghost use Rattle.scavenge.specs.MayStep.{IsOpenFor, MayLook, MayRace, OnlyLooks};
+ghost use Rattle.scavenge.specs.Told.{RacesAt};
 ghost use Rattle.scavenge.specs.Evacuates.{LooksAndRaces, ProposesThere};
 ghost use Rattle.scavenge.specs.declared.evacuating.Evacuated.TheVariants.{Left, NoSlot, Looked, Raced};
 
@@ -71,19 +74,12 @@ fn race_in<A: Allocator, C: Cells>(
     pass: &mut C::Pass,
     number: u32,
 ) -> Result<(), AllocError>
-    requires proposal { IsSome sweep.old.worker.proposal }
-    requires slot { CanFinish sweep.old.worker sweep.old.worker.starts }
-    requires few { sweep.old.worker.fields < 4294967296 }
+    requires worker { MayRace sweep.old }
     requires pass { C.fits cells.old pass.old }
     requires number { number < C.limit cells.old }
     requires known { number < length sweep.old.names }
     requires name { slice_index sweep.old.names number ≡ name_of sweep.old.worker.proposal }
-    ensures pass { C.fits cells.new pass.new }
-    ensures others { (other : C.Pass) → C.apart pass.old other → C.fits cells.old other → C.fits cells.new other }
-    ensures home { (other : C) → C.at_home other pass.old → C.at_home other pass.new }
-    ensures apart { (other : C.Pass) → C.apart pass.old other → C.apart pass.new other }
-    ensures apart_back { (other : C.Pass) → C.apart other pass.old → C.apart other pass.new }
-    ensures limit { C.limit cells.new ≡ C.limit cells.old }
+    ensures keeps { KeepsPasses C.limit C.fits C.at_home C.apart cells.old pass.old cells.new pass.new }
     ensures ok { OnOk result
         (RacesAt number (λ number at outcome. C.race_gives cells.old number at outcome cells.new) (C.known pass.old)
         (C.known pass.new) (C.won pass.old) (C.won pass.new) sweep.old sweep.new) }
@@ -117,33 +113,18 @@ impl<A: Allocator + Clone> Sweep<A> {
         cells: &mut C,
         pass: &mut C::Pass,
     ) -> Evacuated
-        requires opened { IsOpened heap.now collection.now.generation collection.now }
-        requires closed { IsClosed heap.now.graph }
-        requires places { NamesArePlaces heap.now.graph }
-        requires config { self.old.config ≡ heap.now.config }
+        requires open { IsOpenFor heap.now collection.now self.old }
         requires names { self.old.names ≡ young_names heap.now.graph collection.now.generation }
-        requires proposal { self.old.worker.proposal ≡ None }
-        requires slot { IsSome (current_slot (seen heap.now collection.now) self.old.worker) →
-            CanFinish self.old.worker self.old.worker.starts }
-        requires few { self.old.worker.fields < 4294967296 }
-        requires untouched { IsUntouched (seen heap.now collection.now) self.old.worker }
-        requires pass { C.fits cells.old pass.old }
-        requires limit { collection.now.cells ≤ C.limit cells.old }
-        ensures pass { C.fits cells.new pass.new }
-        ensures others { (other : C.Pass) → C.apart pass.old other → C.fits cells.old other → C.fits cells.new other }
-        ensures home { (other : C) → C.at_home other pass.old → C.at_home other pass.new }
-        ensures apart { (other : C.Pass) → C.apart pass.old other → C.apart pass.new other }
-        ensures apart_back { (other : C.Pass) → C.apart other pass.old → C.apart other pass.new }
-        ensures limit { C.limit cells.new ≡ C.limit cells.old }
-        ensures cells { result ≢ Raced → cells.new ≡ cells.old }
-        ensures won { result ≢ Raced → C.won pass.new ≡ C.won pass.old }
-        ensures lasts { result ≢ Raced → StillKnows (C.known pass.old) (C.known pass.new) }
+        requires worker { MayLook heap.now collection.now self.old }
+        requires cells { C.fits cells.old pass.old × (collection.now.cells ≤ C.limit cells.old) }
+        ensures keeps { KeepsPasses C.limit C.fits C.at_home C.apart cells.old pass.old cells.new pass.new }
+        ensures looks { result ≢ Raced → OnlyLooks C.won C.known cells.old pass.old cells.new pass.new }
         ensures left { result ≡ Left → self.new ≡ self.old }
-        ensures none { result ≡ NoSlot → self.new ≡ self.old }
-        ensures no_slot { result ≡ NoSlot → current_slot (seen heap.now collection.now) self.old.worker ≡ None }
-        ensures held { result ≡ NoSlot → self.old.worker.hand ≢ Nothing }
-        ensures looked_slot { result ≡ Looked → IsSome (current_slot (seen heap.now collection.now) self.old.worker) }
-        ensures raced_slot { result ≡ Raced → IsSome (current_slot (seen heap.now collection.now) self.old.worker) }
+        ensures none { result ≡ NoSlot → (self.new ≡ self.old) ×
+            (current_slot (seen heap.now collection.now) self.old.worker ≡ None) ×
+            (self.old.worker.hand ≢ Nothing) }
+        ensures slot { (result ≡ Looked) ⊎ (result ≡ Raced) →
+            IsSome (current_slot (seen heap.now collection.now) self.old.worker) }
         ensures looked { result ≡ Looked → (seat : SeatValue) →
             Looks heap.now collection.now (C.look_gives cells.old) (C.known pass.old)
             (C.known pass.new) seat seat self.old self.new }

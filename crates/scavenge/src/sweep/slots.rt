@@ -6,7 +6,8 @@ ghost use Rattle.layout.specs.ObjectRef.{raw_of};
 ghost use Rattle.layout.specs.Place.{place_word};
 ghost use Rattle.workers.specs.Worker.{Nothing, allocation_at};
 ghost use Rattle.workers.specs.WorkerSteps.{after_race, after_scan, finish_slot};
-ghost use Rattle.scavenge.specs.Shown.{CanFinish, CanPass, CanRead, Holds, IsBid, known_slot, has_place_for, lost_to, name_of, with_copy_proposed};
+ghost use Rattle.workers.specs.Ready.{CanFinish, CanPass};
+ghost use Rattle.scavenge.specs.Shown.{CanRead, Holds, IsBid, known_slot, has_place_for, lost_to, name_of, with_copy_proposed};
 
 use crate::sweep::copied::Copied;
 use crate::sweep::sweep::Sweep;

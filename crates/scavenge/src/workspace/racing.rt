@@ -2,7 +2,8 @@
 ghost use Rattle.std.specs.Prelude.{◌≡◌, ◌<◌, ◌-◌, Some, None, IsSome, MatchOption, length, slice_index};
 ghost use Rattle.layout.specs.Place.{place_word};
 ghost use Rattle.workers.specs.WorkerSteps.{after_race};
-ghost use Rattle.scavenge.specs.Shown.{CanFinish, IsBid, lost_to, name_of};
+ghost use Rattle.workers.specs.Ready.{CanFinish};
+ghost use Rattle.scavenge.specs.Shown.{IsBid, lost_to, name_of};
 
 use crate::workspace::workspace::Workspace;
 use heap::Won;

@@ -3,7 +3,8 @@ ghost use Rattle.std.specs.Prelude.{◌≡◌, ◌<◌, ◌+◌, true, false, No
 ghost use Rattle.std.specs.Option.{option_map};
 ghost use Rattle.layout.specs.Place.{place_word};
 ghost use Rattle.workers.specs.WorkerSteps.{after_scan, finish_slot};
-ghost use Rattle.scavenge.specs.Shown.{CanFinish, CanPass, has_another};
+ghost use Rattle.workers.specs.Ready.{CanFinish, CanPass};
+ghost use Rattle.scavenge.specs.Shown.{has_another};
 
 use crate::to_space::{pass_front, write_front};
 use crate::workspace::hand::Hand;

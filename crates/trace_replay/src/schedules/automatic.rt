@@ -1,6 +1,6 @@
 //! What a collection without a schedule brings to a commit.
 ghost use Rattle.std.specs.Prelude.{◌≡◌, ◌<◌, ◌≤◌, Some, IfOk, IfErr};
-ghost use Rattle.trace_session.specs.Faults.{MatchEachFault};
+ghost use Rattle.trace_session.specs.Faults.{never, AtFault};
 ghost use Rattle.trace_replay.specs.Brought.{ComesToCommit};
 ghost use Rattle.trace_replay.specs.Stops.{IsFullInTurn};
 
@@ -20,16 +20,14 @@ pub fn settled_by_itself<A: Allocator + Clone>(
     number: u128,
 ) -> Result<Settled<A>, Fault>
     requires generation { generation < heap.now.config.shape.generations }
-    requires some { 0 < workers }
-    requires most { workers ≤ 16 }
+    requires workers { (0 < workers) × (workers ≤ 16) }
     ensures ok { IfOk result
         (λ s. ComesToCommit heap.now generation workers s.collection s.places s.blocks.items s.workers.items
         s.deliveries.items) }
-    ensures err { IfErr result (λ e. MatchEachFault e
-        (λ _ _. ⊥) (λ _ _. ⊥)
-        (λ at. (at ≡ Some number) × IsFullInTurn heap.now generation workers)
-        (λ at. at ≡ Some number)
-        ⊥ ⊥) }
+    ensures err { IfErr result (AtFault (record never {
+      full = λ at. (at ≡ Some number) × IsFullInTurn heap.now generation workers;
+      memory = λ at. at ≡ Some number;
+    })) }
 {
     let mut machine = match Machine::open(alloc, heap, generation, workers) {
         Ok(machine) => machine,

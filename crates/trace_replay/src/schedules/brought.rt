@@ -1,7 +1,7 @@
 //! What a schedule brings to a commit.
 ghost use Rattle.std.specs.Prelude.{◌≡◌, ◌+◌, ◌-◌, ◌^◌, ◌<◌, ◌≤◌, ◌⊎◌, MatchOption, IfOk, OnOk, IfErr};
 ghost use Rattle.heap_text.specs.Streams.{OfGiven, OfInput};
-ghost use Rattle.trace_session.specs.Faults.{MatchEachFault};
+ghost use Rattle.trace_session.specs.Faults.{never, AtFault};
 ghost use Rattle.trace_session.specs.Lines.{IsOutOfReads, Moves, most_left};
 ghost use Rattle.settling.specs.Collects.{setting_at, opening_at};
 ghost use Rattle.machine.specs.Events.{IsShortOfBlocks};
@@ -29,8 +29,7 @@ pub fn settled_by_schedule<A: Allocator + Clone, S: Source>(
     reader: &mut S,
 ) -> Result<(Settled<A>, u128), Fault>
     requires generation { generation < heap.now.config.shape.generations }
-    requires some { 0 < workers }
-    requires most { workers ≤ 16 }
+    requires workers { (0 < workers) × (workers ≤ 16) }
     requires room { start + 1 + most_left lines.old < 2 ^ 127 }
     requires readable { S.failed_reads reader.old < 2 ^ 64 - 1 }
     ensures ok { IfOk result (λ found. Moves lines.old lines.new (S.input reader.old) (S.input reader.new) (λ text rest.
@@ -39,24 +38,27 @@ pub fn settled_by_schedule<A: Allocator + Clone, S: Source>(
     ensures left { IfOk result (λ found. found.1 + most_left lines.new ≤ start + most_left lines.old) }
     ensures reads { OnOk result (S.failed_reads reader.new ≡ S.failed_reads reader.old) }
     ensures read_rises { S.failed_reads reader.new ≤ S.failed_reads reader.old + 1 }
-    ensures err { IfErr result (λ e. MatchEachFault e
-        (λ at kind. OfInput lines.old.pending (S.input reader.old) (S.input reader.new) (λ text.
-        StopsAt (IsUnreadable kind)
-        (setting_at heap.now generation workers) (opening_at heap.now generation workers) (start + 1) text at))
-        (λ at kind. OfInput lines.old.pending (S.input reader.old) (S.input reader.new) (λ text.
-        StopsWith (setting_at heap.now generation workers) (opening_at heap.now generation workers) start text at kind))
-        (λ at. MatchOption at ⊥ (λ line. OfInput lines.old.pending (S.input reader.old) (S.input reader.new) (λ text.
-        StopsAt (OfLine (IsRefusedBlocks (setting_at heap.now generation workers)))
-        (setting_at heap.now generation workers) (opening_at heap.now generation workers) (start + 1) text line)
-        × IsShortOfBlocks heap.now generation workers))
-        (λ at. MatchOption at ⊥ (λ line. OfInput lines.old.pending (S.input reader.old) (S.input reader.new) (λ text.
-        (line ≡ start) ⊎ StopsAt (OfLine (IsSoundLine (setting_at heap.now generation workers)))
-        (setting_at heap.now generation workers) (opening_at heap.now generation workers) (start + 1) text line)))
-        (OfGiven lines.old.pending (S.input reader.old) (S.input reader.new)
-        (IsUsedUp (setting_at heap.now generation workers) (opening_at heap.now generation workers))
-        × ((S.failed_reads reader.new ≡ S.failed_reads reader.old + 1)
-        ⊎ IsOutOfReads lines.old.reads (S.input reader.old) (S.input reader.new)))
-        ⊥) }
+    ensures err { IfErr result (AtFault (record never {
+      trace = λ at kind. OfInput lines.old.pending (S.input reader.old) (S.input reader.new) (λ text.
+          StopsAt (IsUnreadable kind)
+          (setting_at heap.now generation workers) (opening_at heap.now generation workers) (start + 1) text at);
+      schedule = λ at kind. OfInput lines.old.pending (S.input reader.old) (S.input reader.new) (λ text.
+          StopsWith (setting_at heap.now generation workers)
+          (opening_at heap.now generation workers) start text at kind);
+      full = λ at. MatchOption at ⊥ (λ line. OfInput lines.old.pending (S.input reader.old) (S.input reader.new)
+          (λ text.
+          StopsAt (OfLine (IsRefusedBlocks (setting_at heap.now generation workers)))
+          (setting_at heap.now generation workers) (opening_at heap.now generation workers) (start + 1) text line)
+          × IsShortOfBlocks heap.now generation workers);
+      memory = λ at. MatchOption at ⊥ (λ line. OfInput lines.old.pending (S.input reader.old) (S.input reader.new)
+          (λ text.
+          (line ≡ start) ⊎ StopsAt (OfLine (IsSoundLine (setting_at heap.now generation workers)))
+          (setting_at heap.now generation workers) (opening_at heap.now generation workers) (start + 1) text line));
+      read = OfGiven lines.old.pending (S.input reader.old) (S.input reader.new)
+          (IsUsedUp (setting_at heap.now generation workers) (opening_at heap.now generation workers))
+          × ((S.failed_reads reader.new ≡ S.failed_reads reader.old + 1)
+          ⊎ IsOutOfReads lines.old.reads (S.input reader.old) (S.input reader.new));
+    })) }
 {
     let mut machine = match Machine::open(alloc, heap, generation, workers) {
         Ok(machine) => machine,

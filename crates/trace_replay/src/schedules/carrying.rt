@@ -1,7 +1,7 @@
 //! The lines of a schedule, one after another.
 ghost use Rattle.std.specs.Prelude.{◌≡◌, ◌+◌, ◌-◌, ◌^◌, ◌<◌, ◌≤◌, ◌⊎◌, MatchOption, IfOk, OnOk, IfErr};
 ghost use Rattle.heap_text.specs.Streams.{OfGiven, OfInput};
-ghost use Rattle.trace_session.specs.Faults.{MatchEachFault};
+ghost use Rattle.trace_session.specs.Faults.{never, AtFault};
 ghost use Rattle.trace_session.specs.Lines.{IsOutOfReads, Moves, most_left};
 ghost use Rattle.machine.specs.MachineValue.{setting_in};
 ghost use Rattle.machine.specs.Events.{IsSameCollection, IsShortOfBlocks};
@@ -33,23 +33,25 @@ pub fn carry_out_schedule<A: Allocator + Clone, S: Source>(
     ensures same { OnOk result (IsSameCollection machine.old machine.new) }
     ensures reads { OnOk result (S.failed_reads reader.new ≡ S.failed_reads reader.old) }
     ensures read_rises { S.failed_reads reader.new ≤ S.failed_reads reader.old + 1 }
-    ensures err { IfErr result (λ e. MatchEachFault e
-        (λ at kind. OfInput lines.old.pending (S.input reader.old) (S.input reader.new) (λ text.
-        StopsAt (IsUnreadable kind) (setting_in machine.old) machine.old.system (start + 1) text at))
-        (λ at kind. OfInput lines.old.pending (S.input reader.old) (S.input reader.new) (λ text.
-        StopsWith (setting_in machine.old) machine.old.system start text at kind))
-        (λ at. MatchOption at ⊥ (λ line. OfInput lines.old.pending (S.input reader.old) (S.input reader.new) (λ text.
-        StopsAt (OfLine (IsRefusedBlocks (setting_in machine.old)))
-        (setting_in machine.old) machine.old.system (start + 1) text line)
-        × IsShortOfBlocks machine.old.heap machine.old.collection.generation machine.old.workers))
-        (λ at. MatchOption at ⊥ (λ line. OfInput lines.old.pending (S.input reader.old) (S.input reader.new) (λ text.
-        StopsAt (OfLine (IsSoundLine (setting_in machine.old)))
-        (setting_in machine.old) machine.old.system (start + 1) text line)))
-        (OfGiven lines.old.pending (S.input reader.old) (S.input reader.new)
-        (IsUsedUp (setting_in machine.old) machine.old.system)
-        × ((S.failed_reads reader.new ≡ S.failed_reads reader.old + 1)
-        ⊎ IsOutOfReads lines.old.reads (S.input reader.old) (S.input reader.new)))
-        ⊥) }
+    ensures err { IfErr result (AtFault (record never {
+      trace = λ at kind. OfInput lines.old.pending (S.input reader.old) (S.input reader.new) (λ text.
+          StopsAt (IsUnreadable kind) (setting_in machine.old) machine.old.system (start + 1) text at);
+      schedule = λ at kind. OfInput lines.old.pending (S.input reader.old) (S.input reader.new) (λ text.
+          StopsWith (setting_in machine.old) machine.old.system start text at kind);
+      full = λ at. MatchOption at ⊥ (λ line. OfInput lines.old.pending (S.input reader.old) (S.input reader.new)
+          (λ text.
+          StopsAt (OfLine (IsRefusedBlocks (setting_in machine.old)))
+          (setting_in machine.old) machine.old.system (start + 1) text line)
+          × IsShortOfBlocks machine.old.heap machine.old.collection.generation machine.old.workers);
+      memory = λ at. MatchOption at ⊥ (λ line. OfInput lines.old.pending (S.input reader.old) (S.input reader.new)
+          (λ text.
+          StopsAt (OfLine (IsSoundLine (setting_in machine.old)))
+          (setting_in machine.old) machine.old.system (start + 1) text line));
+      read = OfGiven lines.old.pending (S.input reader.old) (S.input reader.new)
+          (IsUsedUp (setting_in machine.old) machine.old.system)
+          × ((S.failed_reads reader.new ≡ S.failed_reads reader.old + 1)
+          ⊎ IsOutOfReads lines.old.reads (S.input reader.old) (S.input reader.new));
+    })) }
 {
     let mut next = start + 1;
     loop {

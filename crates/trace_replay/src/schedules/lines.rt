@@ -3,7 +3,7 @@ ghost use Rattle.std.specs.Prelude.{◌≡◌, ◌≤◌, Some, Err, Ok, IfOk, O
 ghost use Rattle.workers.specs.Lawful.{IsLawful};
 ghost use Rattle.trace_text.specs.ScheduleGrammar.{schedule_line_of};
 ghost use Rattle.trace_text.specs.declared.schedule.LineFault.TheVariants as faults;
-ghost use Rattle.trace_session.specs.Faults.{MatchEachFault};
+ghost use Rattle.trace_session.specs.Faults.{never, AtFault};
 ghost use Rattle.trace_replay.specs.Naming.{meant};
 ghost use Rattle.machine.specs.MachineValue.{setting_in};
 ghost use Rattle.machine.specs.Events.{Comes, IsFullForEvent};
@@ -31,13 +31,12 @@ fn come<A: Allocator + Clone>(
     named: ScheduleEvent,
 ) -> Result<(), Fault>
     ensures ok { OnOk result (Comes (meant named) machine.old machine.new) }
-    ensures err { IfErr result (λ e. MatchEachFault e
-        (λ _ _. ⊥)
-        (λ at kind. (at ≡ number) × (kind ≡ ScheduleKind.NotLawful) ×
-        ¬ IsLawful (setting_in machine.old) machine.old.system (meant named))
-        (λ at. (at ≡ Some number) × IsFullForEvent (meant named) machine.old)
-        (λ at. (at ≡ Some number) × IsLawful (setting_in machine.old) machine.old.system (meant named))
-        ⊥ ⊥) }
+    ensures err { IfErr result (AtFault (record never {
+      schedule = λ at kind. (at ≡ number) × (kind ≡ ScheduleKind.NotLawful) ×
+          ¬ IsLawful (setting_in machine.old) machine.old.system (meant named);
+      full = λ at. (at ≡ Some number) × IsFullForEvent (meant named) machine.old;
+      memory = λ at. (at ≡ Some number) × IsLawful (setting_in machine.old) machine.old.system (meant named);
+    })) }
 {
     let Some(event) = named_event(named) else {
         let _sixteen = machine.workers();
@@ -57,11 +56,10 @@ pub(crate) fn finish<A: Allocator + Clone>(
     number: u128,
 ) -> Result<(), Fault>
     ensures ok { OnOk result (Finished machine.old machine.new) }
-    ensures err { IfErr result (λ e. MatchEachFault e
-        (λ _ _. ⊥) (λ _ _. ⊥)
-        (λ at. (at ≡ Some number) × IsStuckAfter machine.old)
-        (λ at. at ≡ Some number)
-        ⊥ ⊥) }
+    ensures err { IfErr result (AtFault (record never {
+      full = λ at. (at ≡ Some number) × IsStuckAfter machine.old;
+      memory = λ at. at ≡ Some number;
+    })) }
 {
     match machine.finish() {
         Ok(()) => Ok(()),
@@ -77,12 +75,12 @@ pub(crate) fn carry_out_line<A: Allocator + Clone>(
     line: &[u8],
 ) -> Result<Progress, Fault>
     ensures ok { IfOk result (λ progress. Answers progress line.now machine.old machine.new) }
-    ensures err { IfErr result (λ e. MatchEachFault e
-        (λ at kind. (at ≡ number) × (schedule_line_of line.now ≡ Err (faults.Trace kind)))
-        (λ at kind. (at ≡ number) × IsFaulty (setting_in machine.old) machine.old.system line.now kind)
-        (λ at. (at ≡ Some number) × IsShort line.now machine.old)
-        (λ at. (at ≡ Some number) × IsSoundLine (setting_in machine.old) machine.old.system line.now)
-        ⊥ ⊥) }
+    ensures err { IfErr result (AtFault (record never {
+      trace = λ at kind. (at ≡ number) × (schedule_line_of line.now ≡ Err (faults.Trace kind));
+      schedule = λ at kind. (at ≡ number) × IsFaulty (setting_in machine.old) machine.old.system line.now kind;
+      full = λ at. (at ≡ Some number) × IsShort line.now machine.old;
+      memory = λ at. (at ≡ Some number) × IsSoundLine (setting_in machine.old) machine.old.system line.now;
+    })) }
 {
     match parse_event(line) {
         Err(LineFault::Trace(kind)) => Err(Fault::BadTrace(number, kind)),

@@ -5,7 +5,7 @@ ghost use Rattle.model.specs.Store.{collected};
 ghost use Rattle.model.specs.Commands.{Collect};
 ghost use Rattle.collector.specs.declared.apart.CellKind.TheVariants.{Box};
 ghost use Rattle.trace_session.specs.CollectsFirst.{auto_line};
-ghost use Rattle.trace_session.specs.Faults.{MatchFaultApart, UnlessOfWrite};
+ghost use Rattle.trace_session.specs.Faults.{never, AtFault, UnlessOfWrite};
 ghost use Rattle.trace_session.specs.Outcome.{command_step};
 ghost use Rattle.trace_session.specs.Sound.{IsSoundCommand};
 ghost use Rattle.trace_session.specs.Stepped.{AtEach, StepsTo};
@@ -42,22 +42,22 @@ pub fn collect_apart<
         (W.output writer.old) (W.output writer.new))) }
     ensures counts { OnOk result (W.failed_writes writer.new ≡ W.failed_writes writer.old) }
     ensures rises { W.failed_writes writer.new ≤ W.failed_writes writer.old + 1 }
-    ensures err { IfErr result (λ e. MatchFaultApart e
-        (λ at kind. (at ≡ number) ×
-        AtEach (Stands session.old) (λ config store. command_step config store (Collect generation) ≡ Err kind) ×
-        (writer.new ≡ writer.old))
-        (λ at. (at ≡ Some number) × IsFullToCollect session.old.heap generation crew.now.workers ×
-        AtEach (Stands session.old)
-        (λ config store. CommandMayBeFull crew.now.workers config store (Collect generation)) ×
-        (writer.new ≡ writer.old))
-        (λ at. (at ≡ Some number) ×
-        AtEach (Stands session.old) (λ config store. IsSoundCommand config store (Collect generation)) ×
-        (writer.new ≡ writer.old))
-        (λ at. (at ≡ number) × (crew.now.kind ≡ Box) ×
-        AtEach (Stands session.old) (λ config store. IsSoundCommand config store (Collect generation)) ×
-        (writer.new ≡ writer.old))
-        ⊥
-        (W.failed_writes writer.new ≡ W.failed_writes writer.old + 1)) }
+    ensures err { IfErr result (AtFault (record never {
+      trace = λ at kind. (at ≡ number) ×
+          AtEach (Stands session.old) (λ config store. command_step config store (Collect generation) ≡ Err kind) ×
+          (writer.new ≡ writer.old);
+      full = λ at. (at ≡ Some number) × IsFullToCollect session.old.heap generation crew.now.workers ×
+          AtEach (Stands session.old)
+          (λ config store. CommandMayBeFull crew.now.workers config store (Collect generation)) ×
+          (writer.new ≡ writer.old);
+      memory = λ at. (at ≡ Some number) ×
+          AtEach (Stands session.old) (λ config store. IsSoundCommand config store (Collect generation)) ×
+          (writer.new ≡ writer.old);
+      unsettled = λ at. (at ≡ number) × (crew.now.kind ≡ Box) ×
+          AtEach (Stands session.old) (λ config store. IsSoundCommand config store (Collect generation)) ×
+          (writer.new ≡ writer.old);
+      write = W.failed_writes writer.new ≡ W.failed_writes writer.old + 1;
+    })) }
     ensures before { IfErr result (λ e. UnlessOfWrite e (session.new ≡ session.old)) }
 {
     if generation >= session.heap.config().generations() as u64 {
@@ -100,13 +100,14 @@ pub fn make_room_apart<
         Appends (W.output writer.old) (W.output writer.new) (auto_line store))) }
     ensures counts { OnOk result (W.failed_writes writer.new ≡ W.failed_writes writer.old) }
     ensures rises { W.failed_writes writer.new ≤ W.failed_writes writer.old + 1 }
-    ensures err { IfErr result (λ e. MatchFaultApart e (λ _ _. ⊥)
-        (λ at. (at ≡ Some number) × IsFullToCollect session.old.heap 0 crew.now.workers × (session.new ≡ session.old) ×
-        (writer.new ≡ writer.old))
-        (λ at. (at ≡ Some number) × (session.new ≡ session.old) × (writer.new ≡ writer.old))
-        (λ at. (at ≡ number) × (crew.now.kind ≡ Box) × (session.new ≡ session.old) × (writer.new ≡ writer.old))
-        ⊥
-        (W.failed_writes writer.new ≡ W.failed_writes writer.old + 1)) }
+    ensures err { IfErr result (AtFault (record never {
+      full = λ at. (at ≡ Some number) × IsFullToCollect session.old.heap 0 crew.now.workers ×
+          (session.new ≡ session.old) ×
+          (writer.new ≡ writer.old);
+      memory = λ at. (at ≡ Some number) × (session.new ≡ session.old) × (writer.new ≡ writer.old);
+      unsettled = λ at. (at ≡ number) × (crew.now.kind ≡ Box) × (session.new ≡ session.old) × (writer.new ≡ writer.old);
+      write = W.failed_writes writer.new ≡ W.failed_writes writer.old + 1;
+    })) }
 {
     let _generations = session.heap.config().generations();
     let Ok(alloc) = session.alloc.clone() else {

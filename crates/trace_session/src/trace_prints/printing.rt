@@ -7,7 +7,7 @@ ghost use Rattle.model.specs.Store.{collected};
 ghost use Rattle.model.specs.Commands as meant;
 ghost use Rattle.model.specs.Commands.{Collect, Census};
 ghost use Rattle.trace_session.specs.CollectsFirst.{auto_line};
-ghost use Rattle.trace_session.specs.Faults.{MatchFault, UnlessOfWrite};
+ghost use Rattle.trace_session.specs.Faults.{never, AtFault, UnlessOfWrite};
 ghost use Rattle.trace_session.specs.Outcome.{command_step};
 ghost use Rattle.trace_session.specs.Sound.{IsSoundCommand};
 ghost use Rattle.trace_session.specs.Stepped.{AtEach, StepsTo};
@@ -26,8 +26,10 @@ use std::alloc::Allocator;
 
 /// The fault of a text that was not written in a line.
 fn not_written(number: u128, error: WriteError) -> Fault
-    ensures { MatchFault result (λ _ _. ⊥) (λ _. ⊥) (λ at. (at ≡ Some number) × (error ≡ WriteError.NoMemory)) ⊥
-        (error ≡ WriteError.WriteFailed) }
+    ensures { AtFault (record never {
+      memory = λ at. (at ≡ Some number) × (error ≡ WriteError.NoMemory);
+      write = error ≡ WriteError.WriteFailed;
+    }) result }
 {
     match error {
         WriteError::NoMemory => Fault::NoMemory(Some(number)),
@@ -47,11 +49,12 @@ pub fn census<A: Allocator + Clone, W: Sink>(
         (W.output writer.new))) }
     ensures counts { OnOk result (W.failed_writes writer.new ≡ W.failed_writes writer.old) }
     ensures rises { W.failed_writes writer.new ≤ W.failed_writes writer.old + 1 }
-    ensures err { IfErr result (λ e. MatchFault e (λ _ _. ⊥) (λ _. ⊥)
-        (λ at. (at ≡ Some number) × AtEach (Stands session.old) (λ config store. IsSoundCommand config store Census) ×
-        (writer.new ≡ writer.old))
-        ⊥
-        (W.failed_writes writer.new ≡ W.failed_writes writer.old + 1)) }
+    ensures err { IfErr result (AtFault (record never {
+      memory = λ at. (at ≡ Some number) × AtEach (Stands session.old)
+          (λ config store. IsSoundCommand config store Census) ×
+          (writer.new ≡ writer.old);
+      write = W.failed_writes writer.new ≡ W.failed_writes writer.old + 1;
+    })) }
     ensures kept { session.new ≡ session.old }
 {
     let Ok(alloc) = session.alloc.clone() else {
@@ -79,18 +82,18 @@ pub fn collect<A: Allocator + Clone, W: Sink>(
         (W.output writer.old) (W.output writer.new))) }
     ensures counts { OnOk result (W.failed_writes writer.new ≡ W.failed_writes writer.old) }
     ensures rises { W.failed_writes writer.new ≤ W.failed_writes writer.old + 1 }
-    ensures err { IfErr result (λ e. MatchFault e
-        (λ at kind. (at ≡ number) ×
-        AtEach (Stands session.old) (λ config store. command_step config store (Collect generation) ≡ Err kind) ×
-        (writer.new ≡ writer.old))
-        (λ at. (at ≡ Some number) × IsFullToCollect session.old.heap generation 1 ×
-        AtEach (Stands session.old) (λ config store. CommandMayBeFull 1 config store (Collect generation)) ×
-        (writer.new ≡ writer.old))
-        (λ at. (at ≡ Some number) ×
-        AtEach (Stands session.old) (λ config store. IsSoundCommand config store (Collect generation)) ×
-        (writer.new ≡ writer.old))
-        ⊥
-        (W.failed_writes writer.new ≡ W.failed_writes writer.old + 1)) }
+    ensures err { IfErr result (AtFault (record never {
+      trace = λ at kind. (at ≡ number) ×
+          AtEach (Stands session.old) (λ config store. command_step config store (Collect generation) ≡ Err kind) ×
+          (writer.new ≡ writer.old);
+      full = λ at. (at ≡ Some number) × IsFullToCollect session.old.heap generation 1 ×
+          AtEach (Stands session.old) (λ config store. CommandMayBeFull 1 config store (Collect generation)) ×
+          (writer.new ≡ writer.old);
+      memory = λ at. (at ≡ Some number) ×
+          AtEach (Stands session.old) (λ config store. IsSoundCommand config store (Collect generation)) ×
+          (writer.new ≡ writer.old);
+      write = W.failed_writes writer.new ≡ W.failed_writes writer.old + 1;
+    })) }
     ensures before { IfErr result (λ e. UnlessOfWrite e (session.new ≡ session.old)) }
 {
     if generation >= session.heap.config().generations() as u64 {
@@ -125,12 +128,12 @@ pub fn make_room<A: Allocator + Clone, W: Sink>(
         Appends (W.output writer.old) (W.output writer.new) (auto_line store))) }
     ensures counts { OnOk result (W.failed_writes writer.new ≡ W.failed_writes writer.old) }
     ensures rises { W.failed_writes writer.new ≤ W.failed_writes writer.old + 1 }
-    ensures err { IfErr result (λ e. MatchFault e (λ _ _. ⊥)
-        (λ at. (at ≡ Some number) × IsFullToCollect session.old.heap 0 1 × (session.new ≡ session.old) ×
-        (writer.new ≡ writer.old))
-        (λ at. (at ≡ Some number) × (session.new ≡ session.old) × (writer.new ≡ writer.old))
-        ⊥
-        (W.failed_writes writer.new ≡ W.failed_writes writer.old + 1)) }
+    ensures err { IfErr result (AtFault (record never {
+      full = λ at. (at ≡ Some number) × IsFullToCollect session.old.heap 0 1 × (session.new ≡ session.old) ×
+          (writer.new ≡ writer.old);
+      memory = λ at. (at ≡ Some number) × (session.new ≡ session.old) × (writer.new ≡ writer.old);
+      write = W.failed_writes writer.new ≡ W.failed_writes writer.old + 1;
+    })) }
 {
     let _generations = session.heap.config().generations();
     let Ok(alloc) = session.alloc.clone() else {
@@ -167,16 +170,15 @@ pub fn show_heap<A: Allocator + Clone, W: Sink>(
         (W.output writer.old) (W.output writer.new))) }
     ensures counts { OnOk result (W.failed_writes writer.new ≡ W.failed_writes writer.old) }
     ensures rises { W.failed_writes writer.new ≤ W.failed_writes writer.old + 1 }
-    ensures err { IfErr result (λ e. MatchFault e
-        (λ at kind. (at ≡ number) ×
-        AtEach (Stands session.old) (λ config store. command_step config store meant.Heap ≡ Err kind) ×
-        (writer.new ≡ writer.old))
-        (λ _. ⊥)
-        (λ at. (at ≡ Some number) ×
-        AtEach (Stands session.old) (λ config store. IsSoundCommand config store meant.Heap) ×
-        (writer.new ≡ writer.old))
-        ⊥
-        (W.failed_writes writer.new ≡ W.failed_writes writer.old + 1)) }
+    ensures err { IfErr result (AtFault (record never {
+      trace = λ at kind. (at ≡ number) ×
+          AtEach (Stands session.old) (λ config store. command_step config store meant.Heap ≡ Err kind) ×
+          (writer.new ≡ writer.old);
+      memory = λ at. (at ≡ Some number) ×
+          AtEach (Stands session.old) (λ config store. IsSoundCommand config store meant.Heap) ×
+          (writer.new ≡ writer.old);
+      write = W.failed_writes writer.new ≡ W.failed_writes writer.old + 1;
+    })) }
     ensures kept { session.new ≡ session.old }
 {
     let Ok(alloc) = session.alloc.clone() else {

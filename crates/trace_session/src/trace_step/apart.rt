@@ -2,7 +2,7 @@
 ghost use Rattle.std.specs.Prelude.{◌≡◌, ℕ, ◌+◌, ◌-◌, ◌^◌, ◌<◌, ◌≤◌, Option, Some, Err, OnOk, IfErr};
 ghost use Rattle.collector.specs.declared.apart.CellKind.TheVariants.{Box};
 ghost use Rattle.trace_session.specs.CollectsFirst.{IsSoundSoFar};
-ghost use Rattle.trace_session.specs.Faults.{MatchFaultApart};
+ghost use Rattle.trace_session.specs.Faults.{never, AtFault};
 ghost use Rattle.trace_session.specs.Outcome.{line_step};
 ghost use Rattle.trace_session.specs.Sound.{IsSoundTraceLine};
 ghost use Rattle.trace_session.specs.Stepped.{AtEach, StepsTo, Writes};
@@ -42,21 +42,21 @@ pub fn carry_out_apart<
         (W.output writer.new))) }
     ensures counts { OnOk result (W.failed_writes writer.new ≡ W.failed_writes writer.old) }
     ensures rises { W.failed_writes writer.new ≤ W.failed_writes writer.old + 1 }
-    ensures err { IfErr result (λ e. MatchFaultApart e
-        (λ at kind. (at ≡ number) ×
-        AtEach (Stands session.old) (λ config store. (line_step config store line.now ≡ Err kind) ×
-        (writer.new ≡ writer.old)))
-        (λ at. (at ≡ Some number) ×
-        AtEach (Stands session.old) (λ config store. MayBeFull crew.now.workers config store line.now ×
-        (writer.new ≡ writer.old)))
-        (λ at. (at ≡ Some number) ×
-        AtEach (Stands session.old)
-        (λ config store. Writes (IsSoundSoFar config store line.now) (W.output writer.old) (W.output writer.new)))
-        (λ at. (at ≡ number) × (crew.now.kind ≡ Box) ×
-        AtEach (Stands session.old) (λ config store. IsSoundTraceLine config store line.now ×
-        (writer.new ≡ writer.old)))
-        ⊥
-        (W.failed_writes writer.new ≡ W.failed_writes writer.old + 1)) }
+    ensures err { IfErr result (AtFault (record never {
+      trace = λ at kind. (at ≡ number) ×
+          AtEach (Stands session.old) (λ config store. (line_step config store line.now ≡ Err kind) ×
+          (writer.new ≡ writer.old));
+      full = λ at. (at ≡ Some number) ×
+          AtEach (Stands session.old) (λ config store. MayBeFull crew.now.workers config store line.now ×
+          (writer.new ≡ writer.old));
+      memory = λ at. (at ≡ Some number) ×
+          AtEach (Stands session.old)
+          (λ config store. Writes (IsSoundSoFar config store line.now) (W.output writer.old) (W.output writer.new));
+      unsettled = λ at. (at ≡ number) × (crew.now.kind ≡ Box) ×
+          AtEach (Stands session.old) (λ config store. IsSoundTraceLine config store line.now ×
+          (writer.new ≡ writer.old));
+      write = W.failed_writes writer.new ≡ W.failed_writes writer.old + 1;
+    })) }
     ensures full { (at : Option ℕ) → result ≡ Err (Fault.HeapFull at) →
         AtEach (Stands session.old)
         (λ config store. IsFullForLine crew.now.workers session.old.heap config store line.now) }

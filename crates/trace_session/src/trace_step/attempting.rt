@@ -4,7 +4,7 @@ ghost use Rattle.model.specs.Commands.{command_of};
 ghost use Rattle.trace_text.specs.Grammar.{entry_of};
 ghost use Rattle.trace_session.specs.Attempts.{MatchAttempt};
 ghost use Rattle.trace_session.specs.CollectsFirst.{LineCollectsFirst};
-ghost use Rattle.trace_session.specs.Faults.{MatchFault, UnlessOfWrite};
+ghost use Rattle.trace_session.specs.Faults.{never, AtFault, UnlessOfWrite};
 ghost use Rattle.trace_session.specs.Outcome.{line_step, command_step};
 ghost use Rattle.trace_session.specs.Sound.{IsSoundTraceLine, IsSoundCommand};
 ghost use Rattle.trace_session.specs.Stepped.{AtEach, StepsTo};
@@ -37,19 +37,19 @@ fn carry_out_command<A: Allocator + Clone, W: Sink>(
     ensures counts { OnOk result (W.failed_writes writer.new ≡ W.failed_writes writer.old) }
     ensures rises { W.failed_writes writer.new ≤ W.failed_writes writer.old + 1 }
     ensures before { IfErr result (λ e. UnlessOfWrite e (session.new ≡ session.old)) }
-    ensures err { IfErr result (λ e. MatchFault e
-        (λ at kind. (at ≡ number) ×
-        AtEach (Stands session.old) (λ config store. command_step config store (command_of command.entry) ≡
-        Err kind) × (writer.new ≡ writer.old))
-        (λ at. (at ≡ Some number) × MakesNone (command_of command.entry) ×
-        IsFullFor 1 session.old.heap (Ok (Some (command_of command.entry))) ×
-        AtEach (Stands session.old) (λ config store. CommandMayBeFull 1 config store (command_of command.entry)) ×
-        (writer.new ≡ writer.old))
-        (λ at. (at ≡ Some number) ×
-        AtEach (Stands session.old) (λ config store. IsSoundCommand config store (command_of command.entry)) ×
-        (writer.new ≡ writer.old))
-        ⊥
-        (W.failed_writes writer.new ≡ W.failed_writes writer.old + 1)) }
+    ensures err { IfErr result (AtFault (record never {
+      trace = λ at kind. (at ≡ number) ×
+          AtEach (Stands session.old) (λ config store. command_step config store (command_of command.entry) ≡
+          Err kind) × (writer.new ≡ writer.old);
+      full = λ at. (at ≡ Some number) × MakesNone (command_of command.entry) ×
+          IsFullFor 1 session.old.heap (Ok (Some (command_of command.entry))) ×
+          AtEach (Stands session.old) (λ config store. CommandMayBeFull 1 config store (command_of command.entry)) ×
+          (writer.new ≡ writer.old);
+      memory = λ at. (at ≡ Some number) ×
+          AtEach (Stands session.old) (λ config store. IsSoundCommand config store (command_of command.entry)) ×
+          (writer.new ≡ writer.old);
+      write = W.failed_writes writer.new ≡ W.failed_writes writer.old + 1;
+    })) }
 {
     match command {
         Command::Set {
@@ -91,18 +91,18 @@ pub fn attempt_line<A: Allocator + Clone, W: Sink>(
     ensures counts { OnOk result (W.failed_writes writer.new ≡ W.failed_writes writer.old) }
     ensures rises { W.failed_writes writer.new ≤ W.failed_writes writer.old + 1 }
     ensures before { IfErr result (λ e. UnlessOfWrite e (session.new ≡ session.old)) }
-    ensures err { IfErr result (λ e. MatchFault e
-        (λ at kind. (at ≡ number) ×
-        AtEach (Stands session.old) (λ config store. line_step config store line.now ≡ Err kind) ×
-        (writer.new ≡ writer.old))
-        (λ at. (at ≡ Some number) × IsFullFor 1 session.old.heap (entry_of line.now) ×
-        AtEach (Stands session.old) (λ config store. MayBeFull 1 config store line.now ×
-        ¬ LineCollectsFirst config store line.now) × (writer.new ≡ writer.old))
-        (λ at. (at ≡ Some number) ×
-        AtEach (Stands session.old) (λ config store. IsSoundTraceLine config store line.now) ×
-        (writer.new ≡ writer.old))
-        ⊥
-        (W.failed_writes writer.new ≡ W.failed_writes writer.old + 1)) }
+    ensures err { IfErr result (AtFault (record never {
+      trace = λ at kind. (at ≡ number) ×
+          AtEach (Stands session.old) (λ config store. line_step config store line.now ≡ Err kind) ×
+          (writer.new ≡ writer.old);
+      full = λ at. (at ≡ Some number) × IsFullFor 1 session.old.heap (entry_of line.now) ×
+          AtEach (Stands session.old) (λ config store. MayBeFull 1 config store line.now ×
+          ¬ LineCollectsFirst config store line.now) × (writer.new ≡ writer.old);
+      memory = λ at. (at ≡ Some number) ×
+          AtEach (Stands session.old) (λ config store. IsSoundTraceLine config store line.now) ×
+          (writer.new ≡ writer.old);
+      write = W.failed_writes writer.new ≡ W.failed_writes writer.old + 1;
+    })) }
 {
     match parse(line) {
         Err(kind) => Err(Fault::BadTrace(number, kind)),

@@ -1,7 +1,7 @@
 //! One line, with the collection that may have to come first.
 ghost use Rattle.std.specs.Prelude.{◌≡◌, ℕ, ◌+◌, ◌-◌, ◌^◌, ◌<◌, ◌≤◌, Option, Some, Err, OnOk, IfErr};
 ghost use Rattle.trace_session.specs.CollectsFirst.{IsSoundSoFar};
-ghost use Rattle.trace_session.specs.Faults.{MatchFault};
+ghost use Rattle.trace_session.specs.Faults.{never, AtFault};
 ghost use Rattle.trace_session.specs.Outcome.{line_step};
 ghost use Rattle.trace_session.specs.Stepped.{AtEach, StepsTo, Writes};
 ghost use Rattle.trace_session.specs.Refusals.{IsFullForLine, MayBeFull};
@@ -28,17 +28,17 @@ pub fn carry_out<A: Allocator + Clone, W: Sink>(
         (W.output writer.new))) }
     ensures counts { OnOk result (W.failed_writes writer.new ≡ W.failed_writes writer.old) }
     ensures rises { W.failed_writes writer.new ≤ W.failed_writes writer.old + 1 }
-    ensures err { IfErr result (λ e. MatchFault e
-        (λ at kind. (at ≡ number) ×
-        AtEach (Stands session.old) (λ config store. (line_step config store line.now ≡ Err kind) ×
-        (writer.new ≡ writer.old)))
-        (λ at. (at ≡ Some number) ×
-        AtEach (Stands session.old) (λ config store. MayBeFull 1 config store line.now × (writer.new ≡ writer.old)))
-        (λ at. (at ≡ Some number) ×
-        AtEach (Stands session.old)
-        (λ config store. Writes (IsSoundSoFar config store line.now) (W.output writer.old) (W.output writer.new)))
-        ⊥
-        (W.failed_writes writer.new ≡ W.failed_writes writer.old + 1)) }
+    ensures err { IfErr result (AtFault (record never {
+      trace = λ at kind. (at ≡ number) ×
+          AtEach (Stands session.old) (λ config store. (line_step config store line.now ≡ Err kind) ×
+          (writer.new ≡ writer.old));
+      full = λ at. (at ≡ Some number) ×
+          AtEach (Stands session.old) (λ config store. MayBeFull 1 config store line.now × (writer.new ≡ writer.old));
+      memory = λ at. (at ≡ Some number) ×
+          AtEach (Stands session.old)
+          (λ config store. Writes (IsSoundSoFar config store line.now) (W.output writer.old) (W.output writer.new));
+      write = W.failed_writes writer.new ≡ W.failed_writes writer.old + 1;
+    })) }
     ensures full { (at : Option ℕ) → result ≡ Err (Fault.HeapFull at) →
         AtEach (Stands session.old) (λ config store. IsFullForLine 1 session.old.heap config store line.now) }
 {

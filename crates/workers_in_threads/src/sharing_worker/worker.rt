@@ -1,10 +1,8 @@
 //! What one worker among several has, and what it shares.
-ghost use Rattle.std.specs.Prelude.{◌≡◌, ◌<◌, ◌≤◌, [], length};
+ghost use Rattle.std.specs.Prelude.{◌≡◌, ◌<◌, ◌≤◌, []};
 ghost use Rattle.block_pool.specs.ClaimsValue.{unused};
 ghost use Rattle.pending_queues.specs.PendingValue.{IsSeatOf, new_seat};
-ghost use Rattle.steps.specs.CollectionValue.{young_names};
-ghost use Rattle.scavenge.specs.ReadyToCollect.{IsReadyToCollect};
-ghost use Rattle.workers_in_threads.specs.SharingValue.{begins};
+ghost use Rattle.workers_in_threads.specs.Kits.{IsShared, IsNewWorkspace};
 ghost use Rattle.workers_in_threads.specs.IsSharing.{IsSharing};
 
 use block_pool::{ClaimSeat, Claims};
@@ -66,19 +64,13 @@ impl<'a, C: Cells, A: Allocator> SharingWorker<'a, C, A> {
         seat: PendingSeat<Copies<A>, A>,
         workspace: Workspace<A>,
     ) -> Self
-        requires ready { IsReadyToCollect heap.now collection.now }
+        requires shared { IsShared heap.now collection.now claims.now queues.now workers }
         requires member { seat.index < workers }
-        requires pass { C.fits cells pass }
+        requires pass { C.fits cells pass × (C.won pass ≡ []) }
         requires cells { collection.now.cells ≤ C.limit cells }
-        requires won { C.won pass ≡ [] }
-        requires free { claims.now.source.free ≡ heap.now.free }
         requires draws { draws ≡ unused claims.now.source }
         requires seat { seat ≡ new_seat queues.now seat.index }
-        requires lanes { length queues.now.lanes ≡ workers }
-        requires key { queues.now.key ≡ record { heap = heap.now; generation = collection.now.generation } }
-        requires config { workspace.config ≡ heap.now.config }
-        requires names { workspace.names ≡ young_names heap.now.graph collection.now.generation }
-        requires worker { workspace.worker ≡ begins heap.now collection.now workers seat.index }
+        requires workspace { IsNewWorkspace heap.now collection.now workers seat.index workspace }
         ensures { result ≡ record {
           heap = heap.now;
           collection = collection.now;

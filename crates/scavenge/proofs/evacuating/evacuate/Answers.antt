@@ -22,7 +22,7 @@ pub race_for-requires-clause-known : goal.race_for-requires-clause-known
 race_for-requires-clause-known g c =
     let found = numbered c.args.heap.now c.args.collection.now (place_word c.in-Some-target.name) c.find_there-found.result c.in-Some-number.number c.in-Some-number.is c.find_there-found.ensures in
     let p = c.propose_there.ensures.proposed c.if-not-propose_there.false in
-    let lt : c.in-Some-number.number < length (young_names c.args.heap.now.graph c.args.collection.now.generation) = omega (arith, found.1.in_range, c.requires.opened.cells) in
+    let lt : c.in-Some-number.number < length (young_names c.args.heap.now.graph c.args.collection.now.generation) = omega (arith, found.1.in_range, c.requires.open.opened.cells) in
     subst (λ names. c.in-Some-number.number < length names) (sym (ap (λ (v : WorkspaceValue). v.names) p.worker ∙ c.requires.names)) lt
 
 pub race_for-requires-clause-name : goal.race_for-requires-clause-name
@@ -44,7 +44,7 @@ returns-in-Ok-clause-raced g c = λ _.
     record {
       between = c.look.new.pass;
       proposing = c.propose_there.new.workspace;
-      fit = subst (λ cells. g.C.Cells.fits cells c.look.new.pass) c.look.ensures.cells c.look.ensures.pass;
+      fit = subst (λ cells. g.C.Cells.fits cells c.look.new.pass) c.look.ensures.cells c.look.ensures.keeps.pass;
       still = c.look.ensures.won;
       looks = λ seat. looks_none c.args.heap.now c.args.collection.now (g.C.Cells.look_gives c.args.cells.now) (g.C.Cells.known c.args.pass.now) (g.C.Cells.known c.look.new.pass) seat seat c.args.workspace.now c.propose_there.new.workspace (place_word c.in-Some-target.name) current young tells (p.proposes seat);
       proposed = ap (λ (v : WorkspaceValue). is_some v.worker.proposal) p.worker;

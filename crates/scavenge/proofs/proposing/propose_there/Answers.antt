@@ -1,6 +1,5 @@
-use Rattle.std.proofs.Common.{◌≡◌, true, false, Bool, refl, sym, ap, subst, ◌∙◌, inl, inr, true≢false}
+use Rattle.std.proofs.Common.{◌≡◌, true, false, Bool, refl, sym, ap, ◌∙◌, inl, inr, true≢false}
 use Rattle.model.specs.Config.{Config}
-use Rattle.layout.specs.Object.{raw_size}
 use Rattle.layout.specs.Place.{place_word}
 use Rattle.layout.specs.ObjectRef.{raw_of}
 use Rattle.workers.specs.Setting.{fits_in}

@@ -1,5 +1,4 @@
-use Rattle.std.proofs.Common.{rules, sym, ap, ◌∙◌}
-use Rattle.layout.specs.Place.{place_word}
+use Rattle.std.proofs.Common.{sym, ap, ◌∙◌}
 use Rattle.scavenge.specs.Shown.{known_of}
 use Rattle.scavenge.specs.Slots.{objects_of}
 use Rattle.scavenge.proofs.Seeing.{slot_seen, seen_is, can_read}

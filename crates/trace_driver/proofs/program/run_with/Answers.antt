@@ -14,7 +14,7 @@ pub returns-in-Err-run-clause-ends : goal.returns-in-Err-run-clause-ends
 returns-in-Err-run-clause-ends g c =
     ends_at _ _ _ _ _ _ _ _ _ _ _ _ _ _ c.tell.ensures.status
     (stopped c.in-Err-run.fault (c.in-Ok.ensures.in_range.0 refl)
-    (run_is_stopped c.args.options.now _ _ _ _ _ c.in-Ok.ensures.ok.0 _ c.in-Ok.ensures.ok.1 _ _ _ c.in-Err-run.fault c.in-Run.is _ c.in-Ok.ensures.ok.2 c.in-Err-run.ensures.err) c.tell.ensures.told)
+    (run_is_stopped c.args.options.now _ _ _ _ _ c.in-Ok.ensures.ok.0 _ c.in-Ok.ensures.ok.1 _ _ _ c.in-Err-run.fault c.in-Run.is _ c.in-Ok.ensures.ok.2 c.in-Err-run.ensures.full c.in-Err-run.ensures.err) c.tell.ensures.told)
 
 pub returns-in-Ok-replay-clause-ends : goal.returns-in-Ok-replay-clause-ends
 returns-in-Ok-replay-clause-ends g c =

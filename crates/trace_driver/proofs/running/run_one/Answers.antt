@@ -1,7 +1,7 @@
 use Rattle.std.proofs.Common.{subst}
 use Rattle.model.specs.Store.{empty_store}
 use Rattle.trace_replay.specs.Session.{Stands}
-use Rattle.trace_driver.proofs.WholeRun.{run_done, run_stopped}
+use Rattle.trace_driver.proofs.WholeRun.{run_done, run_stopped, run_full}
 use Rattle.trace_driver.proofs.running.run_one.Goals as goal
 
 pub returns-clause-ok : goal.returns-clause-ok
@@ -11,3 +11,7 @@ returns-clause-ok g c =
 pub returns-clause-err : goal.returns-clause-err
 returns-clause-err g c =
     run_stopped (Stands c.in-Ok-new.session) c.args.config.config (subst (λ k. Stands c.in-Ok-new.session k (empty_store k)) c.config.ensures c.in-Ok-new.ensures.ok) _ _ _ _ _ _ c.in-Ok-new-2.ensures _ _ _ _ _ c.carry_out_lines.result c.carry_out_lines.ensures.err
+
+pub returns-clause-full : goal.returns-clause-full
+returns-clause-full g c =
+    run_full (Stands c.in-Ok-new.session) c.args.config.config (subst (λ k. Stands c.in-Ok-new.session k (empty_store k)) c.config.ensures c.in-Ok-new.ensures.ok) _ _ _ _ _ _ c.in-Ok-new-2.ensures _ _ _ _ c.carry_out_lines.result c.carry_out_lines.ensures.err

@@ -19,7 +19,7 @@ loop-pass-init g c =
       many = omega (arith, c.in_ok-kits.ensures.len, c.into_iter-pass-iterator.ensures.into_iter_gives.1, c.requires.many, c.args.passes.ok.0);
       room = c.in_ok-kits.ensures.capacity;
       passes = at_begin (λ m i p. g.S.SharedCells.is_pass c.args.cells.now i p × (g.S.SharedCells.won p ≡ [])) 0 0 _ _ _ c.into_iter-pass-iterator.ensures.into_iter_gives.0 refl c.in_ok-kits.ensures.len
-          (both (g.S.SharedCells.is_pass c.args.cells.now) (λ p. g.S.SharedCells.won p ≡ []) c.args.passes.items c.requires.passes c.requires.won_none);
+          (both (g.S.SharedCells.is_pass c.args.cells.now) (λ p. g.S.SharedCells.won p ≡ []) c.args.passes.items c.requires.passes.0 c.requires.passes.1);
       seats_many = omega (arith, c.in_ok-kits.ensures.len, c.into_iter-places.ensures.len, seats, c.args.seats.ok.0);
       seats = at_begin (λ m i s. s ≡ new_seat c.args.queues.now i) 0 0 _ _ _ c.into_iter-places.ensures.rest refl c.in_ok-kits.ensures.len
           (numbered_at (new_seat c.args.queues.now) c.args.workers c.args.seats.items c.requires.seats);
@@ -35,12 +35,7 @@ loop-pass-init g c =
 pub pack-requires-clause-pass : goal.pack-requires-clause-pass
 pack-requires-clause-pass g c κs within =
     let first = at_first (λ i p. g.S.SharedCells.is_pass c.args.cells.now i p × (g.S.SharedCells.won p ≡ [])) _ _ _ _ c.in-Some.ensures.steps.0 c.loop-pass.invariant.passes in
-    subst (λ m. g.S.SharedCells.is_pass c.args.cells.now m c.in-Some.pass) (sym c.len-number.ensures) first.0
-
-pub pack-requires-clause-won_none : goal.pack-requires-clause-won_none
-pack-requires-clause-won_none g c κs within =
-    let first = at_first (λ i p. g.S.SharedCells.is_pass c.args.cells.now i p × (g.S.SharedCells.won p ≡ [])) _ _ _ _ c.in-Some.ensures.steps.0 c.loop-pass.invariant.passes in
-    first.1
+    (subst (λ m. g.S.SharedCells.is_pass c.args.cells.now m c.in-Some.pass) (sym c.len-number.ensures) first.0, first.1)
 
 pub pack-requires-clause-draws : goal.pack-requires-clause-draws
 pack-requires-clause-draws g c κs within = popped (λ s. s ≡ unused c.args.claims.now.source) _ _ _ c.in-Some-pop.ensures.items c.loop-pass.invariant.draws
@@ -52,10 +47,7 @@ pack-requires-clause-seat g c κs within =
 pub pack-requires-clause-rest : goal.pack-requires-clause-rest
 pack-requires-clause-rest g c κs within =
     let is = popped (λ s. s ≡ busy c.args.idle.now) _ _ _ c.in-Some-pop-2.ensures.items c.loop-pass.invariant.rests in
-    record { name = ap (λ (s : IdleSeatValue). s.name) is; seats = ap (λ (s : IdleSeatValue). s.seats) is }
-
-pub pack-requires-clause-busy : goal.pack-requires-clause-busy
-pack-requires-clause-busy g c κs within = ap (λ (s : IdleSeatValue). s.idle) (popped (λ s. s ≡ busy c.args.idle.now) _ _ _ c.in-Some-pop-2.ensures.items c.loop-pass.invariant.rests)
+    (record { name = ap (λ (s : IdleSeatValue). s.name) is; seats = ap (λ (s : IdleSeatValue). s.seats) is }, ap (λ (s : IdleSeatValue). s.idle) is)
 
 pub pack-requires-clause-voice : goal.pack-requires-clause-voice
 pack-requires-clause-voice g c κs within = ap (λ (s : VerdictSeatValue). s.name) (popped (λ s. s ≡ untold c.args.verdict.now) _ _ _ c.in-Some-pop-3.ensures.items c.loop-pass.invariant.voices)

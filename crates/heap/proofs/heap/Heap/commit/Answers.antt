@@ -8,9 +8,9 @@ use Rattle.heap.specs.Whole.{IsWhole}
 use Rattle.heap.proofs.heap.Heap.commit.Goals as goal
 
 module _ {T E : Type 0} (objects objects' : ObjectsValue) (roots roots' : RootsValue) (sets sets' : List (List ℕ)) where
-  as_before : (r : Result T E) → OnErr r (objects' ≡ objects) → OnErr r (roots' ≡ roots) → OnErr r (sets' ≡ sets) → OnErr r (heap_with objects' roots'.slots sets' ≡ heap_with objects roots.slots sets)
-  as_before (Ok x) blocks same noted = tt
-  as_before (Err e) blocks same noted = ap (λ s. heap_with s roots'.slots sets') blocks ∙ ap (λ r. heap_with objects r.slots sets') same ∙ ap (heap_with objects roots.slots) noted
+  as_before : (r : Result T E) → OnErr r ((objects' ≡ objects) × (roots' ≡ roots) × (sets' ≡ sets)) → OnErr r (heap_with objects' roots'.slots sets' ≡ heap_with objects roots.slots sets)
+  as_before (Ok x) same = tt
+  as_before (Err e) same = ap (λ s. heap_with s roots'.slots sets') same.0 ∙ ap (λ r. heap_with objects r.slots sets') same.1 ∙ ap (heap_with objects roots.slots) same.2
 
   still_whole : (r : Result T E) → IfOk r (λ _. IsHeap (heap_with objects' roots'.slots sets')) → OnErr r (heap_with objects' roots'.slots sets' ≡ heap_with objects roots.slots sets) → IsWhole (heap_with objects roots.slots sets) → IsWhole (heap_with objects' roots'.slots sets')
   still_whole (Ok x) sound same whole = record { closed = sound.blocks.closed; sets = sound.sets; covers = sound.remembered }
@@ -30,7 +30,7 @@ commit-requires-clause-generations g c = c.self.invariant.sets
 
 pub invariant_of-self : goal.invariant_of-self
 invariant_of-self g c =
-    let same = as_before c.self.inside.objects c.commit.new.objects c.self.inside.roots c.commit.new.roots c.self.inside.remembered c.commit.new.sets c.commit.result c.commit.ensures.objects_as_before c.commit.ensures.roots_as_before c.commit.ensures.sets_as_before in
+    let same = as_before c.self.inside.objects c.commit.new.objects c.self.inside.roots c.commit.new.roots c.self.inside.remembered c.commit.new.sets c.commit.result c.commit.ensures.err in
     still_whole c.self.inside.objects c.commit.new.objects c.self.inside.roots c.commit.new.roots c.self.inside.remembered c.commit.new.sets c.commit.result c.commit.ensures.sound same c.self.invariant
 
 pub returns-clause-ok : goal.returns-clause-ok
@@ -44,4 +44,4 @@ returns-clause-freed g c = rw (← c.self.view_is) c.commit.ensures.freed
 
 pub returns-clause-err : goal.returns-clause-err
 returns-clause-err g c =
-    rw (← c.self.view_is) (as_before c.self.inside.objects c.commit.new.objects c.self.inside.roots c.commit.new.roots c.self.inside.remembered c.commit.new.sets c.commit.result c.commit.ensures.objects_as_before c.commit.ensures.roots_as_before c.commit.ensures.sets_as_before)
+    rw (← c.self.view_is) (as_before c.self.inside.objects c.commit.new.objects c.self.inside.roots c.commit.new.roots c.self.inside.remembered c.commit.new.sets c.commit.result c.commit.ensures.err)

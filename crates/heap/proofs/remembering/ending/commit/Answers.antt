@@ -1,4 +1,4 @@
-use Rattle.std.proofs.Common.{[], ◌∙◌}
+use Rattle.std.proofs.Common.{[], ◌∙◌, rules}
 use Rattle.steps.specs.ReportValue.{all_won}
 use Rattle.heap.proofs.WithSets.{settled_without, closed_in, numbering_in}
 use Rattle.heap.proofs.AfterCollection.{collected_with, whole_with}
@@ -28,5 +28,5 @@ returns-in-Ok-commit-clause-sound g c =
     whole_with c.args.objects.now c.commit.new.objects c.args.roots.now.slots c.commit.new.roots.slots c.args.sets.now c.note_all.new.sets c.keep_holders.new.sets c.args.settled.collection c.args.settled.places c.args.settled.blocks.items (all_won c.args.settled.workers.items)
     c.free_count-before.ensures.sound c.requires.closed settled c.requires.covers c.requires.generations c.in-Ok-commit.ensures.ok c.in-Ok-commit.ensures.sound c.note_all.ensures.grown c.in-Ok.ensures.copies c.in-Ok.ensures.large c.keep_holders.ensures.generations c.keep_holders.ensures.members c.keep_holders.ensures.once
 
-pub returns-in-Err-clause-sets_as_before : goal.returns-in-Err-clause-sets_as_before
-returns-in-Err-clause-sets_as_before g c = c.cut_back-in-Err.ensures c.args.sets.now (c.as_slice-in-Err.ensures.value ∙ c.lens-lens.ensures) c.note_all.ensures.grown
+pub returns-in-Err-clause-err : goal.returns-in-Err-clause-err
+returns-in-Err-clause-err g c = (search rules, search rules, c.cut_back-in-Err.ensures c.args.sets.now (c.as_slice-in-Err.ensures.value ∙ c.lens-lens.ensures) c.note_all.ensures.grown)

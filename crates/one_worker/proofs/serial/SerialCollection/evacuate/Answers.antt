@@ -1,4 +1,4 @@
-use Rattle.std.proofs.Common.{◌≡◌, None, sym, ap, subst, ◌∙◌}
+use Rattle.std.proofs.Common.{◌≡◌, None, sym, ap, subst, ◌∙◌, inl, inr, rules}
 use Rattle.std.specs.Prelude.{IsSome}
 use Rattle.steps.specs.HeapValue.{HeapValue}
 use Rattle.steps.specs.CollectionValue.{CollectionValue, young_names}
@@ -22,38 +22,35 @@ evacuate-requires-clause-names g c =
     c.self.invariant.names ∙ ap (λ (h : HeapValue). young_names h.graph c.self.inside.collection.value.generation) (sym (c.requires.heap ∙ ap (λ (v : SerialValue). v.heap) (sym c.self.view_is)))
     ∙ ap (λ (d : CollectionValue). young_names c.args.heap.now.graph d.generation) (sym (c.requires.collection ∙ ap (λ (v : SerialValue). v.collection) (sym c.self.view_is)))
 
-pub evacuate-requires-clause-closed : goal.evacuate-requires-clause-closed
-evacuate-requires-clause-closed g c =
-    closed_of _ c.self.invariant c.args.heap.now c.args.collection.now
-    (c.requires.heap ∙ ap (λ (v : SerialValue). v.heap) (sym c.self.view_is)) (c.requires.collection ∙ ap (λ (v : SerialValue). v.collection) (sym c.self.view_is))
+pub evacuate-requires-clause-open : goal.evacuate-requires-clause-open
+evacuate-requires-clause-open g c = record {
+  opened = search rules;
+  closed = closed_of _ c.self.invariant c.args.heap.now c.args.collection.now
+      (c.requires.heap ∙ ap (λ (v : SerialValue). v.heap) (sym c.self.view_is)) (c.requires.collection ∙ ap (λ (v : SerialValue). v.collection) (sym c.self.view_is));
+  places = places_of _ c.self.invariant c.args.heap.now c.args.collection.now
+      (c.requires.heap ∙ ap (λ (v : SerialValue). v.heap) (sym c.self.view_is)) (c.requires.collection ∙ ap (λ (v : SerialValue). v.collection) (sym c.self.view_is));
+  config = search rules;
+}
 
-pub evacuate-requires-clause-places : goal.evacuate-requires-clause-places
-evacuate-requires-clause-places g c =
-    places_of _ c.self.invariant c.args.heap.now c.args.collection.now
-    (c.requires.heap ∙ ap (λ (v : SerialValue). v.heap) (sym c.self.view_is)) (c.requires.collection ∙ ap (λ (v : SerialValue). v.collection) (sym c.self.view_is))
-
-pub evacuate-requires-clause-slot : goal.evacuate-requires-clause-slot
-evacuate-requires-clause-slot g c =
-    λ some. (ready_of _ c.self.invariant).look
-    (can_look _ c.self.invariant c.args.heap.now c.args.collection.now
-    (c.requires.heap ∙ ap (λ (v : SerialValue). v.heap) (sym c.self.view_is)) (c.requires.collection ∙ ap (λ (v : SerialValue). v.collection) (sym c.self.view_is)) c.self.inside.pass
-    (subst (λ (v : SerialValue). v.workspace.worker.proposal ≡ None) (sym c.self.view_is) c.requires.proposal) some)
-
-pub evacuate-requires-clause-few : goal.evacuate-requires-clause-few
-evacuate-requires-clause-few g c = few_of _ c.self.invariant
-
-pub evacuate-requires-clause-untouched : goal.evacuate-requires-clause-untouched
-evacuate-requires-clause-untouched g c =
-    untouched_of _ c.self.invariant c.args.heap.now c.args.collection.now
-    (c.requires.heap ∙ ap (λ (v : SerialValue). v.heap) (sym c.self.view_is)) (c.requires.collection ∙ ap (λ (v : SerialValue). v.collection) (sym c.self.view_is))
+pub evacuate-requires-clause-worker : goal.evacuate-requires-clause-worker
+evacuate-requires-clause-worker g c = record {
+  proposal = subst (λ (v : SerialValue). v.workspace.worker.proposal ≡ None) (sym c.self.view_is) c.requires.proposal;
+  slot = λ some. (ready_of _ c.self.invariant).look
+      (can_look _ c.self.invariant c.args.heap.now c.args.collection.now
+      (c.requires.heap ∙ ap (λ (v : SerialValue). v.heap) (sym c.self.view_is)) (c.requires.collection ∙ ap (λ (v : SerialValue). v.collection) (sym c.self.view_is)) c.self.inside.pass
+      (subst (λ (v : SerialValue). v.workspace.worker.proposal ≡ None) (sym c.self.view_is) c.requires.proposal) some);
+  few = few_of _ c.self.invariant;
+  untouched = untouched_of _ c.self.invariant c.args.heap.now c.args.collection.now
+      (c.requires.heap ∙ ap (λ (v : SerialValue). v.heap) (sym c.self.view_is)) (c.requires.collection ∙ ap (λ (v : SerialValue). v.collection) (sym c.self.view_is));
+}
 
 pub invariant_of-self : goal.invariant_of-self
 invariant_of-self g c =
     let heap = c.requires.heap ∙ ap (λ (v : SerialValue). v.heap) (sym c.self.view_is) in
     let collection = c.requires.collection ∙ ap (λ (v : SerialValue). v.collection) (sym c.self.view_is) in
     let none = subst (λ (v : SerialValue). v.workspace.worker.proposal ≡ None) (sym c.self.view_is) c.requires.proposal in
-    evacuated_keeps _ c.self.invariant c.args.heap.now c.args.collection.now heap collection none c.evacuate.new.cells c.evacuate.new.pass c.evacuate.new.workspace c.evacuate.ensures.pass c.evacuate.ensures.limit
-    c.evacuate.result c.evacuate.ensures.left c.evacuate.ensures.none c.evacuate.ensures.cells c.evacuate.ensures.looked_slot c.evacuate.ensures.raced_slot c.evacuate.ensures.looked c.evacuate.ensures.raced
+    evacuated_keeps _ c.self.invariant c.args.heap.now c.args.collection.now heap collection none c.evacuate.new.cells c.evacuate.new.pass c.evacuate.new.workspace c.evacuate.ensures.keeps.pass c.evacuate.ensures.keeps.limit
+    c.evacuate.result (λ is. (c.evacuate.ensures.left is).0) (λ is. (c.evacuate.ensures.none is).0) (λ ne. (c.evacuate.ensures.looks ne).cells) (λ is. c.evacuate.ensures.slot (inl is)) (λ is. c.evacuate.ensures.slot (inr is)) c.evacuate.ensures.looked c.evacuate.ensures.raced
 
 pub returns-clause-left : goal.returns-clause-left
 returns-clause-left g c = λ is.
@@ -61,7 +58,7 @@ returns-clause-left g c = λ is.
     let collection = c.requires.collection ∙ ap (λ (v : SerialValue). v.collection) (sym c.self.view_is) in
     let none = subst (λ (v : SerialValue). v.workspace.worker.proposal ≡ None) (sym c.self.view_is) c.requires.proposal in
     subst (λ (v : SerialValue). Stays v (record { heap = c.self.inside.heap.value; collection = c.self.inside.collection.value; cells = c.evacuate.new.cells; pass = c.evacuate.new.pass; claims = c.self.inside.claims; draws = c.self.inside.draws; queues = c.self.inside.queues; seat = c.self.inside.seat; workspace = c.evacuate.new.workspace })) c.self.view_is
-    (stays _ c.self.invariant c.args.heap.now c.args.collection.now heap collection none c.evacuate.new.cells c.evacuate.new.pass c.evacuate.new.workspace c.evacuate.ensures.pass c.evacuate.ensures.limit (c.evacuate.ensures.left is))
+    (stays _ c.self.invariant c.args.heap.now c.args.collection.now heap collection none c.evacuate.new.cells c.evacuate.new.pass c.evacuate.new.workspace c.evacuate.ensures.keeps.pass c.evacuate.ensures.keeps.limit (c.evacuate.ensures.left is).0)
 
 pub returns-clause-left_why : goal.returns-clause-left_why
 returns-clause-left_why g c = λ is.
@@ -69,7 +66,7 @@ returns-clause-left_why g c = λ is.
     let collection = c.requires.collection ∙ ap (λ (v : SerialValue). v.collection) (sym c.self.view_is) in
     let none = subst (λ (v : SerialValue). v.workspace.worker.proposal ≡ None) (sym c.self.view_is) c.requires.proposal in
     subst IsLeft c.self.view_is
-    (left_why _ c.self.invariant c.args.heap.now c.args.collection.now heap collection none c.evacuate.new.cells c.evacuate.new.pass c.evacuate.new.workspace c.evacuate.ensures.pass c.evacuate.ensures.limit (c.evacuate.ensures.left_why is))
+    (left_why _ c.self.invariant c.args.heap.now c.args.collection.now heap collection none c.evacuate.new.cells c.evacuate.new.pass c.evacuate.new.workspace c.evacuate.ensures.keeps.pass c.evacuate.ensures.keeps.limit (c.evacuate.ensures.left is).1)
 
 pub returns-clause-none : goal.returns-clause-none
 returns-clause-none g c = λ is.
@@ -77,7 +74,7 @@ returns-clause-none g c = λ is.
     let collection = c.requires.collection ∙ ap (λ (v : SerialValue). v.collection) (sym c.self.view_is) in
     let none = subst (λ (v : SerialValue). v.workspace.worker.proposal ≡ None) (sym c.self.view_is) c.requires.proposal in
     subst (λ (v : SerialValue). Stays v (record { heap = c.self.inside.heap.value; collection = c.self.inside.collection.value; cells = c.evacuate.new.cells; pass = c.evacuate.new.pass; claims = c.self.inside.claims; draws = c.self.inside.draws; queues = c.self.inside.queues; seat = c.self.inside.seat; workspace = c.evacuate.new.workspace })) c.self.view_is
-    (stays _ c.self.invariant c.args.heap.now c.args.collection.now heap collection none c.evacuate.new.cells c.evacuate.new.pass c.evacuate.new.workspace c.evacuate.ensures.pass c.evacuate.ensures.limit (c.evacuate.ensures.none is))
+    (stays _ c.self.invariant c.args.heap.now c.args.collection.now heap collection none c.evacuate.new.cells c.evacuate.new.pass c.evacuate.new.workspace c.evacuate.ensures.keeps.pass c.evacuate.ensures.keeps.limit (c.evacuate.ensures.none is).0)
 
 pub returns-clause-looked : goal.returns-clause-looked
 returns-clause-looked g c = λ is.
@@ -85,7 +82,7 @@ returns-clause-looked g c = λ is.
     let collection = c.requires.collection ∙ ap (λ (v : SerialValue). v.collection) (sym c.self.view_is) in
     let none = subst (λ (v : SerialValue). v.workspace.worker.proposal ≡ None) (sym c.self.view_is) c.requires.proposal in
     subst (λ (v : SerialValue). Goes (Look 0) v (record { heap = c.self.inside.heap.value; collection = c.self.inside.collection.value; cells = c.evacuate.new.cells; pass = c.evacuate.new.pass; claims = c.self.inside.claims; draws = c.self.inside.draws; queues = c.self.inside.queues; seat = c.self.inside.seat; workspace = c.evacuate.new.workspace })) c.self.view_is
-    ((goes_once _ c.self.invariant c.args.heap.now c.args.collection.now heap collection none c.evacuate.new.cells c.evacuate.new.pass c.evacuate.new.workspace c.evacuate.ensures.pass c.evacuate.ensures.limit (c.evacuate.ensures.cells (λ e. two_ways is e)) (c.evacuate.ensures.looked_slot is) (c.evacuate.ensures.looked is)).1)
+    ((goes_once _ c.self.invariant c.args.heap.now c.args.collection.now heap collection none c.evacuate.new.cells c.evacuate.new.pass c.evacuate.new.workspace c.evacuate.ensures.keeps.pass c.evacuate.ensures.keeps.limit (c.evacuate.ensures.looks (λ e. two_ways is e)).cells (c.evacuate.ensures.slot (inl is)) (c.evacuate.ensures.looked is)).1)
 
 pub returns-clause-raced : goal.returns-clause-raced
 returns-clause-raced g c = λ is.
@@ -93,7 +90,7 @@ returns-clause-raced g c = λ is.
     let collection = c.requires.collection ∙ ap (λ (v : SerialValue). v.collection) (sym c.self.view_is) in
     let none = subst (λ (v : SerialValue). v.workspace.worker.proposal ≡ None) (sym c.self.view_is) c.requires.proposal in
     subst (λ (v : SerialValue). LooksThenRaces v (record { heap = c.self.inside.heap.value; collection = c.self.inside.collection.value; cells = c.evacuate.new.cells; pass = c.evacuate.new.pass; claims = c.self.inside.claims; draws = c.self.inside.draws; queues = c.self.inside.queues; seat = c.self.inside.seat; workspace = c.evacuate.new.workspace })) c.self.view_is
-    ((goes_twice _ c.self.invariant c.args.heap.now c.args.collection.now heap collection none c.evacuate.new.cells c.evacuate.new.pass c.evacuate.new.workspace c.evacuate.ensures.pass c.evacuate.ensures.limit (c.evacuate.ensures.raced_slot is) (c.evacuate.ensures.raced is)).1)
+    ((goes_twice _ c.self.invariant c.args.heap.now c.args.collection.now heap collection none c.evacuate.new.cells c.evacuate.new.pass c.evacuate.new.workspace c.evacuate.ensures.keeps.pass c.evacuate.ensures.keeps.limit (c.evacuate.ensures.slot (inr is)) (c.evacuate.ensures.raced is)).1)
 
 pub returns-clause-looked_slot : goal.returns-clause-looked_slot
 returns-clause-looked_slot g c = λ is.
@@ -101,7 +98,7 @@ returns-clause-looked_slot g c = λ is.
     let collection = c.requires.collection ∙ ap (λ (v : SerialValue). v.collection) (sym c.self.view_is) in
     let none = subst (λ (v : SerialValue). v.workspace.worker.proposal ≡ None) (sym c.self.view_is) c.requires.proposal in
     subst (λ (v : SerialValue). IsSome (current_slot (setting_in v) v.workspace.worker)) c.self.view_is
-    (subst IsSome (slot_here _ c.self.invariant c.args.heap.now c.args.collection.now heap collection c.evacuate.new.pass) (c.evacuate.ensures.looked_slot is))
+    (subst IsSome (slot_here _ c.self.invariant c.args.heap.now c.args.collection.now heap collection c.evacuate.new.pass) (c.evacuate.ensures.slot (inl is)))
 
 pub returns-clause-raced_slot : goal.returns-clause-raced_slot
 returns-clause-raced_slot g c = λ is.
@@ -109,12 +106,12 @@ returns-clause-raced_slot g c = λ is.
     let collection = c.requires.collection ∙ ap (λ (v : SerialValue). v.collection) (sym c.self.view_is) in
     let none = subst (λ (v : SerialValue). v.workspace.worker.proposal ≡ None) (sym c.self.view_is) c.requires.proposal in
     subst (λ (v : SerialValue). IsSome (current_slot (setting_in v) v.workspace.worker)) c.self.view_is
-    (subst IsSome (slot_here _ c.self.invariant c.args.heap.now c.args.collection.now heap collection c.evacuate.new.pass) (c.evacuate.ensures.raced_slot is))
+    (subst IsSome (slot_here _ c.self.invariant c.args.heap.now c.args.collection.now heap collection c.evacuate.new.pass) (c.evacuate.ensures.slot (inr is)))
 
 pub returns-clause-no_slot : goal.returns-clause-no_slot
 returns-clause-no_slot g c = λ is.
     let heap = c.requires.heap ∙ ap (λ (v : SerialValue). v.heap) (sym c.self.view_is) in
     let collection = c.requires.collection ∙ ap (λ (v : SerialValue). v.collection) (sym c.self.view_is) in
     let none = subst (λ (v : SerialValue). v.workspace.worker.proposal ≡ None) (sym c.self.view_is) c.requires.proposal in
-    ap (λ (w : WorkspaceValue). current_slot (setting_in (record { heap = c.self.inside.heap.value; collection = c.self.inside.collection.value; cells = c.evacuate.new.cells; pass = c.evacuate.new.pass; claims = c.self.inside.claims; draws = c.self.inside.draws; queues = c.self.inside.queues; seat = c.self.inside.seat; workspace = w })) w.worker) (c.evacuate.ensures.none is)
-    ∙ sym (slot_here _ c.self.invariant c.args.heap.now c.args.collection.now heap collection c.evacuate.new.pass) ∙ c.evacuate.ensures.no_slot is
+    ap (λ (w : WorkspaceValue). current_slot (setting_in (record { heap = c.self.inside.heap.value; collection = c.self.inside.collection.value; cells = c.evacuate.new.cells; pass = c.evacuate.new.pass; claims = c.self.inside.claims; draws = c.self.inside.draws; queues = c.self.inside.queues; seat = c.self.inside.seat; workspace = w })) w.worker) (c.evacuate.ensures.none is).0
+    ∙ sym (slot_here _ c.self.invariant c.args.heap.now c.args.collection.now heap collection c.evacuate.new.pass) ∙ (c.evacuate.ensures.none is).1

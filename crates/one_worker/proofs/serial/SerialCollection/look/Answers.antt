@@ -1,4 +1,4 @@
-use Rattle.std.proofs.Common.{◌≡◌, false, Ok, None, sym, ap, subst, ◌∙◌}
+use Rattle.std.proofs.Common.{◌≡◌, false, Ok, None, sym, ap, subst, ◌∙◌, rules}
 use Rattle.std.specs.Prelude.{◌↔◌}
 use Rattle.block_pool.specs.ClaimsValue.{SeatValue}
 use Rattle.workers.specs.WorkerSteps.{current_slot}
@@ -10,33 +10,33 @@ use Rattle.one_worker.proofs.Readiness.{ready_of}
 use Rattle.scavenge.proofs.Destinations.{numbers_below}
 use Rattle.one_worker.proofs.serial.SerialCollection.look.Goals as goal
 
-pub look-requires-clause-closed : goal.look-requires-clause-closed
-look-requires-clause-closed g c =
-    closed_of _ c.self.invariant c.args.heap.now c.args.collection.now
-    (c.requires.heap ∙ ap (λ (v : SerialValue). v.heap) (sym c.self.view_is)) (c.requires.collection ∙ ap (λ (v : SerialValue). v.collection) (sym c.self.view_is))
+pub look-requires-clause-open : goal.look-requires-clause-open
+look-requires-clause-open g c = record {
+  opened = search rules;
+  closed = closed_of _ c.self.invariant c.args.heap.now c.args.collection.now
+      (c.requires.heap ∙ ap (λ (v : SerialValue). v.heap) (sym c.self.view_is)) (c.requires.collection ∙ ap (λ (v : SerialValue). v.collection) (sym c.self.view_is));
+  places = places_of _ c.self.invariant c.args.heap.now c.args.collection.now
+      (c.requires.heap ∙ ap (λ (v : SerialValue). v.heap) (sym c.self.view_is)) (c.requires.collection ∙ ap (λ (v : SerialValue). v.collection) (sym c.self.view_is));
+  config = search rules;
+}
 
-pub look-requires-clause-numbers : goal.look-requires-clause-numbers
-look-requires-clause-numbers g c = numbers_below _ _ c.self.invariant.ready _ c.self.invariant.draws.free
+pub look-requires-clause-draws : goal.look-requires-clause-draws
+look-requires-clause-draws g c = record {
+  seat = search rules;
+  numbers = numbers_below _ _ c.self.invariant.ready _ c.self.invariant.draws.free;
+}
 
-pub look-requires-clause-places : goal.look-requires-clause-places
-look-requires-clause-places g c =
-    places_of _ c.self.invariant c.args.heap.now c.args.collection.now
-    (c.requires.heap ∙ ap (λ (v : SerialValue). v.heap) (sym c.self.view_is)) (c.requires.collection ∙ ap (λ (v : SerialValue). v.collection) (sym c.self.view_is))
-
-pub look-requires-clause-slot : goal.look-requires-clause-slot
-look-requires-clause-slot g c =
-    λ some. (ready_of _ c.self.invariant).look
-    (can_look _ c.self.invariant c.args.heap.now c.args.collection.now
-    (c.requires.heap ∙ ap (λ (v : SerialValue). v.heap) (sym c.self.view_is)) (c.requires.collection ∙ ap (λ (v : SerialValue). v.collection) (sym c.self.view_is)) c.self.inside.pass
-    (subst (λ (v : SerialValue). v.workspace.worker.proposal ≡ None) (sym c.self.view_is) c.requires.proposal) some)
-
-pub look-requires-clause-few : goal.look-requires-clause-few
-look-requires-clause-few g c = few_of _ c.self.invariant
-
-pub look-requires-clause-untouched : goal.look-requires-clause-untouched
-look-requires-clause-untouched g c =
-    untouched_of _ c.self.invariant c.args.heap.now c.args.collection.now
-    (c.requires.heap ∙ ap (λ (v : SerialValue). v.heap) (sym c.self.view_is)) (c.requires.collection ∙ ap (λ (v : SerialValue). v.collection) (sym c.self.view_is))
+pub look-requires-clause-worker : goal.look-requires-clause-worker
+look-requires-clause-worker g c = record {
+  proposal = subst (λ (v : SerialValue). v.workspace.worker.proposal ≡ None) (sym c.self.view_is) c.requires.proposal;
+  slot = λ some. (ready_of _ c.self.invariant).look
+      (can_look _ c.self.invariant c.args.heap.now c.args.collection.now
+      (c.requires.heap ∙ ap (λ (v : SerialValue). v.heap) (sym c.self.view_is)) (c.requires.collection ∙ ap (λ (v : SerialValue). v.collection) (sym c.self.view_is)) c.self.inside.pass
+      (subst (λ (v : SerialValue). v.workspace.worker.proposal ≡ None) (sym c.self.view_is) c.requires.proposal) some);
+  few = few_of _ c.self.invariant;
+  untouched = untouched_of _ c.self.invariant c.args.heap.now c.args.collection.now
+      (c.requires.heap ∙ ap (λ (v : SerialValue). v.heap) (sym c.self.view_is)) (c.requires.collection ∙ ap (λ (v : SerialValue). v.collection) (sym c.self.view_is));
+}
 
 pub look-requires-clause-room : goal.look-requires-clause-room
 look-requires-clause-room g c =
@@ -48,7 +48,7 @@ invariant_of-self g c =
     let heap = c.requires.heap ∙ ap (λ (v : SerialValue). v.heap) (sym c.self.view_is) in
     let collection = c.requires.collection ∙ ap (λ (v : SerialValue). v.collection) (sym c.self.view_is) in
     look_keeps _ c.self.invariant c.args.heap.now c.args.collection.now heap collection
-    c.look.new.pass c.look.new.cells c.look.ensures.cells c.look.new.seat c.look.new.workspace c.look.ensures.pass c.look.ensures.seat c.look.ensures.fresh c.look.result
+    c.look.new.pass c.look.new.cells c.look.ensures.looks.cells c.look.new.seat c.look.new.workspace c.look.ensures.keeps.pass c.look.ensures.draws.seat c.look.ensures.draws.fresh c.look.result
     (λ is. can_look _ c.self.invariant c.args.heap.now c.args.collection.now heap collection c.look.new.pass (subst (λ (v : SerialValue). v.workspace.worker.proposal ≡ None) (sym c.self.view_is) c.requires.proposal)
     (some_slot _ c.self.invariant c.args.heap.now c.args.collection.now heap collection c.look.new.pass c.look.result is c.look.ensures.none.1))
     c.look.ensures.ok (λ is. (c.look.ensures.nothing is).0) c.look.ensures.err
@@ -67,14 +67,14 @@ returns-clause-ok g c = λ is.
     (λ (v : SerialValue). Goes (Look 0) v (record { heap = c.self.inside.heap.value; collection = c.self.inside.collection.value; cells = c.look.new.cells; pass = c.look.new.pass; claims = c.self.inside.claims; draws = c.look.new.seat; queues = c.self.inside.queues; seat = c.self.inside.seat; workspace = c.look.new.workspace }))
     c.self.view_is
     (look_goes _ c.self.invariant c.args.heap.now c.args.collection.now heap collection
-    c.look.new.pass c.look.new.cells c.look.ensures.cells c.look.new.seat c.look.new.workspace c.look.ensures.pass c.look.ensures.seat
+    c.look.new.pass c.look.new.cells c.look.ensures.looks.cells c.look.new.seat c.look.new.workspace c.look.ensures.keeps.pass c.look.ensures.draws.seat
     (can_look _ c.self.invariant c.args.heap.now c.args.collection.now heap collection c.look.new.pass (subst (λ (v : SerialValue). v.workspace.worker.proposal ≡ None) (sym c.self.view_is) c.requires.proposal)
     (some_slot _ c.self.invariant c.args.heap.now c.args.collection.now heap collection c.look.new.pass c.look.result is c.look.ensures.none.1))
-    c.look.ensures.fresh (c.look.ensures.ok is)).1
+    c.look.ensures.draws.fresh (c.look.ensures.ok is)).1
 
 pub returns-clause-full : goal.returns-clause-full
 returns-clause-full g c = λ is. (
   subst WantsDraw c.self.view_is (wants_draw _ c.self.invariant c.args.heap.now c.args.collection.now
-      (c.requires.heap ∙ ap (λ (v : SerialValue). v.heap) (sym c.self.view_is)) (c.requires.collection ∙ ap (λ (v : SerialValue). v.collection) (sym c.self.view_is)) c.look.new.pass (c.look.ensures.wanted is)),
-  ap (λ (s : SeatValue). s.out) (c.look.ensures.full is),
+      (c.requires.heap ∙ ap (λ (v : SerialValue). v.heap) (sym c.self.view_is)) (c.requires.collection ∙ ap (λ (v : SerialValue). v.collection) (sym c.self.view_is)) c.look.new.pass (c.look.ensures.full is).1),
+  ap (λ (s : SeatValue). s.out) (c.look.ensures.full is).0.out,
 )

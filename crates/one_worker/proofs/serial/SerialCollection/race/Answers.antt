@@ -1,4 +1,4 @@
-use Rattle.std.proofs.Common.{sym, ap, subst, ◌∙◌}
+use Rattle.std.proofs.Common.{sym, ap, subst, ◌∙◌, rules}
 use Rattle.std.specs.Prelude.{IsSome}
 use Rattle.steps.specs.HeapValue.{HeapValue}
 use Rattle.steps.specs.CollectionValue.{CollectionValue, young_names}
@@ -23,17 +23,18 @@ race-requires-clause-young g c =
     subst (λ (h : HeapValue). IsYoung h.graph c.args.collection.now.generation (name_of c.self.inside.workspace.worker.proposal)) (sym heap)
     (subst (λ (d : CollectionValue). IsYoung c.self.inside.heap.value.graph d.generation (name_of c.self.inside.workspace.worker.proposal)) (sym collection) (young_of _ c.self.invariant some))
 
-pub race-requires-clause-slot : goal.race-requires-clause-slot
-race-requires-clause-slot g c = (ready_of _ c.self.invariant).race (subst (λ (v : SerialValue). IsSome v.workspace.worker.proposal) (sym c.self.view_is) c.requires.proposal)
-
-pub race-requires-clause-few : goal.race-requires-clause-few
-race-requires-clause-few g c = few_of _ c.self.invariant
+pub race-requires-clause-worker : goal.race-requires-clause-worker
+race-requires-clause-worker g c = record {
+  proposal = subst (λ (v : SerialValue). IsSome v.workspace.worker.proposal) (sym c.self.view_is) c.requires.proposal;
+  slot = (ready_of _ c.self.invariant).race (subst (λ (v : SerialValue). IsSome v.workspace.worker.proposal) (sym c.self.view_is) c.requires.proposal);
+  few = few_of _ c.self.invariant;
+}
 
 pub invariant_of-self : goal.invariant_of-self
 invariant_of-self g c =
     race_keeps _ c.self.invariant (subst (λ (v : SerialValue). IsSome v.workspace.worker.proposal) (sym c.self.view_is) c.requires.proposal) c.args.heap.now c.args.collection.now
     (c.requires.heap ∙ ap (λ (v : SerialValue). v.heap) (sym c.self.view_is)) (c.requires.collection ∙ ap (λ (v : SerialValue). v.collection) (sym c.self.view_is))
-    c.race.new.cells c.race.new.pass c.race.new.workspace c.race.ensures.pass c.race.ensures.limit c.race.result c.race.ensures.ok c.race.ensures.err
+    c.race.new.cells c.race.new.pass c.race.new.workspace c.race.ensures.keeps.pass c.race.ensures.keeps.limit c.race.result c.race.ensures.ok c.race.ensures.err
 
 pub returns-clause-ok : goal.returns-clause-ok
 returns-clause-ok g c =
@@ -41,5 +42,5 @@ returns-clause-ok g c =
     (λ r. subst (λ (v : SerialValue). Goes (Race 0) v (record { heap = c.self.inside.heap.value; collection = c.self.inside.collection.value; cells = c.race.new.cells; pass = c.race.new.pass; claims = c.self.inside.claims; draws = c.self.inside.draws; queues = c.self.inside.queues; seat = c.self.inside.seat; workspace = c.race.new.workspace })) c.self.view_is
     (race_goes _ c.self.invariant (subst (λ (v : SerialValue). IsSome v.workspace.worker.proposal) (sym c.self.view_is) c.requires.proposal) c.args.heap.now c.args.collection.now
     (c.requires.heap ∙ ap (λ (v : SerialValue). v.heap) (sym c.self.view_is)) (c.requires.collection ∙ ap (λ (v : SerialValue). v.collection) (sym c.self.view_is))
-    c.race.new.cells c.race.new.pass c.race.new.workspace c.race.ensures.pass c.race.ensures.limit r).1)
+    c.race.new.cells c.race.new.pass c.race.new.workspace c.race.ensures.keeps.pass c.race.ensures.keeps.limit r).1)
     c.race.ensures.ok

@@ -24,4 +24,4 @@ loop-preserved g c = record { same = c.sweep_one.ensures.same; stepped = c.sweep
 
 pub returns-clause-less : goal.returns-clause-less
 returns-clause-less g c =
-    subst (λ v. left_to_do v ≤ left_to_do c.args.serial) (sym c.closed.ensures) (omega (arith, c.sweep_one.ensures.none c.loop-test.false, c.loop.invariant.less))
+    subst (λ v. left_to_do v ≤ left_to_do c.args.serial) (sym c.closed.ensures) (omega (arith, c.sweep_one.ensures.less, c.loop.invariant.less))

@@ -1,7 +1,7 @@
 use Rattle.std.proofs.Common.{◌≡◌, ◌+◌, ◌≤◌}
 use Rattle.trace_session.specs.Lines.{Moves, most_left}
-use Rattle.trace_replay.specs.Runs.{HasCarried}
 use Rattle.trace_replay.proofs.schedules.carrying.carry_out_schedule.Given as goal
+use Rattle.trace_replay.proofs.SchedulesLineByLine.{HasCarried}
 
 abbrev pub invariant-loop-machine : goal.invariant-loop-machine
 invariant-loop-machine g l = record {

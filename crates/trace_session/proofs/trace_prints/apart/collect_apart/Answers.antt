@@ -1,6 +1,6 @@
 use Rattle.std.proofs.Common.{Err, refl, ap, arith}
 use Rattle.trace_session.specs.Refusals.{IsFullToCollect}
-use Rattle.trace_session.specs.Made.{collected}
+use Rattle.trace_session.specs.Made.{collected_apart}
 use Rattle.trace_session.proofs.Apart.{must_be_box}
 use Rattle.trace_session.proofs.PrintedSteps.{steps_collect, collect_full, collect_sound, collect_nowhere}
 use Rattle.trace_session.proofs.trace_prints.apart.collect_apart.Goals as goal
@@ -8,7 +8,7 @@ use Rattle.trace_session.proofs.trace_prints.apart.collect_apart.Goals as goal
 pub returns-in-Ok-write_collection-clause-ok : goal.returns-in-Ok-write_collection-clause-ok
 returns-in-Ok-write_collection-clause-ok g c = λ config store stands.
     steps_collect _ _ config store stands c.args.generation _ _ _ _ _ _ c.in-Ok-collect.ensures.ok.collects
-    (collected c.args.generation _ stands.made c.in-Ok-collect.ensures.ok.collects.heap)
+    (collected_apart c.args.generation _ _ _ _ _ stands.made c.in-Ok-collect.ensures.ok)
     (omega (arith, c.if-generation-generations.false, c.generations.ensures.value, ap (λ x. x.shape.generations) c.config.ensures))
     c.in-Ok-write_collection.ensures.bytes
 

@@ -7,7 +7,7 @@ use Rattle.trace_session.proofs.trace_prints.printing.collect.Goals as goal
 pub returns-in-Ok-write_collection-clause-ok : goal.returns-in-Ok-write_collection-clause-ok
 returns-in-Ok-write_collection-clause-ok g c = λ config store stands.
     steps_collect _ _ config store stands c.args.generation _ _ _ _ _ _ c.in-Ok-collect_one.ensures.ok
-    (collected c.args.generation _ stands.made c.in-Ok-collect_one.ensures.ok.heap)
+    (collected c.args.generation _ _ _ _ stands.made (record { collects = c.in-Ok-collect_one.ensures.ok; scans = c.in-Ok-collect_one.ensures.alone }))
     (omega (arith, c.if-generation-generations.false, c.generations.ensures.value, ap (λ x. x.shape.generations) c.config.ensures))
     c.in-Ok-write_collection.ensures.bytes
 

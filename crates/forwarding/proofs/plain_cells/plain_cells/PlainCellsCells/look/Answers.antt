@@ -1,4 +1,4 @@
-use Rattle.std.proofs.Common.{sym, ◌∙◌, arith}
+use Rattle.std.proofs.Common.{refl, sym, ◌∙◌, arith, rules}
 use Rattle.forwarding.proofs.PlainKeeps.{shows, reads, learner_fits, learns, learns_nothing}
 use Rattle.forwarding.proofs.plain_cells.plain_cells.PlainCellsCells.look.Goals as goal
 
@@ -18,12 +18,19 @@ returns-in_err-shown-clause-exact g c =
     let is = reads _ _ _ c.args.name _ _ c.self.invariant below c.index.ensures c.place_in.ensures in
     rw (← c.self.view_is, c.from_residual.ensures) (sym c.in_err-shown.was ∙ is)
 
-pub returns-clause-pass : goal.returns-clause-pass
-returns-clause-pass g c =
+pub returns-clause-keeps : goal.returns-clause-keeps
+returns-clause-keeps g c =
     let fit = rw (← c.self.view_is) at c.requires.pass in
     let below = rw (← c.self.view_is) at c.requires.name in
     let is = reads _ _ _ c.args.name _ _ c.self.invariant below c.index.ensures c.place_in.ensures in
-    rw (← c.self.view_is, c.learn.ensures) (learner_fits _ _ c.args.name c.in_ok-shown.shown fit (sym is ∙ c.in_ok-shown.was) below)
+    record {
+      pass = rw (← c.self.view_is, c.learn.ensures) (learner_fits _ _ c.args.name c.in_ok-shown.shown fit (sym is ∙ c.in_ok-shown.was) below);
+      others = λ other ne fits. fits;
+      home = search rules;
+      apart = search rules;
+      apart_back = search rules;
+      limit = refl;
+    }
 
 pub returns-clause-known : goal.returns-clause-known
 returns-clause-known g c =

@@ -1,4 +1,4 @@
-use Rattle.std.proofs.Common.{refl, sym, ap, ◌∙◌, arith}
+use Rattle.std.proofs.Common.{refl, sym, ap, ◌∙◌, arith, rules}
 use Rattle.forwarding.proofs.PairLemmas.{none_unless}
 use Rattle.forwarding.specs.Plain.{PlainPassValue}
 use Rattle.forwarding.proofs.PlainKeeps.{shows, reads, none_held, learner_fits, learns, winner_fits, others_fit, cells_set}
@@ -12,12 +12,19 @@ invariant_of-self g c =
     let fit = rw (← c.self.view_is) at c.requires.pass in
     rw (c.to_word.ensures, c.holding.ensures) (cells_set _ _ _ _ _ _ fit.mine.0 c.self.invariant)
 
-pub returns-in-Some-clause-pass : goal.returns-in-Some-clause-pass
-returns-in-Some-clause-pass g c =
+pub returns-in-Some-clause-keeps : goal.returns-in-Some-clause-keeps
+returns-in-Some-clause-keeps g c =
     let fit = rw (← c.self.view_is) at c.requires.pass in
     let below = rw (← c.self.view_is) at c.requires.name in
     let is = reads _ _ _ c.args.name _ _ c.self.invariant below c.index.ensures c.place_in.ensures in
-    rw (← c.self.view_is, c.learn.ensures) (learner_fits _ _ c.args.name c.in-Some.first fit (sym is ∙ c.in-Some.is) below)
+    record {
+      pass = rw (← c.self.view_is, c.learn.ensures) (learner_fits _ _ c.args.name c.in-Some.first fit (sym is ∙ c.in-Some.is) below);
+      others = λ other ne fits. fits;
+      home = search rules;
+      apart = search rules;
+      apart_back = search rules;
+      limit = refl;
+    }
 
 pub returns-in-Some-clause-exact : goal.returns-in-Some-clause-exact
 returns-in-Some-clause-exact g c =
@@ -36,19 +43,19 @@ returns-in-Some-clause-known g c =
     let many = fit.many in
     rw c.learn.ensures (learns _ _ c.args.name c.in-Some.first (omega arith) (fit.known c.args.name) (λ p e. sym c.in-Some.is ∙ (is ∙ e)))
 
-pub returns-in-None-clause-pass : goal.returns-in-None-clause-pass
-returns-in-None-clause-pass g c =
+pub returns-in-None-clause-keeps : goal.returns-in-None-clause-keeps
+returns-in-None-clause-keeps g c =
     let fit = rw (← c.self.view_is) at c.requires.pass in
     let below = rw (← c.self.view_is) at c.requires.name in
     let is = reads _ _ _ c.args.name _ _ c.self.invariant below c.index.ensures c.place_in.ensures in
-    rw (c.holding.ensures, c.win.ensures, c.learn-in-None.ensures) (winner_fits _ _ _ _ _ _ _ _ fit (none_held _ (sym c.in-None.is ∙ is)) below)
-
-pub returns-in-None-clause-others : goal.returns-in-None-clause-others
-returns-in-None-clause-others g c = λ other differ fits.
-    let below = rw (← c.self.view_is) at c.requires.name in
-    let is = reads _ _ _ c.args.name _ _ c.self.invariant below c.index.ensures c.place_in.ensures in
-    rw c.holding.ensures
-    (others_fit _ _ _ _ _ other (rw (← c.self.view_is) at fits) (none_held _ (sym c.in-None.is ∙ is)) below (λ same. differ (sym same)))
+    record {
+      pass = rw (c.holding.ensures, c.win.ensures, c.learn-in-None.ensures) (winner_fits _ _ _ _ _ _ _ _ fit (none_held _ (sym c.in-None.is ∙ is)) below);
+      others = λ other differ fits. rw c.holding.ensures (others_fit _ _ _ _ _ other (rw (← c.self.view_is) at fits) (none_held _ (sym c.in-None.is ∙ is)) below (λ same. differ (sym same)));
+      home = search rules;
+      apart = search rules;
+      apart_back = search rules;
+      limit = search rules;
+    }
 
 pub returns-in-None-clause-known : goal.returns-in-None-clause-known
 returns-in-None-clause-known g c =

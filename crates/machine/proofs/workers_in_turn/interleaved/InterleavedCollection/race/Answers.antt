@@ -28,24 +28,22 @@ race-requires-clause-young g c =
     (subst (λ (d : CollectionValue). IsYoung v.heap.graph d.generation (name_of c.behind-self.inside.workspace.worker.proposal)) (sym collection)
     (young_of v.heap v.collection c.self.invariant.ready v.workers c.args.t _ (c.self.invariant.each c.args.t _ i.there) i.can))
 
-pub race-requires-clause-slot : goal.race-requires-clause-slot
-race-requires-clause-slot g c =
+pub race-requires-clause-worker : goal.race-requires-clause-worker
+race-requires-clause-worker g c =
     let v : InterleavedValue = record { heap = c.self.inside.heap.value; collection = c.self.inside.collection.value; cells = c.self.inside.cells; pass = c.self.inside.pass; claims = c.self.inside.claims; draws = c.self.inside.draws; queues = c.self.inside.queues; workers = c.self.inside.workers; idlers = c.self.inside.idlers; members = c.self.inside.members.items } in
     let i = is_in _ v c.args.t _ (behind c.self.inside.members.items c.args.t c.behind-self.view_is c.index_mut.ensures.value) (lawful_as (Race c.args.t) c.self.view_is c.requires.lawful) in
-    (ready_of v.heap v.collection c.self.invariant.ready v.workers c.args.t _ (c.self.invariant.each c.args.t _ i.there)).race i.can
-
-pub race-requires-clause-few : goal.race-requires-clause-few
-race-requires-clause-few g c =
-    let v : InterleavedValue = record { heap = c.self.inside.heap.value; collection = c.self.inside.collection.value; cells = c.self.inside.cells; pass = c.self.inside.pass; claims = c.self.inside.claims; draws = c.self.inside.draws; queues = c.self.inside.queues; workers = c.self.inside.workers; idlers = c.self.inside.idlers; members = c.self.inside.members.items } in
-    let i = is_in _ v c.args.t _ (behind c.self.inside.members.items c.args.t c.behind-self.view_is c.index_mut.ensures.value) (lawful_as (Race c.args.t) c.self.view_is c.requires.lawful) in
-    few_of v.heap v.collection c.self.invariant.ready v.workers c.args.t _ (c.self.invariant.each c.args.t _ i.there)
+    record {
+      proposal = i.can;
+      slot = (ready_of v.heap v.collection c.self.invariant.ready v.workers c.args.t _ (c.self.invariant.each c.args.t _ i.there)).race i.can;
+      few = few_of v.heap v.collection c.self.invariant.ready v.workers c.args.t _ (c.self.invariant.each c.args.t _ i.there);
+    }
 
 pub invariant_of-self : goal.invariant_of-self
 invariant_of-self g c =
     let v : InterleavedValue = record { heap = c.self.inside.heap.value; collection = c.self.inside.collection.value; cells = c.self.inside.cells; pass = c.self.inside.pass; claims = c.self.inside.claims; draws = c.self.inside.draws; queues = c.self.inside.queues; workers = c.self.inside.workers; idlers = c.self.inside.idlers; members = c.self.inside.members.items } in
     race_keeps v c.self.invariant c.args.t _ (behind c.self.inside.members.items c.args.t c.behind-self.view_is c.index_mut.ensures.value) (lawful_as (Race c.args.t) c.self.view_is c.requires.lawful)
     c.args.heap.now c.args.collection.now (c.requires.heap ∙ ap (λ (x : InterleavedValue). x.heap) (sym c.self.view_is)) (c.requires.collection ∙ ap (λ (x : InterleavedValue). x.collection) (sym c.self.view_is))
-    c.race.new.cells c.race.new.pass c.race.new.workspace c.race.ensures.pass c.race.ensures.limit c.race.result c.race.ensures.ok c.race.ensures.err
+    c.race.new.cells c.race.new.pass c.race.new.workspace c.race.ensures.keeps.pass c.race.ensures.keeps.limit c.race.result c.race.ensures.ok c.race.ensures.err
 
 pub returns-clause-ok : goal.returns-clause-ok
 returns-clause-ok g c =
@@ -53,5 +51,5 @@ returns-clause-ok g c =
     on_ok c.race.result
     (λ r. goes_as c.self.view_is (race_does v c.self.invariant c.args.t _ (behind c.self.inside.members.items c.args.t c.behind-self.view_is c.index_mut.ensures.value) (lawful_as (Race c.args.t) c.self.view_is c.requires.lawful)
     c.args.heap.now c.args.collection.now (c.requires.heap ∙ ap (λ (x : InterleavedValue). x.heap) (sym c.self.view_is)) (c.requires.collection ∙ ap (λ (x : InterleavedValue). x.collection) (sym c.self.view_is))
-    c.race.new.cells c.race.new.pass c.race.new.workspace c.race.ensures.pass c.race.ensures.limit r).1)
+    c.race.new.cells c.race.new.pass c.race.new.workspace c.race.ensures.keeps.pass c.race.ensures.keeps.limit r).1)
     c.race.ensures.ok

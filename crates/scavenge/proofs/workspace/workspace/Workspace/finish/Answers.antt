@@ -7,7 +7,8 @@ use Rattle.steps.specs.Words.{target_of_word}
 use Rattle.workers.specs.Block.{Block, updated, with_field}
 use Rattle.workers.specs.Worker.{Worker, Proposal, Hand, Open, Holding, allocation_at}
 use Rattle.scavenge.specs.Named.{named}
-use Rattle.scavenge.specs.Shown.{WorkspaceValue, CanFinish, CanWrite, HasField, proposal_of, hand_of, words_of, slots_of, AreNoted, IsNoted, held_in}
+use Rattle.workers.specs.Ready.{HasField, CanWrite, CanFinish}
+use Rattle.scavenge.specs.Shown.{WorkspaceValue, proposal_of, hand_of, words_of, slots_of, AreNoted, IsNoted, held_in}
 use Rattle.workers.specs.Joined.{OnSome}
 use Rattle.scavenge.proofs.Fields.{Drops, drops, all_left, finish_start, finish_open, finished, held_finished, value_written, Ready, open_ready, Behind, behind, written, named_written, noted_written, slots_written, slots_noted, no_proposal}
 use Rattle.scavenge.proofs.workspace.workspace.Workspace.finish.Goals as goal

@@ -3,4 +3,5 @@ use Rattle.workers_in_threads.proofs.sharing_worker.worker.SharingWorker.new.Goa
 
 pub invariant_of-result : goal.invariant_of-result
 invariant_of-result g c =
-    begun _ _ _ _ _ c.requires.ready c.requires.member c.requires.config c.requires.names c.requires.pass c.requires.cells c.requires.won c.requires.free c.requires.draws c.requires.seat c.requires.lanes c.requires.key c.requires.worker
+    begun _ _ _ _ _ c.requires.shared.ready c.requires.member c.requires.workspace.config c.requires.workspace.names c.requires.pass.0 c.requires.cells c.requires.pass.1 c.requires.shared.free c.requires.draws c.requires.seat
+    c.requires.shared.lanes c.requires.shared.key c.requires.workspace.worker

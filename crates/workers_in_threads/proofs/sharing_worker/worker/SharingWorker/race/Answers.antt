@@ -1,4 +1,4 @@
-use Rattle.std.proofs.Common.{◌≤◌, sym, subst}
+use Rattle.std.proofs.Common.{◌≤◌, sym, subst, rules}
 use Rattle.std.specs.Prelude.{IsSome}
 use Rattle.workers_in_threads.specs.SharingValue.{SharingValue}
 use Rattle.workers_in_threads.proofs.Readiness.{young_in, few_in, ready_in}
@@ -8,14 +8,15 @@ use Rattle.workers_in_threads.proofs.sharing_worker.worker.SharingWorker.race.Go
 pub race-requires-clause-young : goal.race-requires-clause-young
 race-requires-clause-young g c = young_in _ c.self.invariant (subst (λ (v : SharingValue g.row.C.Denot g.row.C-Pass.Denot g.row.A.Denot). IsSome v.workspace.worker.proposal) (sym c.self.view_is) c.requires.proposal)
 
-pub race-requires-clause-slot : goal.race-requires-clause-slot
-race-requires-clause-slot g c = (ready_in _ c.self.invariant).race (subst (λ (v : SharingValue g.row.C.Denot g.row.C-Pass.Denot g.row.A.Denot). IsSome v.workspace.worker.proposal) (sym c.self.view_is) c.requires.proposal)
-
-pub race-requires-clause-few : goal.race-requires-clause-few
-race-requires-clause-few g c = few_in _ c.self.invariant
+pub race-requires-clause-worker : goal.race-requires-clause-worker
+race-requires-clause-worker g c = record {
+  proposal = subst (λ (v : SharingValue g.row.C.Denot g.row.C-Pass.Denot g.row.A.Denot). IsSome v.workspace.worker.proposal) (sym c.self.view_is) c.requires.proposal;
+  slot = (ready_in _ c.self.invariant).race (subst (λ (v : SharingValue g.row.C.Denot g.row.C-Pass.Denot g.row.A.Denot). IsSome v.workspace.worker.proposal) (sym c.self.view_is) c.requires.proposal);
+  few = few_in _ c.self.invariant;
+}
 
 pub invariant_of-self : goal.invariant_of-self
 invariant_of-self g c =
     race_keeps _ _ _ _ _ c.self.invariant (subst (λ (v : SharingValue g.row.C.Denot g.row.C-Pass.Denot g.row.A.Denot). IsSome v.workspace.worker.proposal) (sym c.self.view_is) c.requires.proposal)
-    (λ number at outcome. g.C.Cells.race_gives c.self.inside.cells number at outcome c.race.new.cells) c.race.new.cells c.race.new.pass c.race.ensures.pass c.race.new.workspace c.race.result
-    (subst (λ n. c.self.inside.collection.now.cells ≤ n) (sym c.race.ensures.limit) c.self.invariant.cells) c.race.ensures.ok c.race.ensures.err
+    (λ number at outcome. g.C.Cells.race_gives c.self.inside.cells number at outcome c.race.new.cells) c.race.new.cells c.race.new.pass c.race.ensures.keeps.pass c.race.new.workspace c.race.result
+    (subst (λ n. c.self.inside.collection.now.cells ≤ n) (sym c.race.ensures.keeps.limit) c.self.invariant.cells) c.race.ensures.ok c.race.ensures.err
