@@ -7,6 +7,7 @@ pub mod Looked
 mod Evacuation
 pub mod Raced
 pub mod Readiness
+mod MaySteps
 mod Order
 pub mod Going
 -- What the worker brings to the commit.

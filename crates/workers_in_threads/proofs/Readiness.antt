@@ -26,9 +26,10 @@ use Rattle.workers.proofs.SystemFalls.{Sound, run_sound}
 use Rattle.scavenge.specs.Shown.{name_of}
 use Rattle.scavenge.specs.Slots.{seen}
 use Rattle.steps.specs.NamesArePlaces.{NamesArePlaces}
-use Rattle.heap.proofs.SoundHeap.{heap_places}
+use Rattle.heap.proofs.SoundHeap.{heap_closed, heap_places}
 use Rattle.workers.specs.WorkerSteps.{CanLook, current_slot}
 use Rattle.scavenge.specs.ReadyToCollect.{IsReadyToCollect}
+use Rattle.scavenge.specs.MayStep.{IsOpenFor, MayLook, MayRace}
 use Rattle.scavenge.proofs.Destinations.{destination_below, numbers_below}
 use Rattle.scavenge.proofs.Unchanged.{some_there}
 use Rattle.scavenge.proofs.Starts.{targets_live}
@@ -108,3 +109,13 @@ module _ {C P A : Type 0} {fits : C → P → Type 0} {limit : C → ℕ} {known
 
   pub slot_in : (worker_of v).proposal ≡ None → IsSome (current_slot (seen v.heap v.collection) (worker_of v)) → CanFinish (worker_of v) (worker_of v).starts
   slot_in none some = ready_in.look (can_look none some)
+
+  -- what a look and a race ask of it
+  pub open_in : IsOpenFor v.heap v.collection v.workspace
+  open_in = record { opened = k.ready.opened; closed = heap_closed v.heap k.ready.sound; places = places_in; config = k.config }
+
+  pub may_look_in : v.workspace.worker.proposal ≡ None → MayLook v.heap v.collection v.workspace
+  may_look_in none = record { proposal = none; slot = slot_in none; few = few_in; untouched = untouched_in }
+
+  pub may_race_in : IsSome v.workspace.worker.proposal → MayRace v.workspace
+  may_race_in some = record { proposal = some; slot = ready_in.race some; few = few_in }

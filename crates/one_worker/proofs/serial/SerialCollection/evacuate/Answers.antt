@@ -1,17 +1,16 @@
-use Rattle.std.proofs.Common.{◌≡◌, None, sym, ap, subst, ◌∙◌, inl, inr, rules}
+use Rattle.std.proofs.Common.{◌≡◌, None, sym, ap, subst, ◌∙◌, inl, inr}
 use Rattle.std.specs.Prelude.{IsSome}
 use Rattle.steps.specs.HeapValue.{HeapValue}
 use Rattle.steps.specs.CollectionValue.{CollectionValue, young_names}
 use Rattle.workers.specs.WorkerSteps.{current_slot}
 use Rattle.workers.specs.System.{Look}
 use Rattle.one_worker.specs.SerialValue.{SerialValue, Goes, Stays, IsLeft, LooksThenRaces, setting_in}
-use Rattle.one_worker.proofs.Raced.{few_of}
-use Rattle.one_worker.proofs.Looked.{closed_of, places_of, untouched_of, can_look, slot_here}
+use Rattle.one_worker.proofs.Looked.{slot_here}
 use Rattle.one_worker.proofs.Evacuation.{goes_once, goes_twice, stays, left_why, evacuated_keeps}
-use Rattle.one_worker.proofs.Readiness.{ready_of}
 use Rattle.scavenge.specs.Shown.{WorkspaceValue}
 use Rattle.scavenge.specs.declared.evacuating.Evacuated.{Evacuated}
 use Rattle.scavenge.specs.declared.evacuating.Evacuated.TheVariants.{Looked, Raced}
+use Rattle.one_worker.proofs.MaySteps.{open_for, may_look}
 use Rattle.one_worker.proofs.serial.SerialCollection.evacuate.Goals as goal
 
 two_ways : {r : Evacuated} → r ≡ Looked → r ≡ Raced → ⊥
@@ -23,26 +22,12 @@ evacuate-requires-clause-names g c =
     ∙ ap (λ (d : CollectionValue). young_names c.args.heap.now.graph d.generation) (sym (c.requires.collection ∙ ap (λ (v : SerialValue). v.collection) (sym c.self.view_is)))
 
 pub evacuate-requires-clause-open : goal.evacuate-requires-clause-open
-evacuate-requires-clause-open g c = record {
-  opened = search rules;
-  closed = closed_of _ c.self.invariant c.args.heap.now c.args.collection.now
-      (c.requires.heap ∙ ap (λ (v : SerialValue). v.heap) (sym c.self.view_is)) (c.requires.collection ∙ ap (λ (v : SerialValue). v.collection) (sym c.self.view_is));
-  places = places_of _ c.self.invariant c.args.heap.now c.args.collection.now
-      (c.requires.heap ∙ ap (λ (v : SerialValue). v.heap) (sym c.self.view_is)) (c.requires.collection ∙ ap (λ (v : SerialValue). v.collection) (sym c.self.view_is));
-  config = search rules;
-}
+evacuate-requires-clause-open g c = open_for _ c.self.invariant c.args.heap.now c.args.collection.now (c.requires.heap ∙ ap (λ (v : SerialValue). v.heap) (sym c.self.view_is)) (c.requires.collection ∙ ap (λ (v : SerialValue). v.collection) (sym c.self.view_is))
 
 pub evacuate-requires-clause-worker : goal.evacuate-requires-clause-worker
-evacuate-requires-clause-worker g c = record {
-  proposal = subst (λ (v : SerialValue). v.workspace.worker.proposal ≡ None) (sym c.self.view_is) c.requires.proposal;
-  slot = λ some. (ready_of _ c.self.invariant).look
-      (can_look _ c.self.invariant c.args.heap.now c.args.collection.now
-      (c.requires.heap ∙ ap (λ (v : SerialValue). v.heap) (sym c.self.view_is)) (c.requires.collection ∙ ap (λ (v : SerialValue). v.collection) (sym c.self.view_is)) c.self.inside.pass
-      (subst (λ (v : SerialValue). v.workspace.worker.proposal ≡ None) (sym c.self.view_is) c.requires.proposal) some);
-  few = few_of _ c.self.invariant;
-  untouched = untouched_of _ c.self.invariant c.args.heap.now c.args.collection.now
-      (c.requires.heap ∙ ap (λ (v : SerialValue). v.heap) (sym c.self.view_is)) (c.requires.collection ∙ ap (λ (v : SerialValue). v.collection) (sym c.self.view_is));
-}
+evacuate-requires-clause-worker g c =
+    may_look _ c.self.invariant c.args.heap.now c.args.collection.now (c.requires.heap ∙ ap (λ (v : SerialValue). v.heap) (sym c.self.view_is)) (c.requires.collection ∙ ap (λ (v : SerialValue). v.collection) (sym c.self.view_is))
+    (subst (λ (v : SerialValue). v.workspace.worker.proposal ≡ None) (sym c.self.view_is) c.requires.proposal)
 
 pub invariant_of-self : goal.invariant_of-self
 invariant_of-self g c =

@@ -4,21 +4,13 @@ use Rattle.block_pool.specs.ClaimsValue.{SeatValue}
 use Rattle.workers.specs.WorkerSteps.{current_slot}
 use Rattle.workers.specs.System.{Look}
 use Rattle.one_worker.specs.SerialValue.{SerialValue, Goes, WantsDraw, setting_in}
-use Rattle.one_worker.proofs.Raced.{few_of}
-use Rattle.one_worker.proofs.Looked.{closed_of, places_of, untouched_of, rooms_of, wants_draw, look_goes, look_keeps, can_look, some_slot, none_here}
-use Rattle.one_worker.proofs.Readiness.{ready_of}
+use Rattle.one_worker.proofs.Looked.{rooms_of, wants_draw, look_goes, look_keeps, can_look, some_slot, none_here}
 use Rattle.scavenge.proofs.Destinations.{numbers_below}
+use Rattle.one_worker.proofs.MaySteps.{open_for, may_look}
 use Rattle.one_worker.proofs.serial.SerialCollection.look.Goals as goal
 
 pub look-requires-clause-open : goal.look-requires-clause-open
-look-requires-clause-open g c = record {
-  opened = search rules;
-  closed = closed_of _ c.self.invariant c.args.heap.now c.args.collection.now
-      (c.requires.heap ∙ ap (λ (v : SerialValue). v.heap) (sym c.self.view_is)) (c.requires.collection ∙ ap (λ (v : SerialValue). v.collection) (sym c.self.view_is));
-  places = places_of _ c.self.invariant c.args.heap.now c.args.collection.now
-      (c.requires.heap ∙ ap (λ (v : SerialValue). v.heap) (sym c.self.view_is)) (c.requires.collection ∙ ap (λ (v : SerialValue). v.collection) (sym c.self.view_is));
-  config = search rules;
-}
+look-requires-clause-open g c = open_for _ c.self.invariant c.args.heap.now c.args.collection.now (c.requires.heap ∙ ap (λ (v : SerialValue). v.heap) (sym c.self.view_is)) (c.requires.collection ∙ ap (λ (v : SerialValue). v.collection) (sym c.self.view_is))
 
 pub look-requires-clause-draws : goal.look-requires-clause-draws
 look-requires-clause-draws g c = record {
@@ -27,16 +19,9 @@ look-requires-clause-draws g c = record {
 }
 
 pub look-requires-clause-worker : goal.look-requires-clause-worker
-look-requires-clause-worker g c = record {
-  proposal = subst (λ (v : SerialValue). v.workspace.worker.proposal ≡ None) (sym c.self.view_is) c.requires.proposal;
-  slot = λ some. (ready_of _ c.self.invariant).look
-      (can_look _ c.self.invariant c.args.heap.now c.args.collection.now
-      (c.requires.heap ∙ ap (λ (v : SerialValue). v.heap) (sym c.self.view_is)) (c.requires.collection ∙ ap (λ (v : SerialValue). v.collection) (sym c.self.view_is)) c.self.inside.pass
-      (subst (λ (v : SerialValue). v.workspace.worker.proposal ≡ None) (sym c.self.view_is) c.requires.proposal) some);
-  few = few_of _ c.self.invariant;
-  untouched = untouched_of _ c.self.invariant c.args.heap.now c.args.collection.now
-      (c.requires.heap ∙ ap (λ (v : SerialValue). v.heap) (sym c.self.view_is)) (c.requires.collection ∙ ap (λ (v : SerialValue). v.collection) (sym c.self.view_is));
-}
+look-requires-clause-worker g c =
+    may_look _ c.self.invariant c.args.heap.now c.args.collection.now (c.requires.heap ∙ ap (λ (v : SerialValue). v.heap) (sym c.self.view_is)) (c.requires.collection ∙ ap (λ (v : SerialValue). v.collection) (sym c.self.view_is))
+    (subst (λ (v : SerialValue). v.workspace.worker.proposal ≡ None) (sym c.self.view_is) c.requires.proposal)
 
 pub look-requires-clause-room : goal.look-requires-clause-room
 look-requires-clause-room g c =

@@ -1,4 +1,4 @@
-use Rattle.std.proofs.Common.{sym, ap, subst, ◌∙◌, rules}
+use Rattle.std.proofs.Common.{sym, ap, subst, ◌∙◌}
 use Rattle.std.specs.Prelude.{IsSome}
 use Rattle.steps.specs.HeapValue.{HeapValue}
 use Rattle.steps.specs.CollectionValue.{CollectionValue, young_names}
@@ -6,8 +6,8 @@ use Rattle.model.specs.Live.{IsYoung}
 use Rattle.scavenge.specs.Shown.{name_of}
 use Rattle.workers.specs.System.{Race}
 use Rattle.one_worker.specs.SerialValue.{SerialValue, Goes}
-use Rattle.one_worker.proofs.Raced.{few_of, young_of, race_goes, race_keeps, on_ok}
-use Rattle.one_worker.proofs.Readiness.{ready_of}
+use Rattle.one_worker.proofs.Raced.{young_of, race_goes, race_keeps, on_ok}
+use Rattle.one_worker.proofs.MaySteps.{may_race}
 use Rattle.one_worker.proofs.serial.SerialCollection.race.Goals as goal
 
 pub race-requires-clause-names : goal.race-requires-clause-names
@@ -24,11 +24,7 @@ race-requires-clause-young g c =
     (subst (λ (d : CollectionValue). IsYoung c.self.inside.heap.value.graph d.generation (name_of c.self.inside.workspace.worker.proposal)) (sym collection) (young_of _ c.self.invariant some))
 
 pub race-requires-clause-worker : goal.race-requires-clause-worker
-race-requires-clause-worker g c = record {
-  proposal = subst (λ (v : SerialValue). IsSome v.workspace.worker.proposal) (sym c.self.view_is) c.requires.proposal;
-  slot = (ready_of _ c.self.invariant).race (subst (λ (v : SerialValue). IsSome v.workspace.worker.proposal) (sym c.self.view_is) c.requires.proposal);
-  few = few_of _ c.self.invariant;
-}
+race-requires-clause-worker g c = may_race _ c.self.invariant (subst (λ (v : SerialValue). IsSome v.workspace.worker.proposal) (sym c.self.view_is) c.requires.proposal)
 
 pub invariant_of-self : goal.invariant_of-self
 invariant_of-self g c =

@@ -1,25 +1,15 @@
 use Rattle.std.proofs.Common.{◌≡◌, ◌≤◌, None, sym, subst, rules}
 use Rattle.workers_in_threads.specs.SharingValue.{SharingValue}
-use Rattle.workers_in_threads.proofs.Readiness.{places_in, slot_in, few_in, untouched_in, rooms_in, numbers_in, can_look}
+use Rattle.workers_in_threads.proofs.Readiness.{rooms_in, numbers_in, can_look, open_in, may_look_in}
 use Rattle.workers_in_threads.specs.Sharing as sharing
 use Rattle.workers_in_threads.proofs.Looked.{look_keeps, looks, some_slot}
 use Rattle.workers_in_threads.proofs.sharing_worker.worker.SharingWorker.look.Goals as goal
 
 pub look-requires-clause-open : goal.look-requires-clause-open
-look-requires-clause-open g c = record {
-  opened = search rules;
-  closed = search rules;
-  places = places_in _ c.self.invariant;
-  config = search rules;
-}
+look-requires-clause-open g c = open_in _ c.self.invariant
 
 pub look-requires-clause-worker : goal.look-requires-clause-worker
-look-requires-clause-worker g c = record {
-  proposal = subst (λ (v : SharingValue g.row.C.Denot g.row.C-Pass.Denot g.row.A.Denot). v.workspace.worker.proposal ≡ None) (sym c.self.view_is) c.requires.proposal;
-  slot = λ some. slot_in _ c.self.invariant (subst (λ (v : SharingValue g.row.C.Denot g.row.C-Pass.Denot g.row.A.Denot). v.workspace.worker.proposal ≡ None) (sym c.self.view_is) c.requires.proposal) some;
-  few = few_in _ c.self.invariant;
-  untouched = untouched_in _ c.self.invariant;
-}
+look-requires-clause-worker g c = may_look_in _ c.self.invariant (subst (λ (v : SharingValue g.row.C.Denot g.row.C-Pass.Denot g.row.A.Denot). v.workspace.worker.proposal ≡ None) (sym c.self.view_is) c.requires.proposal)
 
 pub look-requires-clause-room : goal.look-requires-clause-room
 look-requires-clause-room g c = rooms_in _ c.self.invariant

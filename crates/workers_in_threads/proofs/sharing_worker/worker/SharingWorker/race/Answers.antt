@@ -1,7 +1,7 @@
-use Rattle.std.proofs.Common.{◌≤◌, sym, subst, rules}
+use Rattle.std.proofs.Common.{◌≤◌, sym, subst}
 use Rattle.std.specs.Prelude.{IsSome}
 use Rattle.workers_in_threads.specs.SharingValue.{SharingValue}
-use Rattle.workers_in_threads.proofs.Readiness.{young_in, few_in, ready_in}
+use Rattle.workers_in_threads.proofs.Readiness.{young_in, may_race_in}
 use Rattle.workers_in_threads.proofs.Raced.{race_keeps}
 use Rattle.workers_in_threads.proofs.sharing_worker.worker.SharingWorker.race.Goals as goal
 
@@ -9,11 +9,7 @@ pub race-requires-clause-young : goal.race-requires-clause-young
 race-requires-clause-young g c = young_in _ c.self.invariant (subst (λ (v : SharingValue g.row.C.Denot g.row.C-Pass.Denot g.row.A.Denot). IsSome v.workspace.worker.proposal) (sym c.self.view_is) c.requires.proposal)
 
 pub race-requires-clause-worker : goal.race-requires-clause-worker
-race-requires-clause-worker g c = record {
-  proposal = subst (λ (v : SharingValue g.row.C.Denot g.row.C-Pass.Denot g.row.A.Denot). IsSome v.workspace.worker.proposal) (sym c.self.view_is) c.requires.proposal;
-  slot = (ready_in _ c.self.invariant).race (subst (λ (v : SharingValue g.row.C.Denot g.row.C-Pass.Denot g.row.A.Denot). IsSome v.workspace.worker.proposal) (sym c.self.view_is) c.requires.proposal);
-  few = few_in _ c.self.invariant;
-}
+race-requires-clause-worker g c = may_race_in _ c.self.invariant (subst (λ (v : SharingValue g.row.C.Denot g.row.C-Pass.Denot g.row.A.Denot). IsSome v.workspace.worker.proposal) (sym c.self.view_is) c.requires.proposal)
 
 pub invariant_of-self : goal.invariant_of-self
 invariant_of-self g c =
