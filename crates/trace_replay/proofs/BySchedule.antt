@@ -52,6 +52,7 @@ use Rattle.trace_session.proofs.LineLemmas.{OfInput-map, OfGiven-map, moves_as, 
 use Rattle.heap_text.specs.CollectionLine.{cause_word}
 use Rattle.heap_text.specs.ReportText.{workers_text}
 use Rattle.heap_text.specs.declared.cause.Cause.{Cause}
+use Rattle.trace_replay.proofs.FromMachine.{schedule_cases}
 
 -- the collection's line, and then those of its workers
 abbrev pub report_text : Cause → (g kept freed : ℕ) → List WorkerLists → List Delivery → List ℕ
@@ -127,15 +128,7 @@ module _ (heap : HeapValue) (names : List (List ℕ × ℕ)) (config : Config) (
 -- where the schedule stops
 module _ (heap : HeapValue) (names : List (List ℕ × ℕ)) (g n number : ℕ) (in_range : g < heap.config.shape.generations) (front : List ℕ) (i j : Input) {W : Type 0} (old new : W) (failed written : Type 0) where
   pub fault_of_schedule : new ≡ old → (e : Fault)
-      → AtFault (record never {
-        trace = λ at kind. OfInput front i j (λ text. StopsAt (IsUnreadable kind) (setting_at heap g n) (opening_at heap g n) (number + 1) text at);
-        schedule = λ at kind. OfInput front i j (λ text. StopsWith (setting_at heap g n) (opening_at heap g n) number text at kind);
-        full = λ at. MatchOption at ⊥ (λ line. OfInput front i j (λ text. StopsAt (OfLine (IsRefusedBlocks (setting_at heap g n))) (setting_at heap g n) (opening_at heap g n) (number + 1) text line)
-            × IsShortOfBlocks heap g n);
-        memory = λ at. MatchOption at ⊥ (λ line. OfInput front i j (λ text. (line ≡ number)
-            ⊎ StopsAt (OfLine (IsSoundLine (setting_at heap g n))) (setting_at heap g n) (opening_at heap g n) (number + 1) text line));
-        read = OfGiven front i j (IsUsedUp (setting_at heap g n) (opening_at heap g n)) × failed;
-      }) e
+      → AtFault (schedule_cases heap g n number front i j failed) e
       → AtFault (record never { trace = λ at kind. OfInput front i j (λ text. AtEach (StandsFor heap names) (λ config store. AfterCollect g text (λ left. HasTraceFault config n kind (record { heap = heap; names = names; store = store }) number left at))) × (new ≡ old); schedule = λ at kind. OfInput front i j (λ text. AtEach (StandsFor heap names) (λ config store. AfterCollect g text (λ left. HasScheduleFault config n kind (record { heap = heap; names = names; store = store }) number left at))) × (new ≡ old); full = λ at. MatchOption at ⊥ (λ line. OfInput front i j (λ text. AtEach (StandsFor heap names) (λ config store. AfterCollect g text (λ left. WantsBlocks config n (record { heap = heap; names = names; store = store }) number left line)))) × (new ≡ old); memory = λ at. MatchOption at ⊥ (λ line. OfInput front i j (λ text. AtEach (StandsFor heap names) (λ config store. AfterCollect g text (λ left. IsSoundAt config n (record { heap = heap; names = names; store = store }) number left line [])))) × (new ≡ old); read = OfGiven front i j (λ text. AtEach (StandsFor heap names) (λ config store. AfterCollect g text (LeavesNothingWhole config n (record { heap = heap; names = names; store = store })))) × (new ≡ old) × failed; write = written }) e
   fault_of_schedule same (BadTrace at kind) f = (OfInput-map front i j f (λ text stop config store stands. trace_fault_in heap names config store stands g in_range n number text kind at stop), same)
   fault_of_schedule same (BadSchedule at kind) f = (OfInput-map front i j f (λ text stop config store stands. schedule_fault_in heap names config store stands g in_range n number text kind at stop), same)

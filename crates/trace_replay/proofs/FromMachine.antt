@@ -19,7 +19,7 @@ use Rattle.trace_text.specs.declared.schedule.ScheduleKind.TheVariants.{NotEnded
 use Rattle.trace_text.specs.declared.schedule.ScheduleLine.TheVariants.{Commit}
 use Rattle.trace_session.specs.declared.trace_lines.fault.Fault.{Fault}
 use Rattle.trace_session.specs.declared.trace_lines.fault.Fault.TheVariants.{BadTrace, BadSchedule, HeapFull, NoMemory, Unsettled, ReadFailed, WriteFailed}
-use Rattle.trace_session.specs.Faults.{never, AtFault}
+use Rattle.trace_session.specs.Faults.{FaultCases, never, AtFault}
 use Rattle.trace_session.specs.Lines.{LinesValue, Moves}
 use Rattle.trace_session.specs.Pieces.{Piece, finished, pieces}
 use Rattle.machine.specs.MachineValue.{MachineValue, setting_in}
@@ -29,6 +29,16 @@ use Rattle.trace_replay.specs.Runs.{Finishes, IsSchedule}
 use Rattle.trace_replay.specs.Stops.{IsUnreadable, IsFaulty, IsRefusedBlocks, IsSoundLine, IsUsedUp, OfLine, StopsAt, StopsWith, ComesToStuck, IsStuckAfter, IsFullInTurn, faulty, not_ended}
 use Rattle.trace_session.proofs.LineLemmas.{OfInput-map, moves_as, stops_moved}
 use Rattle.trace_replay.specs.Brought.{IsBrought, BringsToCommit, ComesToCommit}
+
+-- where the schedule of a collection stops whose `collect` is this line, fault by fault
+abbrev pub schedule_cases : HeapValue → (g n start : ℕ) → (front : List ℕ) → (i j : Input) → (failed : Type 0) → FaultCases
+schedule_cases heap g n start front i j failed = record never {
+  trace = λ at kind. OfInput front i j (λ text. StopsAt (IsUnreadable kind) (setting_at heap g n) (opening_at heap g n) (start + 1) text at);
+  schedule = λ at kind. OfInput front i j (λ text. StopsWith (setting_at heap g n) (opening_at heap g n) start text at kind);
+  full = λ at. MatchOption at ⊥ (λ line. OfInput front i j (λ text. StopsAt (OfLine (IsRefusedBlocks (setting_at heap g n))) (setting_at heap g n) (opening_at heap g n) (start + 1) text line) × IsShortOfBlocks heap g n);
+  memory = λ at. MatchOption at ⊥ (λ line. OfInput front i j (λ text. (line ≡ start) ⊎ StopsAt (OfLine (IsSoundLine (setting_at heap g n))) (setting_at heap g n) (opening_at heap g n) (start + 1) text line));
+  read = OfGiven front i j (IsUsedUp (setting_at heap g n) (opening_at heap g n)) × failed;
+}
 
 -- what can't be refused holds
 set_if : (o : Option Bool) → ((o ≡ Some true → ⊥) → ⊥) → o ≡ Some true
@@ -64,15 +74,7 @@ module _ (heap : HeapValue) (g n : ℕ) (first : MachineValue) (opens : Opens he
         memory = λ at. MatchOption at ⊥ (λ line. OfInput front i j (λ text. StopsAt (OfLine (IsSoundLine (setting_in first))) (setting_in first) first.system (start + 1) text line));
         read = OfGiven front i j (IsUsedUp (setting_in first) first.system) × failed;
       }) e
-      → AtFault (record never {
-        trace = λ at kind. OfInput front i j (λ text. StopsAt (IsUnreadable kind) (setting_at heap g n) (opening_at heap g n) (start + 1) text at);
-        schedule = λ at kind. OfInput front i j (λ text. StopsWith (setting_at heap g n) (opening_at heap g n) start text at kind);
-        full = λ at. MatchOption at ⊥ (λ line. OfInput front i j (λ text. StopsAt (OfLine (IsRefusedBlocks (setting_at heap g n))) (setting_at heap g n) (opening_at heap g n) (start + 1) text line)
-            × IsShortOfBlocks heap g n);
-        memory = λ at. MatchOption at ⊥ (λ line. OfInput front i j (λ text. (line ≡ start)
-            ⊎ StopsAt (OfLine (IsSoundLine (setting_at heap g n))) (setting_at heap g n) (opening_at heap g n) (start + 1) text line));
-        read = OfGiven front i j (IsUsedUp (setting_at heap g n) (opening_at heap g n)) × failed;
-      }) e
+      → AtFault (schedule_cases heap g n start front i j failed) e
   fault_at_heap start front i j failed (BadTrace at kind) f = at_heap (λ k s. OfInput front i j (λ text. StopsAt (IsUnreadable kind) k s (start + 1) text at)) f
   fault_at_heap start front i j failed (BadSchedule at kind) f = at_heap (λ k s. OfInput front i j (λ text. StopsWith k s start text at kind)) f
   fault_at_heap start front i j failed (HeapFull None) f = f
