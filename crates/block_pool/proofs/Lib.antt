@@ -18,3 +18,5 @@ pub mod PoolLemmas
 pub mod ObjectLemmas
 pub mod WriteLemmas
 pub mod ReadLemmas
+pub mod BeginLemmas
+pub mod CopyLemmas

@@ -1,5 +1,5 @@
 -- A block as its objects, in the order in which they were put in.
-use Rattle.std.specs.Prelude.{ℕ, ◌-◌, List, [], None, length, take, replicate, slice_set, Option, refl}
+use Rattle.std.specs.Prelude.{◌≡◌, ℕ, ◌-◌, ◌<◌, List, [], Some, None, length, take, replicate, slice_get, slice_set, Option, refl}
 use Rattle.std.specs.List.{sum_by}
 use Rattle.std.specs.Coded.{Coded, code_by, coded×, coded_list, coded_option, coded_ℕ}
 use Rattle.layout.specs.Object.{Raw, raw_code, raw_size}
@@ -44,6 +44,13 @@ used_of block = words_of block.objects
 -- where the object with that ordinal begins: after those before it
 abbrev pub offset_of : List Raw → ℕ → ℕ
 offset_of objects k = words_of (take k objects)
+
+-- the object with these words begins at that offset of the block
+pub record BeginsAt (block : BlockValue) (offset : ℕ) (raw : Raw) : Type 0 where
+  pub ordinal : ℕ
+  pub within : ordinal < length block.objects
+  pub begins : offset_of block.objects ordinal ≡ offset
+  pub there : slice_get block.objects ordinal ≡ Some raw
 
 -- the objects without the last
 abbrev pub without_last : List Raw → List Raw

@@ -20,10 +20,10 @@ const POINTER_UNIT: u64 = 1 << 24;
 /// A block of words that holds objects one after the other, from its first word on.
 #[derive(Drop)]
 pub struct Block<A: Allocator = Global> {
-    words: Vec<u64, A>,
-    offsets: Vec<u16, A>,
-    len: usize,
-    used: usize,
+    pub(crate) words: Vec<u64, A>,
+    pub(crate) offsets: Vec<u16, A>,
+    pub(crate) len: usize,
+    pub(crate) used: usize,
     front: usize,
     number: u32,
     generation: u8,

@@ -1,6 +1,7 @@
 //! Blocks of words that hold objects, the pool of block numbers, sets of numbers, and claims by which threads draw them.
 #![tactic(auto)]
 
+mod begun;
 mod block;
 mod claims;
 mod number_sets;

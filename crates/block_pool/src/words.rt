@@ -8,6 +8,12 @@ ghost use Rattle.block_pool.specs.Words.{raw_at, span, ordinal_of, IsWritten};
 
 use layout::{Header, ObjectRef};
 
+/// Plain words are counted in a header word by this, and the count of pointers stands below it.
+const PLAIN_UNIT: u64 = 1 << 24;
+
+/// Ordinals are counted in a header word by this.
+const ORDINAL_UNIT: u64 = 1 << 48;
+
 /// Copies words to a place, one by one, since most objects are small.
 #[inline(always)]
 fn copy_to(words: &mut [u64], at: usize, from: &[u64])
@@ -42,6 +48,73 @@ pub(crate) fn write_object(words: &mut [u64], at: usize, ordinal: u16, object: O
     words[at] = header.to_word();
     copy_to(words, at + 1, object.pointers);
     copy_to(words, at + 1 + object.pointers.len(), object.words);
+}
+
+/// How many words the object at a place takes, its header among them.
+#[inline(always)]
+pub(crate) fn size_at(words: &[u64], at: usize) -> usize
+    requires { at < length words.now }
+    ensures { result ≡ span words.now at }
+{
+    let header = words[at];
+    1 + (header % PLAIN_UNIT) as usize + (header / PLAIN_UNIT % PLAIN_UNIT) as usize
+}
+
+/// Copies the word with that index behind a place.
+#[inline(always)]
+fn copy_next(words: &mut [u64], at: usize, from: &[u64], offset: usize, i: usize)
+    requires room { at + i < length words.old }
+    requires there { offset + i < length from.now }
+    requires before { take i (drop at words.old) ≡ take i (drop offset from.now) }
+    ensures kept { take at words.new ≡ take at words.old }
+    ensures copied { take (i + 1) (drop at words.new) ≡ take (i + 1) (drop offset from.now) }
+{
+    words[at + i] = from[offset + i];
+}
+
+/// Copies so many words to a place, and where both lists have them and no more are wanted, three at once: most objects are small.
+/// What stands behind those that are wanted may change.
+#[inline(always)]
+fn copy_words(words: &mut [u64], at: usize, from: &[u64], offset: usize, count: usize)
+    requires room { at + count ≤ length words.old }
+    requires there { offset + count ≤ length from.now }
+    requires few { length words.old ≤ 512 }
+    requires few_there { length from.now ≤ 512 }
+    ensures kept { take at words.new ≡ take at words.old }
+    ensures copied { take count (drop at words.new) ≡ take count (drop offset from.now) }
+{
+    if count <= 3 && at + 3 <= words.len() && offset + 3 <= from.len() {
+        copy_next(words, at, from, offset, 0);
+        copy_next(words, at, from, offset, 1);
+        copy_next(words, at, from, offset, 2);
+        return;
+    }
+    for i in 0..count {
+        copy_next(words, at, from, offset, i);
+    }
+}
+
+/// Copies an object to a place, where it gets that ordinal, and tells how many words it takes.
+#[inline(always)]
+pub(crate) fn copy_object(
+    words: &mut [u64],
+    at: usize,
+    ordinal: u16,
+    from: &[u64],
+    offset: usize,
+) -> usize
+    requires room { at + span from.now offset ≤ length words.old }
+    requires there { offset + span from.now offset ≤ length from.now }
+    requires few { length words.old ≤ 512 }
+    requires few_there { length from.now ≤ 512 }
+    ensures size { result ≡ span from.now offset }
+    ensures written { IsWritten words.old words.new at ordinal (raw_at from.now offset) }
+{
+    let size = size_at(from, offset);
+    let header = from[offset];
+    words[at] = header % ORDINAL_UNIT + ordinal as u64 * ORDINAL_UNIT;
+    copy_words(words, at + 1, from, offset + 1, size - 1);
+    size
 }
 
 /// Writes an object of nil pointers and zeros with that ordinal from a place on.

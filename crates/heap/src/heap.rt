@@ -3,9 +3,9 @@ ghost use Rattle.std.specs.Prelude.{◌≡◌, ◌≢◌, ◌+◌, ◌/◌, ◌<
 ghost use Rattle.std.specs.Option.{option_map};
 ghost use Rattle.model.specs.Graph.{root_at, without_root};
 ghost use Rattle.model.specs.Commands.{is_too_big, is_large_size};
-ghost use Rattle.layout.specs.Place.{place_word};
+ghost use Rattle.layout.specs.Place.{place_word, small_word};
 ghost use Rattle.steps.specs.HeapValue.{empty_heap, nursery_count};
-ghost use Rattle.heap.specs.Found.{IsFound};
+ghost use Rattle.heap.specs.Found.{IsFound, IsFoundIn};
 ghost use Rattle.heap.specs.IsHeap.{IsHeap};
 ghost use Rattle.heap.specs.Commands.{Allocates, AllocatesSmall, AllocatesLarge, wanted_blocks, room_for, heap_census};
 ghost use Rattle.std.specs.Prelude.{MatchOption, IsSomeAnd, IsNone, ◌⊎◌, slice_get, slice_set, slice_index, length, sum_by, Err};
@@ -22,12 +22,12 @@ ghost use Rattle.steps.specs.SettledValue.{IsSettled};
 ghost use Rattle.steps.specs.CollectedHeap.{CollectedHeap};
 
 use crate::counts::step_counts;
-use crate::found::Found;
+use crate::found::{Found, FoundSmall};
 use crate::opening::opened;
 use crate::remembering::commit;
 use crate::roots::Roots;
 use heap_objects::HeapObjects;
-use layout::{ObjectRef, Place};
+use layout::{ObjectRef, Place, SmallPlace};
 use remembered_set::Remembered;
 use std::alloc::{AllocError, Allocator, Global};
 use std::marker::Model;
@@ -389,6 +389,22 @@ impl<A: Allocator + Clone> Heap<A> {
             Some(_) => Some(self.find_there(collection, place)),
             None => None,
         }
+    }
+
+    /// The block in which the small object at a place lies where there is one, with the object's generation and step, and with its
+    /// number in a collection that was opened on this heap as it is now, where its generation is collected. It reads the
+    /// object's header alone.
+    #[inline(always)]
+    pub fn find_small(&self, collection: &Collection<A>, at: SmallPlace) -> FoundSmall<'_, A>
+        requires opened { IsOpened self.now collection.now.generation collection.now }
+        requires there { IsSome (object_at self.now.graph (small_word at.block at.offset)) }
+        ensures { IsFoundIn self.now collection.now (small_word at.block at.offset) at.offset result.block.now
+            (step_pair result.at) result.number }
+    {
+        let (block, at, number) = self
+            .objects
+            .find_small(collection.numbering(), collection.generation(), at);
+        FoundSmall { block, at, number }
     }
 
     /// Ends a collection: the heap is what the workers brought back. Where memory runs out the heap is as before.

@@ -11,7 +11,7 @@ mod opening;
 mod remembering;
 mod roots;
 
-pub use found::Found;
+pub use found::{Found, FoundSmall};
 pub use heap::{
     AllocateError, FieldError, Heap, LoadError, MakeError, NoRoot, OpenError, StoreError,
 };

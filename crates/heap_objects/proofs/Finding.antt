@@ -10,12 +10,12 @@ use Rattle.model.proofs.Options.{some_is}
 use Rattle.layout.specs.ObjectRef.{raw_of}
 use Rattle.layout.specs.declared.object.ObjectRef.{ObjectRef}
 use Rattle.layout.specs.Place.{small_word, large_word}
-use Rattle.block_pool.specs.BlockValue.{BlockValue, offset_of}
+use Rattle.block_pool.specs.BlockValue.{BlockValue, BeginsAt, offset_of}
 use Rattle.block_pool.specs.PoolValue.{PoolValue}
 use Rattle.steps.specs.StepPairs.{step_pair, stands_at}
 use Rattle.steps.specs.declared.step_id.StepId.{StepId}
 use Rattle.steps.specs.BlockObjects.{object_of}
-use Rattle.steps.specs.Words.{IsShownAs}
+use Rattle.steps.specs.Words.{IsShownAs, LiesIn}
 use Rattle.nursery.specs.Begins.{HasObjectAt}
 use Rattle.nursery.specs.Table.{slot_at, objects_before, objects_map, young_table}
 use Rattle.nursery.specs.NurseryValue.{NurseryValue}
@@ -43,6 +43,37 @@ module _ (config : Config) (table : List (Option BlockValue)) (nurseries : List 
   begins_there =
       let b = beginning.begins in
       record { block = b.block; ordinal = beginning.ordinal; there = b.there; in_block = b.in_block; at = b.at }
+
+  pub block_there : (block : BlockValue) × (slot_at table number ≡ Some block)
+  block_there = (beginning.begins.block, beginning.begins.there)
+
+  -- the block with that number is the one in which the object lies
+  pub lies_in : (block : BlockValue) → slot_at table number ≡ Some block → IsSomeAnd (get (objects_map table) (small_word number offset)) (λ o. LiesIn o offset block)
+  lies_in block is =
+      let b = beginning.begins in
+      let same : b.block ≡ block = some_is (sym b.there ∙ is) in
+      let found = object_found table (sound_fits config table nurseries pool sound) (few_blocks config table nurseries pool sound) number offset beginning.ordinal beginning.raw lt b in
+      subst (λ o. IsSomeAnd o (λ x. LiesIn x offset block)) (sym found)
+      (record { raw = beginning.raw; begins = subst (λ x. BeginsAt x offset beginning.raw) same (record { ordinal = beginning.ordinal; within = b.in_block; begins = b.at; there = b.is }); shown = record { pointers = refl; plain = refl } })
+
+  -- where the objects of the block stand, and whether they are collected
+  module _ (block : BlockValue) (is : slot_at table number ≡ Some block) where
+    same : beginning.begins.block ≡ block
+    same = some_is (sym beginning.begins.there ∙ is)
+
+    in_map : get (objects_map table) (small_word number offset) ≡ Some (object_of beginning.begins.block.generation beginning.begins.block.step beginning.raw)
+    in_map = object_found table (sound_fits config table nurseries pool sound) (few_blocks config table nurseries pool sound) number offset beginning.ordinal beginning.raw lt beginning.begins
+
+    pub stands_there : Some (block.generation, block.step) ≡ option_map stands_at (get (objects_map table) (small_word number offset))
+    stands_there = ap (λ (b : BlockValue). Some (b.generation, b.step)) (sym same) ∙ sym (ap (option_map stands_at) in_map)
+
+    pub too_old : (g : ℕ) → g < block.generation → IsYoung (graph_in (space_of config table nurseries pool)) g (small_word number offset) → ⊥
+    too_old g above young =
+        let e = some_is (sym young.there ∙ in_map) in
+        absurd (omega (arith, young.young, above, ap (λ (b : BlockValue). b.generation) same, ap (λ (o : Object). o.generation) e))
+
+    pub young_enough : (g : ℕ) → block.generation ≤ g → IsYoung (graph_in (space_of config table nurseries pool)) g (small_word number offset)
+    young_enough g le = is_young_there config table nurseries pool sound g number offset beginning.ordinal beginning.raw lt beginning.begins (omega (arith, le, ap (λ (b : BlockValue). b.generation) same))
 
   module _ (object : ObjectRef)
       (read : (block : BlockValue) (k : ℕ) → slot_at table number ≡ Some block → k < length block.objects → offset_of block.objects k ≡ offset → (object.header.ordinal ≡ k) × (slice_get block.objects k ≡ Some (raw_of object))) where

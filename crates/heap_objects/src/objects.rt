@@ -5,13 +5,13 @@ ghost use Rattle.std.specs.Option.{option_map};
 ghost use Rattle.model.specs.Graph.{Object, IsClosed, with_pointer, size_of, is_large};
 ghost use Rattle.model.specs.Census.{step_count, points_younger};
 ghost use Rattle.model.specs.Live.{IsYoung};
-ghost use Rattle.layout.specs.Place.{place_word, large_word};
+ghost use Rattle.layout.specs.Place.{place_word, small_word, large_word};
 ghost use Rattle.layout.specs.ObjectRef.{raw_of};
 ghost use Rattle.steps.specs.ConfigRange.{IsInRange};
 ghost use Rattle.steps.specs.StepPairs.{step_pair, stands_at};
 ghost use Rattle.steps.specs.HeapValue.{nursery_count};
 ghost use Rattle.steps.specs.Remembered.{is_holder};
-ghost use Rattle.steps.specs.Words.{IsShownAs};
+ghost use Rattle.steps.specs.Words.{IsShownAs, LiesIn};
 ghost use Rattle.steps.specs.CensusView.{step_value};
 ghost use Rattle.steps.specs.SlotView.{slot_value};
 ghost use Rattle.steps.specs.CollectionValue.{IsNumbering, young_names, field_slot_of};
@@ -27,7 +27,7 @@ use crate::renewing::renew;
 use block_pool::{Block, GrantError, RankedSet};
 use forwarding::Forwards;
 use large_objects::LargeTable;
-use layout::{LargeNumber, ObjectRef, Place, word_of};
+use layout::{LargeNumber, ObjectRef, Place, SmallPlace, word_of};
 use std::alloc::{AllocError, Allocator, Global};
 use std::marker::Model;
 use steps::{Config, LargeCount, Numbering, Slot, Spare, StepCount, StepId};
@@ -328,6 +328,29 @@ impl<A: Allocator + Clone> HeapObjects<A> {
             return (object, at, None);
         }
         (object, at, Some(numbering.large()[number.number as usize]))
+    }
+
+    /// The block in which the small object at a place lies where there is one, its generation and step, and its number where its
+    /// generation is at most `generation`. It reads the object's header alone.
+    #[inline(always)]
+    pub fn find_small(
+        &self,
+        numbering: &Numbering<A>,
+        generation: u8,
+        at: SmallPlace,
+    ) -> (&Block<A>, StepId, Option<u32>)
+        requires numbering { IsNumbering (graph_in self.now) generation numbering.now }
+        requires there { IsSome (get self.now.objects (small_word at.block at.offset)) }
+        ensures block { IsSomeAnd (get self.now.objects (small_word at.block at.offset))
+            (λ o. LiesIn o at.offset result.0.now) }
+        ensures step { Some (step_pair result.1) ≡
+            option_map stands_at (get self.now.objects (small_word at.block at.offset)) }
+        ensures number { MatchOption result.2
+            (IsYoung (graph_in self.now) generation (small_word at.block at.offset) → ⊥)
+            (λ n. IsYoung (graph_in self.now) generation (small_word at.block at.offset) ×
+            IsNumbered self.now generation (small_word at.block at.offset) n) }
+    {
+        self.space.find_small(numbering.blocks(), generation, at)
     }
 
     /// The object at a place where there is one, its generation and step, and its number where its generation is at

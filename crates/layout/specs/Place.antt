@@ -20,6 +20,10 @@ abbrev pub pointer_word : Option Place → ℕ
 pointer_word None = 0
 pointer_word (Some place) = place_word place
 
+-- the word is a pointer's
+abbrev pub IsPointer : ℕ → Type 0
+IsPointer word = (pointer : Option Place) × (pointer_word pointer ≡ word)
+
 -- the place is a small object's, at that offset of that block
 abbrev pub IsSmallAt : Place → ℕ → ℕ → Type 0
 IsSmallAt (Small at) block offset = (at.block ≡ block) × (at.offset ≡ offset)

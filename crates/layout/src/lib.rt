@@ -9,4 +9,4 @@ mod pointer;
 pub use header::{Header, MOST_FIELDS, TooBig, is_large, size};
 pub use object::ObjectRef;
 pub use place::{LargeNumber, Place, SmallPlace};
-pub use pointer::word_of;
+pub use pointer::{pointer_of, word_of};

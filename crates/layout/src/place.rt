@@ -31,10 +31,10 @@ const MOST_NUMBERS: u64 = 65535;
 const MOST_OFFSETS: u64 = 512;
 
 /// How far apart the words of two neighbouring blocks are.
-const BLOCK_UNIT: u64 = 1 << 16;
+pub(crate) const BLOCK_UNIT: u64 = 1 << 16;
 
 /// The word of the large object with the number 0.
-const FIRST_LARGE: u64 = 1 << 63;
+pub(crate) const FIRST_LARGE: u64 = 1 << 63;
 
 impl Place {
     ghost use Rattle.layout.specs.Place.{small_word, large_word, place_word, pointer_word, IsSmallAt, IsLargeAt};

@@ -10,7 +10,8 @@ use Rattle.workers.specs.Block.{Copy, front_copy}
 use Rattle.workers.specs.Worker.{Hand, Open, Holding}
 use Rattle.workers.specs.Joined.{OnSome}
 use Rattle.scavenge.specs.Named.{named, named_copies, named_copy}
-use Rattle.scavenge.specs.Fronts.{slot_at, IsPointer, raw_field, front_raw, front_field}
+use Rattle.layout.specs.Place.{IsPointer}
+use Rattle.scavenge.specs.Fronts.{slot_at, raw_field, front_raw, front_field}
 use Rattle.scavenge.specs.Shown.{WorkspaceValue, IsNoted, KnownSlot, Holds, HoldsPointer, CanRead, known_in, known_from, known_slot}
 use Rattle.scavenge.proofs.WorkspaceSlotLemmas.{get_map}
 use Rattle.scavenge.proofs.Renewing.{shown_at}

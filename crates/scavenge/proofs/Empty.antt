@@ -7,7 +7,8 @@ use Rattle.model.specs.Live.{IsYoung}
 use Rattle.layout.specs.declared.place.Place.{Place}
 use Rattle.block_pool.specs.ClaimsValue.{SeatValue}
 use Rattle.heap.specs.declared.found.Found.{Found}
-use Rattle.heap.specs.Found.{IsFound, HasNumber}
+use Rattle.block_pool.specs.BlockValue.{BlockValue}
+use Rattle.heap.specs.Found.{IsFound, IsFoundIn, HasNumber}
 use Rattle.heap.specs.HeapValue.{HeapValue}
 use Rattle.heap.specs.CollectionValue.{CollectionValue}
 use Rattle.workers.specs.Setting.{is_collected}
@@ -24,6 +25,9 @@ on_ok (Err x) f p = p
 -- what has a number is collected
 pub numbered : (heap : HeapValue) (c : CollectionValue) (name : ℕ) (found : Found) (number : ℕ) → found.number ≡ Some number → IsFound heap c name found → IsYoung heap.graph c.generation name × HasNumber heap c name number
 numbered heap c name found number is f = subst (λ o. MatchOption o (IsYoung heap.graph c.generation name → ⊥) (λ n. IsYoung heap.graph c.generation name × HasNumber heap c name n)) is f.number
+
+pub numbered_in : (heap : HeapValue) (c : CollectionValue) (name offset : ℕ) (block : BlockValue) (at : ℕ × ℕ) (found : Option ℕ) (number : ℕ) → found ≡ Some number → IsFoundIn heap c name offset block at found → IsYoung heap.graph c.generation name × HasNumber heap c name number
+numbered_in heap c name offset block at found number is f = subst (λ o. MatchOption o (IsYoung heap.graph c.generation name → ⊥) (λ n. IsYoung heap.graph c.generation name × HasNumber heap c name n)) is f.number
 
 pub collected : (heap : HeapValue) (c : CollectionValue) (name : ℕ) → IsYoung heap.graph c.generation name → is_collected (seen heap c) name ≡ true
 collected heap c name young = ap (λ o. option_map_or (λ (x : Object). nat_le x.generation c.generation) o false) young.there ∙ le-leb _ _ young.young

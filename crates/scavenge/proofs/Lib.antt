@@ -25,3 +25,5 @@ mod Reserved
 mod Empty
 mod AtOnce
 pub mod Swept
+pub mod CursorLemmas
+pub mod CopyRaces

@@ -8,7 +8,7 @@ use Rattle.layout.specs.Object.{Raw}
 use Rattle.layout.specs.Place.{place_word, pointer_word}
 use Rattle.heap.specs.NamesArePlaces.{NamesArePlaces}
 use Rattle.heap.specs.Words.{target_of_word, IsShownAs}
-use Rattle.scavenge.specs.Fronts.{IsPointer}
+use Rattle.layout.specs.Place.{IsPointer}
 use Rattle.scavenge.proofs.Fields.{target_of_pointer}
 use Rattle.scavenge.proofs.WorkspaceSlotLemmas.{get_map}
 

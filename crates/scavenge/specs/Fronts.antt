@@ -1,9 +1,7 @@
 -- Blocks by destination, and their first unscanned objects.
-use Rattle.std.specs.Prelude.{◌≡◌, ℕ, ◌+◌, Bool, false, List, length, Option, Some, None, slice_get, nat_le, nat_lt, option_and_then}
+use Rattle.std.specs.Prelude.{ℕ, ◌+◌, Bool, false, List, length, Option, Some, None, slice_get, nat_le, nat_lt, option_and_then}
 use Rattle.std.specs.Option.{option_map}
-use Rattle.layout.specs.declared.place.Place.{Place}
 use Rattle.layout.specs.Object.{Raw}
-use Rattle.layout.specs.Place.{pointer_word}
 use Rattle.block_pool.specs.BlockValue.{BlockValue, used_of}
 use Rattle.steps.specs.Words.{target_of_word}
 
@@ -15,10 +13,6 @@ slot_at slots d = option_and_then (λ b. b) (slice_get slots d)
 abbrev pub is_unscanned : Option BlockValue → Bool
 is_unscanned None = false
 is_unscanned (Some block) = nat_lt block.front (length block.objects)
-
--- the word is a pointer's
-abbrev pub IsPointer : ℕ → Type 0
-IsPointer word = (pointer : Option Place) × (pointer_word pointer ≡ word)
 
 -- the first unscanned object
 abbrev pub front_raw : Option BlockValue → Option Raw

@@ -15,5 +15,6 @@ pub mod Waiting
 pub mod Slots
 pub mod MayStep
 pub mod Evacuates
--- A worker that is opened for a sweep.
+-- A worker that is opened for a sweep, and where it stands.
 pub mod Swept
+pub mod Cursors

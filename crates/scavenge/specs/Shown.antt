@@ -5,7 +5,7 @@ use Rattle.model.specs.Destination.{Shape}
 use Rattle.model.specs.Config.{Config}
 use Rattle.layout.specs.declared.place.Place.{Place}
 use Rattle.layout.specs.Object.{Raw}
-use Rattle.layout.specs.Place.{place_word, small_word}
+use Rattle.layout.specs.Place.{place_word, small_word, IsPointer}
 use Rattle.block_pool.specs.BlockValue.{BlockValue, offset_of}
 use Rattle.steps.specs.Words.{target_of_word}
 use Rattle.workers.specs.Block.{Block, Copy, used_words}
@@ -13,7 +13,7 @@ use Rattle.workers.specs.Worker.{Worker, Proposal, Copied, Claimed, Hand, Nothin
 use Rattle.workers.specs.WorkerRun.{proposed_name}
 use Rattle.workers.specs.Joined.{Each, OnSome}
 use Rattle.scavenge.specs.Named.{named, IsDestination}
-use Rattle.scavenge.specs.Fronts.{slot_at, IsPointer}
+use Rattle.scavenge.specs.Fronts.{slot_at}
 use Rattle.scavenge.specs.declared.workspace.current.Current.{Current}
 use Rattle.scavenge.specs.declared.workspace.current.Current.TheVariants as current
 use Rattle.scavenge.specs.declared.workspace.hand.Hand.{Hand as InHand}

@@ -1,18 +1,11 @@
--- The blocks of a sweep, and what it proposes.
+-- The blocks of a sweep.
 use Rattle.std.specs.Prelude.{ℕ, Bool, true, false, List, Option, Some, None, slice_set}
 use Rattle.block_pool.specs.BlockValue.{BlockValue}
 use Rattle.workers.specs.Worker.{Hand, Nothing, Open, Holding, HoldingLarge}
-use Rattle.scavenge.specs.declared.sweep.copied.Copied.{Copied}
-use Rattle.scavenge.specs.declared.workspace.proposed.Proposed.{Proposed}
 
 -- the blocks by destination, with the one that is copied into in its place
 abbrev pub with_block : List (Option BlockValue) → ℕ → BlockValue → List (Option BlockValue)
 with_block slots d block = slice_set slots d (Some block)
-
--- what is proposed is the copy for that destination
-abbrev pub proposed_of : ℕ → Option Copied → Option Proposed
-proposed_of d None = None
-proposed_of d (Some copied) = Some (record { name = copied.name; place = copied.place; destination = Some d })
 
 -- a block is in hand that was retired or taken
 abbrev pub is_holding : Hand → Bool

@@ -8,10 +8,9 @@ ghost use Rattle.workers.specs.WorkerSteps.{current_slot};
 ghost use Rattle.workers.specs.Ready.{IsUntouched};
 ghost use Rattle.scavenge.specs.Slots.{objects_of};
 
-use crate::to_space::pointer_of;
 use crate::workspace::{Current, Workspace};
 use heap::Heap;
-use layout::Place;
+use layout::{Place, pointer_of};
 use std::alloc::Allocator;
 
 /// Pointer `i` of an object of the heap, where it has one.

@@ -74,12 +74,14 @@ impl<A: Allocator> Cells for PlainCells<A> {
         self.words.len() as u32
     }
 
+    #[inline(always)]
     fn look(&mut self, pass: &mut PlainPass, name: u32) -> Option<Place> {
         let shown = place_in(self.words[name as usize])?;
         pass.learn(name, shown);
         Some(shown)
     }
 
+    #[inline(always)]
     fn race(
         &mut self,
         pass: &mut PlainPass,

@@ -5,12 +5,12 @@ ghost use Rattle.std.specs.Option.{option_map};
 ghost use Rattle.model.specs.Graph.{Object, with_pointer};
 ghost use Rattle.model.specs.Census.{step_count};
 ghost use Rattle.model.specs.Live.{IsYoung};
-ghost use Rattle.layout.specs.Place.{place_word};
+ghost use Rattle.layout.specs.Place.{place_word, small_word};
 ghost use Rattle.layout.specs.ObjectRef.{raw_of};
 ghost use Rattle.steps.specs.ConfigRange.{IsInRange};
 ghost use Rattle.steps.specs.StepPairs.{step_pair, stands_at};
 ghost use Rattle.steps.specs.HeapValue.{nursery_count};
-ghost use Rattle.steps.specs.Words.{IsShownAs};
+ghost use Rattle.steps.specs.Words.{IsShownAs, LiesIn};
 ghost use Rattle.steps.specs.CensusView.{step_value};
 ghost use Rattle.steps.specs.CollectionValue.{young_names};
 ghost use Rattle.model.specs.Reached.{has};
@@ -25,11 +25,11 @@ ghost use Rattle.heap_objects.specs.HeapSpaceCollecting.{AreBases, IsNumbered, C
 use crate::heap_space::nurseries::{nurseries_of, nursery_table, reset_all};
 use block_pool::{Block, GrantError, Pool, RankedSet};
 use large_objects::LargeTable;
-use layout::{LargeNumber, ObjectRef, Place, word_of};
+use layout::{LargeNumber, ObjectRef, Place, SmallPlace, word_of};
 use nursery::{
-    AreaFlags, Nursery, Table, add_blocks, areas_of, bases, block_object, count_step, end_of,
-    exchange, grow, object_from, ordinal_at, remove_blocks, set_plain, set_pointer, step_at,
-    young_blocks,
+    AreaFlags, Nursery, Table, add_blocks, areas_of, bases, block_object, block_of, count_step,
+    end_of, exchange, grow, object_from, ordinal_at, remove_blocks, set_plain, set_pointer,
+    step_at, young_blocks,
 };
 use std::alloc::{AllocError, Allocator, Global};
 use std::marker::Model;
@@ -279,6 +279,39 @@ impl<A: Allocator + Clone> Space<A> {
         };
         let number = at.block as usize;
         bases[number] + ordinal_at(table, number, at.offset as usize) as u32
+    }
+
+    /// The block in which the object at a place lies where there is one, its generation and step, and its number where its
+    /// generation is at most `generation`. It reads the object's header alone.
+    #[inline(always)]
+    pub fn find_small(
+        &self,
+        bases: &[u32],
+        generation: u8,
+        at: SmallPlace,
+    ) -> (&Block<A>, StepId, Option<u32>)
+        requires bases { AreBases self.now generation bases.now }
+        requires there { IsSome (get self.now.objects (small_word at.block at.offset)) }
+        ensures block { IsSomeAnd (get self.now.objects (small_word at.block at.offset))
+            (λ o. LiesIn o at.offset result.0.now) }
+        ensures step { Some (step_pair result.1) ≡
+            option_map stands_at (get self.now.objects (small_word at.block at.offset)) }
+        ensures number { MatchOption result.2
+            (IsYoung (graph_in self.now) generation (small_word at.block at.offset) → ⊥)
+            (λ n. IsYoung (graph_in self.now) generation (small_word at.block at.offset) ×
+            IsNumbered self.now generation (small_word at.block at.offset) n) }
+    {
+        let number = at.block as usize;
+        let block = block_of(&self.table, number);
+        let step = StepId {
+            generation: block.generation(),
+            step: block.step(),
+        };
+        if step.generation > generation {
+            return (block, step, None);
+        }
+        let named = bases[number] + block.ordinal_at(at.offset as usize) as u32;
+        (block, step, Some(named))
     }
 
     /// The object at a place where there is one, its generation and step, and its number where its generation is at

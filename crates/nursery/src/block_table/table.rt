@@ -36,6 +36,18 @@ pub fn block_object<A: Allocator>(
     }
 }
 
+/// The block with a number, where there is one.
+#[inline(always)]
+pub fn block_of<A: Allocator>(table: &[Option<Block<A>>], number: usize) -> &Block<A>
+    requires { (block : BlockValue) × (slice_index_or table.now number None ≡ Some block) }
+    ensures { slice_index_or table.now number None ≡ Some result.now }
+{
+    match &table[number] {
+        Some(block) => block,
+        None => unreachable!(),
+    }
+}
+
 /// The object that begins at an offset of a block where one does.
 #[inline]
 pub fn object_from<A: Allocator>(

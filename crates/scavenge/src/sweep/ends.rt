@@ -1,31 +1,37 @@
 //! How a sweep begins and ends.
-ghost use Rattle.std.specs.Prelude.{◌≡◌, None, IsSome, IfOk, IfErr};
+ghost use Rattle.std.specs.Prelude.{◌≡◌, ◌<◌, None, length, IsSome, IfOk, IfErr};
+ghost use Rattle.block_pool.specs.BlockValue.{BlockValue};
+ghost use Rattle.workers.specs.Joined.{OnSome};
 ghost use Rattle.scavenge.specs.Shown.{held_in};
-ghost use Rattle.scavenge.specs.Swept.{proposed_of};
 
-use crate::sweep::copied::Copied;
+use crate::sweep::cursor::cursor_of;
+use crate::sweep::going::going_from;
 use crate::sweep::sweep::Sweep;
-use crate::workspace::{Hand, Proposed, Workspace};
+use crate::workspace::{Hand, Workspace};
 use std::alloc::Allocator;
 use steps::{Config, StepId};
 
-/// The number of the destination whose copies stand in the block that is held in hand, where one is.
+/// The number of the destination whose copies stand in the block that is held in hand, where one is that has something unscanned.
 fn held_for<A: Allocator>(hand: &Hand<A>, config: Config) -> Option<usize>
-    ensures { IsSome result → IsSome (held_in hand.now) }
+    ensures held { IsSome result → IsSome (held_in hand.now) }
+    ensures unscanned { IsSome result → OnSome (λ (b : BlockValue). b.front < length b.objects) (held_in hand.now) }
 {
-    match hand {
-        Hand::Holding(block) => Some(config.dest_number(StepId {
-            generation: block.generation(),
-            step: block.step(),
-        })),
-        _ => None,
+    let Hand::Holding(block) = hand else {
+        return None;
+    };
+    if block.front() >= block.len() {
+        return None;
     }
+    Some(config.dest_number(StepId {
+        generation: block.generation(),
+        step: block.step(),
+    }))
 }
 
 impl<A: Allocator> Workspace<A> {
     /// Opens the workspace for a sweep over the block in hand, which copies into the block for the same destination, with room
     /// for what one block brings. `Err` gives it back: the start list isn't finished, something is proposed, no block is held in
-    /// hand, there is none to copy into, or memory ran out.
+    /// hand with something unscanned, there is none to copy into, or memory ran out.
     #[inline(always)]
     pub fn opened(mut self) -> Result<Sweep<A>, Workspace<A>>
         ensures ok { IfOk result (λ sweep. sweep ≡ self) }
@@ -71,14 +77,23 @@ impl<A: Allocator> Workspace<A> {
         let Some(into) = allocation.take(destination) else {
             unreachable!();
         };
+        let cursor = cursor_of(&held);
+        let going = going_from(
+            config,
+            StepId {
+                generation: held.generation(),
+                step: held.step(),
+            },
+        );
         Ok(Sweep {
             config,
             claim,
             starts,
             started,
             fields,
-            copied: None,
             held,
+            cursor,
+            going,
             into,
             destination,
             allocation,
@@ -97,18 +112,6 @@ impl<A: Allocator> Workspace<A> {
     }
 }
 
-/// A copy that is proposed for a destination.
-fn proposed_for(destination: usize, copied: Option<Copied>) -> Option<Proposed>
-    ensures { result ≡ proposed_of destination copied }
-{
-    let Copied { name, place } = copied?;
-    Some(Proposed {
-        name,
-        place,
-        destination: Some(destination),
-    })
-}
-
 impl<A: Allocator> Sweep<A> {
     /// The workspace after the sweep.
     #[inline(always)]
@@ -121,8 +124,9 @@ impl<A: Allocator> Sweep<A> {
             starts,
             started,
             fields,
-            copied,
             held,
+            cursor: _,
+            going: _,
             into,
             destination,
             mut allocation,
@@ -145,7 +149,7 @@ impl<A: Allocator> Sweep<A> {
             starts,
             started,
             fields,
-            proposed: proposed_for(destination, copied),
+            proposed: None,
             hand: Hand::Holding(held),
             allocation,
             aside,

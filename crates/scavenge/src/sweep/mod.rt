@@ -1,7 +1,9 @@
 //! A worker's part, opened for a sweep over the block in hand.
-mod copied;
+mod cursor;
 mod ends;
 mod evacuating;
+mod going;
+mod racing;
 mod slots;
 mod sweep;
 

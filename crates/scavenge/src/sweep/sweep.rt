@@ -1,5 +1,6 @@
 //! `Sweep`: a worker's part, with the block in hand and the one that is copied into in fields of their own.
-use crate::sweep::copied::Copied;
+use crate::sweep::cursor::Cursor;
+use crate::sweep::going::Going;
 use crate::to_space::AllocationBlocks;
 use block_pool::Block;
 use boxcar::tag::Tag;
@@ -10,7 +11,7 @@ use std::collections::VecDeque;
 use std::marker::Model;
 use steps::Config;
 
-/// A worker's part whose start list is finished and which holds a block in hand. That block, the one that is copied into, and
+/// A worker's part whose start list is finished, which proposes nothing, and which holds a block in hand with something unscanned. That block, the one that is copied into, and
 /// the lists stand in fields of their own, so that a loop that owns it can keep them in registers. Its value is that of the
 /// workspace that was opened.
 #[derive(Drop)]
@@ -20,9 +21,11 @@ pub struct Sweep<A: Allocator = Global> {
     pub(crate) starts: Vec<Place, A>,
     pub(crate) started: usize,
     pub(crate) fields: usize,
-    pub(crate) copied: Option<Copied>,
-    /// The block in hand.
+    /// The block in hand, and its first unscanned object.
     pub(crate) held: Block<A>,
+    pub(crate) cursor: Cursor,
+    /// Where the object that was copied last went, and those go that stand where it stood.
+    pub(crate) going: Going,
     /// The block that is copied into, and the number of its destination. The others have theirs in `allocation`.
     pub(crate) into: Block<A>,
     pub(crate) destination: usize,
@@ -41,14 +44,15 @@ pub struct Sweep<A: Allocator = Global> {
 }
 
 impl<A: Allocator> Model for Sweep<A> {
-    ghost use Rattle.std.specs.Prelude.{Some, ◌<◌, ◌≤◌, All, length, map, drop, vec_len, vec_capacity};
+    ghost use Rattle.std.specs.Prelude.{Some, None, ◌<◌, ◌≤◌, All, length, map, drop, vec_len, vec_capacity};
     ghost use Rattle.std.specs.VecDeque.{deque_len, deque_capacity};
     ghost use Rattle.steps.specs.ReportValue.{renaming_of};
     ghost use Rattle.steps.specs.ReportView.{won_value};
     ghost use Rattle.workers.specs.Worker.{Holding};
     ghost use Rattle.scavenge.specs.Named.{named};
-    ghost use Rattle.scavenge.specs.Swept.{with_block, proposed_of};
-    ghost use Rattle.scavenge.specs.Shown.{WorkspaceValue, slots_of, blocks_of, words_of, proposal_of, AreNoted, AreMade, HasRoom};
+    ghost use Rattle.scavenge.specs.Swept.{with_block};
+    ghost use Rattle.scavenge.specs.Cursors.{StandsAt, IsGoing};
+    ghost use Rattle.scavenge.specs.Shown.{WorkspaceValue, slots_of, blocks_of, words_of, AreNoted, AreMade, HasRoom};
 
     ghost Value = { WorkspaceValue };
 
@@ -62,7 +66,7 @@ impl<A: Allocator> Model for Sweep<A> {
       worker = record {
         starts = drop s.started (words_of s.starts.items);
         fields = s.fields;
-        proposal = proposal_of (with_block s.allocation s.destination s.into) (proposed_of s.destination s.copied);
+        proposal = None;
         hand = Holding (named s.config.shape s.held);
         allocation = slots_of s.config.shape (with_block s.allocation s.destination s.into);
         aside = blocks_of s.config.shape s.aside.items;
@@ -74,10 +78,12 @@ impl<A: Allocator> Model for Sweep<A> {
       };
     } };
 
-    ghost invariant = { λ s. AreNoted (with_block s.allocation s.destination s.into) s.aside.items s.done.items (Some s.held) (proposed_of s.destination s.copied)
+    ghost invariant = { λ s. AreNoted (with_block s.allocation s.destination s.into) s.aside.items s.done.items (Some s.held) None
         × AreMade s.config (with_block s.allocation s.destination s.into) s.aside.items s.done.items (Some s.held)
-        × HasRoom (vec_len s.won, vec_capacity s.won) (vec_len s.done, vec_capacity s.done) (deque_len s.aside, deque_capacity s.aside) (deque_len s.claimed, deque_capacity s.claimed) s.won_room s.block_room s.spare (proposed_of s.destination s.copied)
+        × HasRoom (vec_len s.won, vec_capacity s.won) (vec_len s.done, vec_capacity s.done) (deque_len s.aside, deque_capacity s.aside) (deque_len s.claimed, deque_capacity s.claimed) s.won_room s.block_room s.spare None
         × All (λ e. e.0 < length s.names.numbers) (map won_value s.won.items)
         × (s.destination < length s.allocation)
-        × (length s.starts.items ≤ s.started) };
+        × (length s.starts.items ≤ s.started)
+        × StandsAt s.held s.cursor
+        × IsGoing s.config.shape s.going };
 }

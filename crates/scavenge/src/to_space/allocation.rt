@@ -3,10 +3,10 @@ ghost use Rattle.std.specs.Prelude.{◌≡◌, ◌+◌, ◌≤◌, ◌<◌, ◌+
 ghost use Rattle.std.specs.Option.{option_map};
 ghost use Rattle.layout.specs.Object.{Raw, raw_size};
 ghost use Rattle.layout.specs.ObjectRef.{raw_of};
-ghost use Rattle.layout.specs.Place.{place_word, small_word};
+ghost use Rattle.layout.specs.Place.{place_word, small_word, IsPointer};
 ghost use Rattle.block_pool.specs.BlockValue.{BlockValue, offset_of, used_of, with_pointer_word, without_last};
 ghost use Rattle.workers.specs.Joined.{OnSome};
-ghost use Rattle.scavenge.specs.Fronts.{slot_at, is_unscanned, IsPointer, raw_field, front_raw, front_field, fits_at};
+ghost use Rattle.scavenge.specs.Fronts.{slot_at, is_unscanned, raw_field, front_raw, front_field, fits_at};
 
 use crate::to_space::fronts::{front_pointer, pass_front, write_front};
 use block_pool::Block;

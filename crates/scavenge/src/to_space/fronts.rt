@@ -2,26 +2,14 @@
 ghost use Rattle.std.specs.Prelude.{◌≡◌, ◌+◌, ◌<◌, Some, length, slice_get, slice_set, nat_lt};
 ghost use Rattle.std.specs.Option.{option_map};
 ghost use Rattle.layout.specs.Object.{Raw};
-ghost use Rattle.layout.specs.Place.{place_word, pointer_word, small_word};
+ghost use Rattle.layout.specs.Place.{place_word, small_word, IsPointer};
 ghost use Rattle.block_pool.specs.BlockValue.{offset_of, with_pointer_word};
 ghost use Rattle.workers.specs.Joined.{OnSome};
-ghost use Rattle.scavenge.specs.Fronts.{IsPointer, raw_field, front_raw, front_field};
+ghost use Rattle.scavenge.specs.Fronts.{raw_field, front_raw, front_field};
 
 use block_pool::Block;
-use layout::Place;
+use layout::{Place, pointer_of};
 use std::alloc::Allocator;
-
-/// The pointer with this word.
-#[inline(always)]
-pub fn pointer_of(word: u64) -> Option<Place>
-    requires { IsPointer word }
-    ensures { pointer_word result ≡ word }
-{
-    match Place::from_word(word) {
-        Some(pointer) => pointer,
-        None => unreachable!(),
-    }
-}
 
 /// Pointer `i` of the first unscanned object, where there is one.
 #[inline(always)]

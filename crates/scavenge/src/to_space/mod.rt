@@ -4,4 +4,4 @@ mod fronts;
 
 pub use allocation::AllocationBlocks;
 pub(crate) use allocation::{note, push, take_back};
-pub use fronts::{front_pointer, pass_front, pointer_of, write_front};
+pub use fronts::{front_pointer, pass_front, write_front};

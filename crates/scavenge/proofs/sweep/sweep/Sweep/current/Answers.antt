@@ -7,15 +7,15 @@ use Rattle.scavenge.proofs.Fields.{all_left}
 use Rattle.scavenge.proofs.Copying.{held_known, front_pointers, read_of}
 use Rattle.scavenge.proofs.sweep.sweep.Sweep.current.Goals as goal
 
-pub front_pointer-requires : goal.front_pointer-requires
-front_pointer-requires g c =
+pub pointer_at-requires-clause-pointer : goal.pointer_at-requires-clause-pointer
+pointer_at-requires-clause-pointer g c =
     let starts : drop c.self.inside.started (words_of c.self.inside.starts.items) ≡ [] = all_left place_word c.self.inside.starts.items c.self.inside.started c.self.invariant.5 in
     front_pointers c.self.inside.fields (Some c.self.inside.held) (read_of c.self.view_is _ starts (held_known c.self.view_is c.self.inside.config.shape c.self.inside.held starts refl c.self.invariant.0.in_hand) c.requires.pointer)
 
 pub returns-clause-slot : goal.returns-clause-slot
 returns-clause-slot g c =
     let starts : drop c.self.inside.started (words_of c.self.inside.starts.items) ≡ [] = all_left place_word c.self.inside.starts.items c.self.inside.started c.self.invariant.5 in
-    ap Holds c.front_pointer.ensures ∙ held_known c.self.view_is c.self.inside.config.shape c.self.inside.held starts refl c.self.invariant.0.in_hand
+    ap Holds c.pointer_at.ensures ∙ held_known c.self.view_is c.self.inside.config.shape c.self.inside.held starts refl c.self.invariant.0.in_hand
 
 pub returns-clause-started : goal.returns-clause-started
 returns-clause-started g c = ap (λ (v : WorkspaceValue). v.worker.starts) (sym c.self.view_is) ∙ all_left place_word c.self.inside.starts.items c.self.inside.started c.self.invariant.5

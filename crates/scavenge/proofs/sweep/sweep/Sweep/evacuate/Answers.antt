@@ -1,79 +1,58 @@
-use Rattle.std.proofs.Common.{◌≡◌, ◌<◌, arith, length, true, Some, None, sym, ap, subst, ◌∙◌}
-use Rattle.std.specs.Prelude.{is_some, slice_index}
+use Rattle.std.proofs.Common.{◌≡◌, true, Some, None, sym, ap, subst, ◌∙◌}
+use Rattle.std.specs.Prelude.{is_some}
 use Rattle.std.specs.Option.{option_map}
-use Rattle.layout.specs.Place.{place_word}
-use Rattle.heap.specs.CollectionValue.{young_names}
-use Rattle.workers.specs.WorkerSteps.{current_slot}
+use Rattle.model.specs.Graph.{object_at}
+use Rattle.layout.specs.Object.{raw_size}
+use Rattle.layout.specs.Place.{place_word, small_word}
+use Rattle.heap.specs.StepPairs.{step_pair}
 use Rattle.workers.specs.Setting.{is_collected}
-use Rattle.scavenge.specs.Shown.{WorkspaceValue, name_of}
-use Rattle.scavenge.specs.Told.{Tells}
-use Rattle.scavenge.specs.Slots.{seen, Looks}
-use Rattle.scavenge.proofs.Empty.{numbered, collected, looks_none}
-use Rattle.scavenge.proofs.AtOnce.{looks_old, is_old}
+use Rattle.workers.specs.Worker.{allocation_at}
+use Rattle.workers.specs.WorkerSteps.{current_slot, after_race}
+use Rattle.scavenge.specs.Shown.{WorkspaceValue, IsBid, name_of, has_place_for, with_copy_proposed}
+use Rattle.scavenge.specs.Told.{Tells, lost_of}
+use Rattle.scavenge.specs.Slots.{seen, objects_of}
+use Rattle.scavenge.specs.Evacuates.{ProposesThere}
+use Rattle.scavenge.proofs.Empty.{numbered_in, collected, looks_none}
+use Rattle.scavenge.proofs.AtOnce.{lies, lies_there, proposes_there}
 use Rattle.scavenge.proofs.sweep.sweep.Sweep.evacuate.Goals as goal
 
-pub returns-in_default-number-clause-looked : goal.returns-in_default-number-clause-looked
-returns-in_default-number-clause-looked g c = λ _ seat.
-    let current : current_slot (seen c.args.heap.now c.args.collection.now) c.args.self.now.worker ≡ Some (Some (place_word c.in-Some-target.name)) = sym c.slot_in.ensures.slot ∙ ap (option_map (option_map place_word)) c.in-Some.is ∙ ap (λ t. Some (option_map place_word t)) c.in-Some-target.is in
-    looks_old c.args.heap.now c.args.collection.now (g.C.Cells.look_gives c.args.cells.now) (g.C.Cells.known c.args.pass.now) seat c.args.self.now c.finish-in_default-number.new.self (place_word c.in-Some-target.name) current
-    (is_old c.args.heap.now c.args.collection.now (place_word c.in-Some-target.name) c.find_there-found.result c.in_default-number.is c.find_there-found.ensures) c.finish-in_default-number.ensures
-
-pub race_in-requires-clause-known : goal.race_in-requires-clause-known
-race_in-requires-clause-known g c =
-    let found = numbered c.args.heap.now c.args.collection.now (place_word c.in-Some-target.name) c.find_there-found.result c.in-Some-number.number c.in-Some-number.is c.find_there-found.ensures in
-    let p = c.propose_in.ensures.proposed c.if-not-propose_in.false in
-    let lt : c.in-Some-number.number < length (young_names c.args.heap.now.graph c.args.collection.now.generation) = omega (arith, found.1.in_range, c.requires.open.opened.cells) in
-    subst (λ names. c.in-Some-number.number < length names) (sym (ap (λ (v : WorkspaceValue). v.names) p.worker ∙ c.requires.names)) lt
-
-pub race_in-requires-clause-name : goal.race_in-requires-clause-name
-race_in-requires-clause-name g c =
-    let found = numbered c.args.heap.now c.args.collection.now (place_word c.in-Some-target.name) c.find_there-found.result c.in-Some-number.number c.in-Some-number.is c.find_there-found.ensures in
-    let p = c.propose_in.ensures.proposed c.if-not-propose_in.false in
-    ap (λ names. slice_index names c.in-Some-number.number) (ap (λ (v : WorkspaceValue). v.names) p.worker ∙ c.requires.names) ∙ found.1.is ∙ sym (ap (λ (v : WorkspaceValue). name_of v.worker.proposal) p.worker)
-
-pub returns-in-Ok-clause-raced : goal.returns-in-Ok-clause-raced
-returns-in-Ok-clause-raced g c = λ _.
-    let found = numbered c.args.heap.now c.args.collection.now (place_word c.in-Some-target.name) c.find_there-found.result c.in-Some-number.number c.in-Some-number.is c.find_there-found.ensures in
-    let young : is_collected (seen c.args.heap.now c.args.collection.now) (place_word c.in-Some-target.name) ≡ true = collected c.args.heap.now c.args.collection.now (place_word c.in-Some-target.name) found.0 in
-    let current : current_slot (seen c.args.heap.now c.args.collection.now) c.args.self.now.worker ≡ Some (Some (place_word c.in-Some-target.name)) = sym c.slot_in.ensures.slot ∙ ap (option_map (option_map place_word)) c.in-Some.is ∙ ap (λ t. Some (option_map place_word t)) c.in-Some-target.is in
-    let tells : Tells c.args.heap.now c.args.collection.now (g.C.Cells.look_gives c.args.cells.now) (g.C.Cells.known c.args.pass.now) (g.C.Cells.known c.look.new.pass) (place_word c.in-Some-target.name) None =
+pub returns-clause-raced : goal.returns-clause-raced
+returns-clause-raced g c = λ _.
+    let word = small_word c.in-Small.at.block c.in-Small.at.offset in
+    let there = c.find_small-number.ensures in
+    let d = c.in-Some-goes_to.d in
+    let found = numbered_in c.args.heap.now c.args.collection.now word c.in-Small.at.offset c.find_small-number.result.block.now (step_pair c.find_small-number.result.at) c.find_small-number.result.number c.in-Some-number.number c.in-Some-number.is there in
+    let young : is_collected (seen c.args.heap.now c.args.collection.now) word ≡ true = collected c.args.heap.now c.args.collection.now word found.0 in
+    let current : current_slot (seen c.args.heap.now c.args.collection.now) c.args.self.now.worker ≡ Some (Some word) =
+    sym c.slot_in.ensures.slot ∙ ap (option_map (option_map place_word)) c.in-Some.is ∙ ap (λ t. Some (option_map place_word t)) c.in-Some-target.is ∙ ap (λ p. Some (Some (place_word p))) c.in-Small.is in
+    let tells : Tells c.args.heap.now c.args.collection.now (g.C.Cells.look_gives c.args.cells.now) (g.C.Cells.known c.args.pass.now) (g.C.Cells.known c.look.new.pass) word None =
     record { number = c.in-Some-number.number; of = record { in_range = found.1.in_range; is = found.1.is }; given = c.in_default-look.ensures.exact; learns = c.in_default-look.ensures.known }
     in
-    let p = c.propose_in.ensures.proposed c.if-not-propose_in.false in
-    let r = c.in-Ok.ensures.ok in
+    let l = lies (object_at c.args.heap.now.graph word) c.in-Small.at.offset c.find_small-number.result.block.now (lies_there c.args.heap.now c.args.collection.now word c.in-Small.at.offset c.find_small-number.result.block.now (step_pair c.find_small-number.result.at) c.find_small-number.result.number there).0 in
+    let same : c.goes_to.new.self ≡ c.args.self.now = c.in-Some-goes_to.ensures.same in
+    let fits = subst (λ (w : WorkspaceValue). has_place_for w.config.block_words (raw_size l.0) (allocation_at w.worker d) ≡ true) same (c.race.ensures.fits c.if-not-race.false l.0 l.1.0) in
+    let r = c.race.ensures.raced c.if-not-race.false l.0 l.1.0 in
+    let proposing : WorkspaceValue = record c.args.self.now { worker = with_copy_proposed c.args.self.now.worker word l.0 d } in
+    let p : ProposesThere (objects_of c.args.heap.now) word c.args.self.now proposing =
+    proposes_there c.args.heap.now c.args.self.now word d l.0 c.requires.open.config l.1.1 c.in-Some-goes_to.ensures.goes.small c.in-Some-goes_to.ensures.goes.of fits in
     record {
       between = c.look.new.pass;
-      proposing = c.propose_in.new.sweep;
+      proposing = proposing;
       fit = subst (λ cells. g.C.Cells.fits cells c.look.new.pass) c.look.ensures.cells c.look.ensures.keeps.pass;
       still = c.look.ensures.won;
-      looks = λ seat. looks_none c.args.heap.now c.args.collection.now (g.C.Cells.look_gives c.args.cells.now) (g.C.Cells.known c.args.pass.now) (g.C.Cells.known c.look.new.pass) seat seat c.args.self.now c.propose_in.new.sweep (place_word c.in-Some-target.name) current young tells (p.proposes seat);
+      looks = λ seat. looks_none c.args.heap.now c.args.collection.now (g.C.Cells.look_gives c.args.cells.now) (g.C.Cells.known c.args.pass.now) (g.C.Cells.known c.look.new.pass) seat seat c.args.self.now proposing word current young tells (p.proposes seat);
       proposed = ap (λ (v : WorkspaceValue). is_some v.worker.proposal) p.worker;
       races = record {
         outcome = r.outcome;
         bid = r.bid;
-        fits = r.fits;
+        fits = subst (λ (w : WorkspaceValue). IsBid w.claim (with_copy_proposed w.worker word l.0 d).proposal r.bid) same r.fits;
         ends = record {
           number = c.in-Some-number.number;
           of = record { in_range = found.1.in_range; is = found.1.is ∙ sym (ap (λ (v : WorkspaceValue). name_of v.worker.proposal) p.worker) };
-          given = subst (λ cells. g.C.Cells.race_gives cells c.in-Some-number.number r.bid r.outcome c.race_in.new.cells) c.look.ensures.cells r.given;
+          given = subst (λ cells. g.C.Cells.race_gives cells c.in-Some-number.number r.bid r.outcome c.race.new.cells) c.look.ensures.cells r.given;
           learns = r.learns;
           won = r.won;
         };
-        worker = r.worker;
+        worker = subst (λ (w : WorkspaceValue). (let x : WorkspaceValue = record w { worker = after_race (with_copy_proposed w.worker word l.0 d) (lost_of (with_copy_proposed w.worker word l.0 d).proposal r.outcome) } in c.race.new.self ≡ x)) same r.worker;
       };
     }
-
-pub returns-in-Err-clause-looked : goal.returns-in-Err-clause-looked
-returns-in-Err-clause-looked g c = λ _ seat.
-    let found = numbered c.args.heap.now c.args.collection.now (place_word c.in-Some-target.name) c.find_there-found.result c.in-Some-number.number c.in-Some-number.is c.find_there-found.ensures in
-    let young : is_collected (seen c.args.heap.now c.args.collection.now) (place_word c.in-Some-target.name) ≡ true = collected c.args.heap.now c.args.collection.now (place_word c.in-Some-target.name) found.0 in
-    let current : current_slot (seen c.args.heap.now c.args.collection.now) c.args.self.now.worker ≡ Some (Some (place_word c.in-Some-target.name)) = sym c.slot_in.ensures.slot ∙ ap (option_map (option_map place_word)) c.in-Some.is ∙ ap (λ t. Some (option_map place_word t)) c.in-Some-target.is in
-    let tells : Tells c.args.heap.now c.args.collection.now (g.C.Cells.look_gives c.args.cells.now) (g.C.Cells.known c.args.pass.now) (g.C.Cells.known c.look.new.pass) (place_word c.in-Some-target.name) None =
-    record { number = c.in-Some-number.number; of = record { in_range = found.1.in_range; is = found.1.is }; given = c.in_default-look.ensures.exact; learns = c.in_default-look.ensures.known }
-    in
-    let p = c.propose_in.ensures.proposed c.if-not-propose_in.false in
-    let e = c.in-Err.ensures.err in
-    let looked : Looks c.args.heap.now c.args.collection.now (g.C.Cells.look_gives c.args.cells.now) (g.C.Cells.known c.args.pass.now) (g.C.Cells.known c.look.new.pass) seat seat c.args.self.now c.propose_in.new.sweep =
-    looks_none c.args.heap.now c.args.collection.now (g.C.Cells.look_gives c.args.cells.now) (g.C.Cells.known c.args.pass.now) (g.C.Cells.known c.look.new.pass) seat seat c.args.self.now c.propose_in.new.sweep (place_word c.in-Some-target.name) current young tells (p.proposes seat) in
-    subst (λ known. Looks c.args.heap.now c.args.collection.now (g.C.Cells.look_gives c.args.cells.now) (g.C.Cells.known c.args.pass.now) (g.C.Cells.known known) seat seat c.args.self.now c.race_in.new.sweep) (sym e.2)
-    (subst (λ (w : WorkspaceValue). Looks c.args.heap.now c.args.collection.now (g.C.Cells.look_gives c.args.cells.now) (g.C.Cells.known c.args.pass.now) (g.C.Cells.known c.look.new.pass) seat seat c.args.self.now w) (sym e.0) looked)

@@ -1,4 +1,6 @@
-use Rattle.std.proofs.Common.{◌≡◌, length, Some, None, refl, sym, ap, subst, ◌∙◌, arith}
+use Rattle.std.proofs.Common.{◌≡◌, ◌<◌, length, Some, None, refl, sym, ap, subst, ◌∙◌, arith}
+use Rattle.block_pool.specs.BlockValue.{BlockValue}
+use Rattle.workers.specs.Joined.{OnSome}
 use Rattle.scavenge.specs.Fronts.{slot_at}
 use Rattle.scavenge.specs.Shown.{AreNoted, AreMade, held_in}
 use Rattle.scavenge.specs.Swept.{with_block}
@@ -7,7 +9,7 @@ use Rattle.scavenge.proofs.workspace.workspace.Workspace.opened.Goals as goal
 
 pub unreachable-requires : goal.unreachable-requires
 unreachable-requires g c =
-    let is = held_is c.self.inside.hand (c.in-Some.ensures refl) in
+    let is = held_is c.self.inside.hand (c.in-Some.ensures.held refl) in
     c.in_default-hand.not-Holding is.0 is.1
 
 pub take-requires : goal.take-requires
@@ -20,6 +22,10 @@ unreachable-requires-in_default-take g c =
     let there = some_is (slot_at c.self.inside.allocation c.in-Some.destination) (c.has_block.ensures.0 c.if-not-has_block.false) in
     let e : None ≡ Some there.0 = sym c.in_default-take.is ∙ c.take.ensures.old ∙ there.1 in
     cc
+
+pub cursor_of-cursor-requires : goal.cursor_of-cursor-requires
+cursor_of-cursor-requires g c =
+    subst (λ h. OnSome (λ (b : BlockValue). b.front < length b.objects) (held_in h)) c.in-Holding.is (c.in-Some.ensures.unscanned refl)
 
 pub invariant_of-result : goal.invariant_of-result
 invariant_of-result g c =
@@ -35,6 +41,8 @@ invariant_of-result g c =
       c.self.invariant.3,
       omega (arith, ap length c.take.ensures.table, short, there_below c.self.inside.allocation c.in-Some.destination c.in-Some-take.into there),
       omega (arith, c.if-self-len.false, c.len.ensures),
+      c.cursor_of-cursor.ensures,
+      c.going_from-going.ensures.going,
     )
 
 pub returns-clause-ok : goal.returns-clause-ok
