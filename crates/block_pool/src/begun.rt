@@ -4,11 +4,8 @@ ghost use Rattle.layout.specs.Object.{Raw, raw_size};
 ghost use Rattle.block_pool.specs.BlockValue.{used_of, BeginsAt};
 
 use crate::block::Block;
-use crate::words::{copy_object, size_at};
+use crate::words::{POINTER_UNIT, copy_object, size_at};
 use std::alloc::Allocator;
-
-/// How many pointers an object has stands below this in its header word.
-const POINTER_UNIT: u64 = 1 << 24;
 
 impl<A: Allocator> Block<A> {
     /// How many pointers the object has that begins at an offset in words where one does. It reads the header alone.
@@ -39,7 +36,8 @@ impl<A: Allocator> Block<A> {
         self.words[offset + 1 + i]
     }
 
-    /// Puts a copy of an object of another block at the end, which begins there at an offset in words, and returns its own offset.
+    /// Puts a copy of an object of another block at the end, which begins there at an offset in words, and returns its own
+    /// offset.
     #[inline(always)]
     pub fn push_copy(&mut self, from: &Block<A>, offset: usize) -> usize
         requires { (raw : Raw) × BeginsAt from.now offset raw × (used_of self.old + raw_size raw ≤ self.old.words) }

@@ -5,17 +5,11 @@ ghost use Rattle.layout.specs.Header.{size_of};
 ghost use Rattle.layout.specs.ObjectRef.{raw_of};
 ghost use Rattle.block_pool.specs.BlockValue.{BlockValue, used_of, offset_of, without_last, new_object, empty_block, with_pointer_word, with_plain_word};
 
-use crate::words::{read_object, write_new, write_object};
+use crate::words::{ORDINAL_UNIT, POINTER_UNIT, read_object, write_new, write_object};
 use boxcar::tag::{Names, Tag};
 use layout::ObjectRef;
 use std::alloc::{AllocError, Allocator, Global};
 use std::marker::Model;
-
-/// Ordinals are counted in a header word by this.
-const ORDINAL_UNIT: u64 = 1 << 48;
-
-/// How many pointers an object has stands below this in its header word.
-const POINTER_UNIT: u64 = 1 << 24;
 
 /// A block of words that holds objects one after the other, from its first word on.
 #[derive(Drop)]

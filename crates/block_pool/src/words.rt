@@ -8,11 +8,11 @@ ghost use Rattle.block_pool.specs.Words.{raw_at, span, ordinal_of, IsWritten};
 
 use layout::{Header, ObjectRef};
 
-/// Plain words are counted in a header word by this, and the count of pointers stands below it.
-const PLAIN_UNIT: u64 = 1 << 24;
+/// How many pointers an object has stands below this in its header word, and plain words are counted by it.
+pub(crate) const POINTER_UNIT: u64 = 1 << 24;
 
 /// Ordinals are counted in a header word by this.
-const ORDINAL_UNIT: u64 = 1 << 48;
+pub(crate) const ORDINAL_UNIT: u64 = 1 << 48;
 
 /// Copies words to a place, one by one, since most objects are small.
 #[inline(always)]
@@ -57,7 +57,7 @@ pub(crate) fn size_at(words: &[u64], at: usize) -> usize
     ensures { result ≡ span words.now at }
 {
     let header = words[at];
-    1 + (header % PLAIN_UNIT) as usize + (header / PLAIN_UNIT % PLAIN_UNIT) as usize
+    1 + (header % POINTER_UNIT) as usize + (header / POINTER_UNIT % POINTER_UNIT) as usize
 }
 
 /// Copies the word with that index behind a place.

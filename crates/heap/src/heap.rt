@@ -391,8 +391,8 @@ impl<A: Allocator + Clone> Heap<A> {
         }
     }
 
-    /// The block in which the small object at a place lies where there is one, with the object's generation and step, and with its
-    /// number in a collection that was opened on this heap as it is now, where its generation is collected. It reads the
+    /// The block in which the small object at a place lies where there is one, with the object's generation and step, and with
+    /// its number in a collection that was opened on this heap as it is now, where its generation is collected. It reads the
     /// object's header alone.
     #[inline(always)]
     pub fn find_small(&self, collection: &Collection<A>, at: SmallPlace) -> FoundSmall<'_, A>

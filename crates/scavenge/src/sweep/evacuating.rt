@@ -59,7 +59,8 @@ fn forwarded_from<A: Allocator + Clone>(
 }
 
 impl<A: Allocator + Clone> Sweep<A> {
-    /// Looks at the current slot, which leads to a large object: what `look` does, where the object isn't collected or was claimed.
+    /// Looks at the current slot, which leads to a large object: what `look` does, where the object isn't collected or was
+    /// claimed.
     #[inline(always)]
     fn look_at_large<C: Cells>(
         &mut self,

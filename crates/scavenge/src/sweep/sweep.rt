@@ -11,9 +11,9 @@ use std::collections::VecDeque;
 use std::marker::Model;
 use steps::Config;
 
-/// A worker's part whose start list is finished, which proposes nothing, and which holds a block in hand with something unscanned. That block, the one that is copied into, and
-/// the lists stand in fields of their own, so that a loop that owns it can keep them in registers. Its value is that of the
-/// workspace that was opened.
+/// A worker's part whose start list is finished, which proposes nothing, and which holds a block in hand with something
+/// unscanned. That block, the one that is copied into, and the lists stand in fields of their own, so that a loop that owns it
+/// can keep them in registers. Its value is that of the workspace that was opened.
 #[derive(Drop)]
 pub struct Sweep<A: Allocator = Global> {
     pub(crate) config: Config,

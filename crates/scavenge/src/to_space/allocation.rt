@@ -30,7 +30,7 @@ impl<A: Allocator> Model for AllocationBlocks<A> {
 }
 
 #[inline(always)]
-pub(crate) fn take_back<A: Allocator>(block: &mut Block<A>)
+fn take_back<A: Allocator>(block: &mut Block<A>)
     ensures { block.old.front < length block.old.objects →
         block.new ≡ record block.old { objects = without_last block.old.objects } }
 {
@@ -40,7 +40,7 @@ pub(crate) fn take_back<A: Allocator>(block: &mut Block<A>)
 }
 
 #[inline(always)]
-pub(crate) fn note<A: Allocator>(block: &mut Block<A>, origin: u64)
+fn note<A: Allocator>(block: &mut Block<A>, origin: u64)
     requires { length block.old.origins < length block.old.objects }
     ensures { block.new ≡ record block.old { origins = block.old.origins ++ origin ∷ [] } }
 {
@@ -50,7 +50,7 @@ pub(crate) fn note<A: Allocator>(block: &mut Block<A>, origin: u64)
 }
 
 #[inline(always)]
-pub(crate) fn push<A: Allocator>(block: &mut Block<A>, object: ObjectRef<'_>) -> Place
+fn push<A: Allocator>(block: &mut Block<A>, object: ObjectRef<'_>) -> Place
     requires { used_of block.old + raw_size (raw_of object) ≤ block.old.words }
     ensures place { place_word result ≡ small_word block.old.number (used_of block.old) }
     ensures pushed { block.new ≡ record block.old { objects = block.old.objects ++ raw_of object.entry ∷ [] } }
