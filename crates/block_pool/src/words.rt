@@ -72,8 +72,21 @@ fn copy_next(words: &mut [u64], at: usize, from: &[u64], offset: usize, i: usize
     words[at + i] = from[offset + i];
 }
 
-/// Copies so many words to a place, and where both lists have them and no more are wanted, three at once: most objects are small.
-/// What stands behind those that are wanted may change.
+/// Copies two words to a place.
+#[inline(always)]
+fn copy_two(words: &mut [u64], at: usize, from: &[u64], offset: usize)
+    requires room { at + 2 ≤ length words.old }
+    requires there { offset + 2 ≤ length from.now }
+    requires few { length words.old ≤ 512 }
+    requires few_there { length from.now ≤ 512 }
+    ensures kept { take at words.new ≡ take at words.old }
+    ensures copied { take 2 (drop at words.new) ≡ take 2 (drop offset from.now) }
+{
+    copy_next(words, at, from, offset, 0);
+    copy_next(words, at, from, offset, 1);
+}
+
+/// Copies so many words to a place: two or three, as most objects have, with no loop.
 #[inline(always)]
 fn copy_words(words: &mut [u64], at: usize, from: &[u64], offset: usize, count: usize)
     requires room { at + count ≤ length words.old }
@@ -83,10 +96,13 @@ fn copy_words(words: &mut [u64], at: usize, from: &[u64], offset: usize, count: 
     ensures kept { take at words.new ≡ take at words.old }
     ensures copied { take count (drop at words.new) ≡ take count (drop offset from.now) }
 {
-    if count <= 3 && at + 3 <= words.len() && offset + 3 <= from.len() {
-        copy_next(words, at, from, offset, 0);
-        copy_next(words, at, from, offset, 1);
+    if count == 3 {
+        copy_two(words, at, from, offset);
         copy_next(words, at, from, offset, 2);
+        return;
+    }
+    if count == 2 {
+        copy_two(words, at, from, offset);
         return;
     }
     for i in 0..count {
@@ -94,7 +110,7 @@ fn copy_words(words: &mut [u64], at: usize, from: &[u64], offset: usize, count: 
     }
 }
 
-/// Copies an object to a place, where it gets that ordinal, and tells how many words it takes.
+/// Copies an object to a place, which takes so many words, and gets that ordinal there.
 #[inline(always)]
 pub(crate) fn copy_object(
     words: &mut [u64],
@@ -102,19 +118,18 @@ pub(crate) fn copy_object(
     ordinal: u16,
     from: &[u64],
     offset: usize,
-) -> usize
-    requires room { at + span from.now offset ≤ length words.old }
-    requires there { offset + span from.now offset ≤ length from.now }
+    size: usize,
+)
+    requires size { size ≡ span from.now offset }
+    requires room { at + size ≤ length words.old }
+    requires there { offset + size ≤ length from.now }
     requires few { length words.old ≤ 512 }
     requires few_there { length from.now ≤ 512 }
-    ensures size { result ≡ span from.now offset }
-    ensures written { IsWritten words.old words.new at ordinal (raw_at from.now offset) }
+    ensures { IsWritten words.old words.new at ordinal (raw_at from.now offset) }
 {
-    let size = size_at(from, offset);
     let header = from[offset];
     words[at] = header % ORDINAL_UNIT + ordinal as u64 * ORDINAL_UNIT;
     copy_words(words, at + 1, from, offset + 1, size - 1);
-    size
 }
 
 /// Writes an object of nil pointers and zeros with that ordinal from a place on.

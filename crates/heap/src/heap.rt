@@ -329,6 +329,14 @@ impl<A: Allocator + Clone> Heap<A> {
         self.objects.take_spare()
     }
 
+    /// Keeps the memory of a report's lists for the next collection, if they were used for the most part, and else gives it back:
+    /// whoever has read a report hands it in, so that collections need not ask for as much memory again.
+    pub fn reuse(&mut self, report: Report<A>)
+        ensures { self.new ≡ self.old }
+    {
+        self.objects.keep_lists(report.workers);
+    }
+
     /// Opens a collection of the generations 0 to `generation`. The heap stays as it is.
     pub fn open_collection(&self, alloc: A, generation: u64) -> Result<Collection<A>, OpenError>
         ensures ok { IfOk result (λ collection. IsOpened self.now generation collection) }

@@ -30,7 +30,7 @@ use large_objects::LargeTable;
 use layout::{LargeNumber, ObjectRef, Place, SmallPlace, word_of};
 use std::alloc::{AllocError, Allocator, Global};
 use std::marker::Model;
-use steps::{Config, LargeCount, Numbering, Slot, Spare, StepCount, StepId};
+use steps::{Config, LargeCount, Numbering, Slot, Spare, StepCount, StepId, WorkerReport};
 
 /// The objects of a heap. Small ones stand in blocks, one after the other. Each large one has blocks of its own, and never
 /// moves.
@@ -410,6 +410,13 @@ impl<A: Allocator + Clone> HeapObjects<A> {
         ensures { self.new ≡ self.old }
     {
         self.space.take_spare()
+    }
+
+    /// Keeps the memory of these lists for the next collection.
+    pub fn keep_lists(&mut self, lists: Vec<WorkerReport<A>, A>)
+        ensures { self.new ≡ self.old }
+    {
+        self.space.keep_lists(lists);
     }
 
     /// Puts blocks in the place of all small objects of generation at most `generation`. The large ones of them that have a new place

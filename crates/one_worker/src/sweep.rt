@@ -1,5 +1,5 @@
 //! A collection by one worker, opened for a sweep over the block in hand.
-ghost use Rattle.std.specs.Prelude.{◌≡◌, ◌≢◌, true, false, None, IsSome, IsTrue, ◌↔◌, IfOk, IfErr};
+ghost use Rattle.std.specs.Prelude.{◌≡◌, ◌≢◌, true, false, None, IsSome, IfOk, IfErr};
 ghost use Rattle.workers.specs.Worker.{Nothing};
 ghost use Rattle.workers.specs.WorkerSteps.{CanScan, current_slot};
 ghost use Rattle.workers.specs.System.{Look, Scan};
@@ -126,20 +126,13 @@ impl<A: Allocator> SerialSweep<A> {
         }
     }
 
-    /// Whether there is a proposal.
-    #[inline(always)]
-    pub fn has_proposal(&self) -> bool
-        ensures { IsTrue result ↔ IsSome self.now.workspace.worker.proposal }
-    {
-        self.sweep.has_proposal()
-    }
-
     /// The current object is scanned, where another is unscanned behind it and there is room to note it: tells whether it is.
     #[inline(always)]
     pub fn scan_to_next(&mut self) -> bool
         requires can { CanScan (setting_in self.old) self.old.workspace.worker }
         ensures some { result ≡ true → Goes (Scan 0) self.old self.new }
         ensures none { result ≡ false → self.new ≡ self.old }
+        ensures proposal { self.new.workspace.worker.proposal ≡ None }
     {
         self.sweep.scan_to_next()
     }
@@ -161,6 +154,7 @@ impl<A: Allocator + Clone> SerialSweep<A> {
         ensures looked { result ≡ Looked → Goes (Look 0) self.old self.new }
         ensures raced_slot { result ≡ Raced → IsSome (current_slot (setting_in self.old) self.old.workspace.worker) }
         ensures raced { result ≡ Raced → LooksThenRaces self.old self.new }
+        ensures proposal { self.new.workspace.worker.proposal ≡ None }
     {
         self.sweep
             .evacuate(heap, collection, &mut self.cells, &mut self.pass)

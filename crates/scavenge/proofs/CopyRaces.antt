@@ -1,15 +1,14 @@
 -- A race for the place behind the last copy, and the copy that is made once it is won, are a proposal and the race for it.
 use Rattle.std.proofs.Common.{◌≡◌, ℕ, ◌<◌, ◌++◌, ◌∷◌, [], List, length, set, Option, Some, None, refl, sym, ap, subst, ◌∙◌}
-use Rattle.std.specs.Prelude.{slice_index, slice_get, map}
-use Rattle.std.specs.Option.{option_map, option_and_then}
+use Rattle.std.specs.Prelude.{slice_get}
+use Rattle.std.specs.Option.{option_and_then}
 use Rattle.model.specs.Destination.{Shape}
 use Rattle.layout.specs.declared.place.Place.{Place}
 use Rattle.layout.specs.Object.{Raw}
 use Rattle.layout.specs.Place.{place_word, small_word}
 use Rattle.block_pool.specs.BlockValue.{BlockValue, used_of}
-use Rattle.steps.specs.Words.{target_of_word}
 use Rattle.workers.specs.Block.{Block, Copy, updated, with_copy}
-use Rattle.workers.specs.Worker.{Worker, Proposal, Copied, allocation_at}
+use Rattle.workers.specs.Worker.{Worker, Copied, allocation_at}
 use Rattle.workers.specs.WorkerSteps.{finish_slot, race_of, after_race}
 use Rattle.workers.specs.Joined.{OnSome}
 use Rattle.workers.specs.Ready.{CanFinish}

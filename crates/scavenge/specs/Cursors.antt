@@ -1,12 +1,10 @@
 -- Where a sweep stands in a block, and where objects go.
-use Rattle.std.specs.Prelude.{◌≡◌, ℕ, false, Some, length, slice_get}
+use Rattle.std.specs.Prelude.{◌≡◌, Some, length, slice_get}
 use Rattle.model.specs.Destination.{Shape, dest}
 use Rattle.layout.specs.Object.{Raw}
 use Rattle.block_pool.specs.BlockValue.{BlockValue, offset_of}
-use Rattle.heap.specs.HeapValue.{HeapValue}
 use Rattle.heap.specs.StepPairs.{step_pair}
-use Rattle.workers.specs.Setting.{is_large_name, destination_of, destination_number}
-use Rattle.scavenge.specs.Slots.{objects_of}
+use Rattle.workers.specs.Setting.{destination_number}
 use Rattle.scavenge.specs.declared.sweep.cursor.Cursor.{Cursor}
 use Rattle.scavenge.specs.declared.sweep.going.Going.{Going}
 
@@ -20,8 +18,3 @@ pub record StandsAt (block : BlockValue) (cursor : Cursor) : Type 0 where
 -- to that destination the small objects go that stand in that generation and step
 abbrev pub IsGoing : Shape → Going → Type 0
 IsGoing shape going = going.to ≡ destination_number shape (dest shape (step_pair going.from))
-
--- the object with this name is small, and goes to that destination
-pub record GoesFor (heap : HeapValue) (name d : ℕ) : Type 0 where
-  pub small : is_large_name (objects_of heap) name ≡ false
-  pub of : d ≡ destination_of (objects_of heap) name

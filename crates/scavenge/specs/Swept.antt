@@ -1,5 +1,5 @@
 -- The blocks of a sweep.
-use Rattle.std.specs.Prelude.{ℕ, Bool, true, false, List, Option, Some, None, slice_set}
+use Rattle.std.specs.Prelude.{ℕ, Bool, true, false, List, Option, Some, slice_set}
 use Rattle.block_pool.specs.BlockValue.{BlockValue}
 use Rattle.workers.specs.Worker.{Hand, Nothing, Open, Holding, HoldingLarge}
 

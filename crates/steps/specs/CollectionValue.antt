@@ -1,11 +1,9 @@
 -- What contracts see of a collection that was opened.
-use Rattle.std.specs.Prelude.{◌≡◌, ℕ, ◌<◌, ◌≤◌, List, ◌++◌, map, filter, length, None, IsTrue, slice_index, count_by, nat_lt, All}
-use Rattle.std.specs.List.Sorted.{IsStrictlyIncreasing}
+use Rattle.std.specs.Prelude.{◌≡◌, ℕ, ◌<◌, ◌≤◌, List, ◌++◌, map, filter, length, slice_index, count_by, nat_lt}
 use Rattle.std.specs.FinMap.{entries, keys}
-use Rattle.model.specs.Graph.{Graph, object_at}
+use Rattle.model.specs.Graph.{Graph}
 use Rattle.model.specs.Live.{IsYoung}
 use Rattle.model.specs.OldSlots.{Slot, old_slots, is_young_name}
-use Rattle.model.specs.Reached.{has}
 use Rattle.layout.specs.Place.{small_word, large_word}
 use Rattle.steps.specs.HeapValue.{HeapValue}
 use Rattle.steps.specs.Numbering.{NumberingValue}

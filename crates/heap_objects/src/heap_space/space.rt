@@ -33,7 +33,7 @@ use nursery::{
 };
 use std::alloc::{AllocError, Allocator, Global};
 use std::marker::Model;
-use steps::{Config, Spare, StepCount, StepId};
+use steps::{Config, Spare, StepCount, StepId, WorkerReport};
 
 /// The blocks of a heap, and which numbers are free.
 #[derive(Drop)]
@@ -310,7 +310,7 @@ impl<A: Allocator + Clone> Space<A> {
         if step.generation > generation {
             return (block, step, None);
         }
-        let named = bases[number] + block.ordinal_at(at.offset as usize) as u32;
+        let named = bases[number] + block.ordinal_from(at.offset as usize) as u32;
         (block, step, Some(named))
     }
 
@@ -431,6 +431,13 @@ impl<A: Allocator + Clone> Space<A> {
         ensures { self.new ≡ self.old }
     {
         self.spare.take()
+    }
+
+    /// Keeps the memory of these lists for the next collection.
+    pub fn keep_lists(&mut self, lists: Vec<WorkerReport<A>, A>)
+        ensures { self.new ≡ self.old }
+    {
+        self.spare.keep_lists(lists);
     }
 
     /// Keeps memory for the next collection: of its spare blocks at most as many as are in use, and that of these words if it is

@@ -25,6 +25,7 @@ fn sweep_once<A: Allocator + Clone>(
     ensures stepped { HasStepped sweep.new }
     ensures some { result ≡ true → left_to_do sweep.new < left_to_do sweep.old }
     ensures none { result ≡ false → left_to_do sweep.new ≡ left_to_do sweep.old }
+    ensures proposal { sweep.new.workspace.worker.proposal ≡ None }
 {
     match sweep.evacuate(heap, collection) {
         Evacuated::Left => false,
@@ -33,33 +34,9 @@ fn sweep_once<A: Allocator + Clone>(
     }
 }
 
-/// The same. Tells whether there were some, after which nothing is proposed: then more may come.
-#[inline(always)]
-fn sweep_one<A: Allocator + Clone>(
-    heap: &Heap<A>,
-    collection: &Collection<A>,
-    sweep: &mut SerialSweep<A>,
-) -> bool
-    requires ready { IsReadyToCollect heap.now collection.now }
-    requires same { IsOf heap.now collection.now sweep.old }
-    requires stepped { HasStepped sweep.old }
-    requires proposal { sweep.old.workspace.worker.proposal ≡ None }
-    ensures same { IsOf heap.now collection.now sweep.new }
-    ensures stepped { HasStepped sweep.new }
-    ensures proposal { result ≡ true → sweep.new.workspace.worker.proposal ≡ None }
-    ensures some { result ≡ true → left_to_do sweep.new < left_to_do sweep.old }
-    ensures less { left_to_do sweep.new ≤ left_to_do sweep.old }
-{
-    if !sweep_once(heap, collection, sweep) {
-        return false;
-    }
-    !sweep.has_proposal()
-}
-
 /// The next events of a worker that holds a block in hand, as far as a sweep over that block goes. There may be none: what is left
 /// is left to `scavenge`, which refuses to stop early. It owns the sweep, so that blocks and lists can stay in registers, and is no
-/// part of another function, which would want registers too. What opens the sweep is in sight of the compiler, which so knows that
-/// nothing is proposed whenever it goes on.
+/// part of another function, which would want registers too.
 #[inline(never)]
 pub fn swept<A: Allocator + Clone>(
     heap: &Heap<A>,
@@ -77,6 +54,6 @@ pub fn swept<A: Allocator + Clone>(
         Ok(sweep) => sweep,
         Err(serial) => return serial,
     };
-    while sweep_one(heap, collection, &mut sweep) {}
+    while sweep_once(heap, collection, &mut sweep) {}
     sweep.closed()
 }

@@ -40,24 +40,6 @@ fn slot_in<A: Allocator + Clone>(sweep: &Sweep<A>, heap: &Heap<A>) -> Option<Opt
     sweep.current()
 }
 
-/// Where an object stands that lies in that block and whose cell shows this place: a large object at its own.
-#[inline(always)]
-fn forwarded_from<A: Allocator + Clone>(
-    heap: &Heap<A>,
-    at: SmallPlace,
-    block: &Block<A>,
-    shown: Place,
-) -> Place
-    requires { IsSomeAnd (object_at heap.now.graph (small_word at.block at.offset)) (λ o. LiesIn o at.offset block.now) }
-    ensures { place_word result ≡ (if is_large_name (objects_of heap.now) (small_word at.block at.offset)
-        then small_word at.block at.offset else place_word shown) }
-{
-    if block.size_from(at.offset as usize) > heap.config().block_words() / 4 {
-        return Place::Small(at);
-    }
-    shown
-}
-
 impl<A: Allocator + Clone> Sweep<A> {
     /// Looks at the current slot, which leads to a large object: what `look` does, where the object isn't collected or was
     /// claimed.
@@ -82,6 +64,7 @@ impl<A: Allocator + Clone> Sweep<A> {
         ensures looked { result ≡ Looked → (seat : SeatValue) →
             Looks heap.now collection.now (C.look_gives cells.old) (C.known pass.old)
             (C.known pass.new) seat seat self.old self.new }
+        ensures proposal { self.new.worker.proposal ≡ None }
     {
         let found = heap.find_there(collection, name);
         let Some(number) = found.number else {
@@ -126,6 +109,7 @@ impl<A: Allocator + Clone> Sweep<A> {
             LooksAndRaces heap.now collection.now (C.fits cells.old) C.known C.won (C.look_gives cells.old)
             (λ number at outcome. C.race_gives cells.old number at outcome cells.new) pass.old pass.new self.old
             self.new }
+        ensures proposal { self.new.worker.proposal ≡ None }
     {
         let Some(target) = slot_in(self, heap) else {
             return Evacuated::NoSlot;
@@ -147,13 +131,10 @@ impl<A: Allocator + Clone> Sweep<A> {
             return Evacuated::Looked;
         };
         if let Some(shown) = cells.look(pass, number) {
-            let place = forwarded_from(heap, at, block, shown);
-            self.finish(Some(place));
+            self.finish(Some(shown));
             return Evacuated::Looked;
         }
-        let Some(d) = self.goes_to(heap, at, block, from) else {
-            return Evacuated::Left;
-        };
+        let d = self.goes_to(heap, at, from);
         let offset = at.offset as usize;
         if !self.race(cells, pass, number, name, block, offset, d) {
             return Evacuated::Left;

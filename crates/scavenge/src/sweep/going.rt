@@ -1,16 +1,14 @@
 //! Where the objects of a generation and step go, remembered from one copy to the next.
-ghost use Rattle.std.specs.Prelude.{◌≡◌, true, Some, IsSomeAnd, MatchOption};
+ghost use Rattle.std.specs.Prelude.{◌≡◌, Some};
 ghost use Rattle.std.specs.Option.{option_map};
 ghost use Rattle.model.specs.Graph.{object_at};
 ghost use Rattle.layout.specs.Place.{small_word};
 ghost use Rattle.heap.specs.StepPairs.{step_pair, stands_at};
-ghost use Rattle.heap.specs.Words.{LiesIn};
-ghost use Rattle.workers.specs.Setting.{is_large_name};
+ghost use Rattle.workers.specs.Setting.{destination_of};
 ghost use Rattle.scavenge.specs.Slots.{objects_of};
-ghost use Rattle.scavenge.specs.Cursors.{IsGoing, GoesFor};
+ghost use Rattle.scavenge.specs.Cursors.{IsGoing};
 
 use crate::sweep::sweep::Sweep;
-use block_pool::Block;
 use heap::Heap;
 use layout::SmallPlace;
 use std::alloc::Allocator;
@@ -49,30 +47,18 @@ fn going_after(last: Going, config: Config, from: StepId) -> Going
 }
 
 impl<A: Allocator + Clone> Sweep<A> {
-    /// The number of the destination to which a small object goes that lies in that block and stands there. A large one stays.
+    /// The number of the destination to which the small object at that place goes, which stands there.
     #[inline(always)]
-    pub fn goes_to(
-        &mut self,
-        heap: &Heap<A>,
-        at: SmallPlace,
-        block: &Block<A>,
-        from: StepId,
-    ) -> Option<usize>
+    pub fn goes_to(&mut self, heap: &Heap<A>, at: SmallPlace, from: StepId) -> usize
         requires config { self.old.config ≡ heap.now.config }
-        requires lies { IsSomeAnd (object_at heap.now.graph (small_word at.block at.offset))
-            (λ o. LiesIn o at.offset block.now) }
         requires stands { Some (step_pair from) ≡
             option_map stands_at (object_at heap.now.graph (small_word at.block at.offset)) }
         ensures same { self.new ≡ self.old }
-        ensures goes { MatchOption result
-            (is_large_name (objects_of heap.now) (small_word at.block at.offset) ≡ true)
-            (GoesFor heap.now (small_word at.block at.offset)) }
+        ensures goes { result ≡ destination_of (objects_of heap.now) (small_word at.block at.offset) }
     {
         let _ = heap;
-        if block.size_from(at.offset as usize) > self.config.block_words() / 4 {
-            return None;
-        }
+        let _ = at;
         self.going = going_after(self.going, self.config, from);
-        Some(self.going.to)
+        self.going.to
     }
 }

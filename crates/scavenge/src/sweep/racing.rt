@@ -1,5 +1,5 @@
 //! A sweep races for an object, and copies it where it has won.
-ghost use Rattle.std.specs.Prelude.{◌≡◌, ◌<◌, ◌+◌, ◌++◌, ◌∷◌, [], true, false, length, slice_index};
+ghost use Rattle.std.specs.Prelude.{◌≡◌, ◌<◌, ◌+◌, ◌++◌, ◌∷◌, [], None, true, false, length, slice_index};
 ghost use Rattle.layout.specs.Object.{Raw, raw_size};
 ghost use Rattle.layout.specs.Place.{place_word, small_word};
 ghost use Rattle.block_pool.specs.BlockValue.{BeginsAt, used_of};
@@ -56,8 +56,10 @@ impl<A: Allocator> Sweep<A> {
             RacesAt number (λ number at outcome. C.race_gives cells.old number at outcome cells.new)
             (C.known pass.old) (C.known pass.new) (C.won pass.old) (C.won pass.new)
             (record self.old { worker = with_copy_proposed self.old.worker (place_word name) raw d }) self.new }
+        ensures proposal { self.new.worker.proposal ≡ None }
     {
-        if d != self.destination || !self.into.fits(from.size_from(offset)) {
+        let size = from.size_from(offset);
+        if d != self.destination || !self.into.fits(size) {
             return false;
         }
         if self.won.capacity() - self.won.len() <= self.won_room {
@@ -70,7 +72,7 @@ impl<A: Allocator> Sweep<A> {
         match outcome {
             Outcome::Lost(first) => self.finish(Some(first)),
             Outcome::Won => {
-                let _ = self.into.push_copy(from, offset);
+                let _ = self.into.push_copy(from, offset, size);
                 self.into.note_origin(name.to_word());
                 self.won.push_reserved(Won { number, place });
                 self.finish(Some(place));

@@ -1,5 +1,5 @@
 //! The slots of the block in hand: read and finished, and the next object's after them.
-ghost use Rattle.std.specs.Prelude.{◌≡◌, ◌≢◌, ◌<◌, [], true, false, IsSome, IsTrue, ◌↔◌};
+ghost use Rattle.std.specs.Prelude.{◌≡◌, ◌≢◌, ◌<◌, [], true, false, None};
 ghost use Rattle.std.specs.Option.{option_map};
 ghost use Rattle.layout.specs.Place.{place_word};
 ghost use Rattle.workers.specs.Worker.{Nothing};
@@ -30,7 +30,9 @@ impl<A: Allocator> Sweep<A> {
     pub fn finish(&mut self, value: Option<Place>)
         requires slot { CanFinish self.old.worker self.old.worker.starts }
         requires few { self.old.worker.fields < 4294967296 }
-        ensures { self.new ≡ record self.old { worker = finish_slot (option_map place_word value) self.old.worker } }
+        ensures finished { self.new ≡
+            record self.old { worker = finish_slot (option_map place_word value) self.old.worker } }
+        ensures proposal { self.new.worker.proposal ≡ None }
     {
         let i = self.fields;
         self.fields += 1;
@@ -43,6 +45,7 @@ impl<A: Allocator> Sweep<A> {
         requires hand { CanPass self.old.worker self.old.worker.hand }
         ensures some { result ≡ true → self.new ≡ record self.old { worker = after_scan self.old.worker } }
         ensures none { result ≡ false → self.new ≡ self.old }
+        ensures proposal { self.new.worker.proposal ≡ None }
     {
         if self.scanned.len() >= self.scanned.capacity() {
             return false;
@@ -55,14 +58,5 @@ impl<A: Allocator> Sweep<A> {
         self.scanned.push_reserved(place);
         self.fields = 0;
         true
-    }
-
-    /// Whether there is a proposal. Between its calls a sweep has none.
-    #[inline(always)]
-    pub fn has_proposal(&self) -> bool
-        ensures { IsTrue result ↔ IsSome self.now.worker.proposal }
-    {
-        let _none = self.fields;
-        false
     }
 }

@@ -110,10 +110,16 @@ impl<A: Allocator> Model for Workspace<A> {
 }
 
 impl<A: Allocator> Workspace<A> {
-    /// Gives it memory for the blocks that it draws.
-    pub fn supply(&mut self, memory: Spare<A>)
+    /// Gives it memory for the blocks that it draws and, before its first win, for its lists.
+    pub fn supply(&mut self, mut memory: Spare<A>)
         ensures { self.new ≡ self.old }
     {
+        if self.won.is_empty() && self.scanned.is_empty() && self.won_room == 0 {
+            if let Some((won, scanned)) = memory.lists() {
+                self.won = won;
+                self.scanned = scanned;
+            }
+        }
         self.memory = memory;
     }
 

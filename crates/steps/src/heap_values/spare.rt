@@ -1,19 +1,26 @@
 //! Memory that a heap keeps from one collection for the next.
-ghost use Rattle.std.specs.Prelude.{◌≡◌, ◌≤◌, ◌↔◌, [], IsTrue, IfOk};
+ghost use Rattle.std.specs.Prelude.{◌≡◌, ◌≤◌, ◌↔◌, [], IsTrue, IfOk, IfSome};
 ghost use Rattle.block_pool.specs.BlockValue.{empty_block};
 
+use crate::heap_values::report::{Won, WorkerReport};
 use block_pool::Block;
+use layout::Place;
 use std::alloc::{AllocError, Allocator, Global};
 use std::collections::VecDeque;
 use std::mem;
 
-/// Blocks without an object, and words without a meaning, of which a collection makes use before it asks for new memory. It is
+/// Lists are kept that have room for no more than twice what they hold and so many entries.
+const FEW_ENTRIES: usize = 1024;
+
+/// Blocks without an object, and words and lists without a meaning, of which a collection makes use before it asks for new memory. It is
 /// memory alone: no contract sees what it has, and a collection does the same without it.
 #[derive(Drop)]
 pub struct Spare<A: Allocator = Global> {
     // The block that is given out first stands in front.
     blocks: Option<VecDeque<Block<A>, A>>,
     words: Option<Vec<u64, A>>,
+    // What workers won and scanned, whatever it was.
+    lists: Option<Vec<WorkerReport<A>, A>>,
 }
 
 /// Whether the block, which has no object, has so many words.
@@ -31,6 +38,7 @@ impl<A: Allocator> Spare<A> {
         Spare {
             blocks: None,
             words: None,
+            lists: None,
         }
     }
 
@@ -68,6 +76,38 @@ impl<A: Allocator> Spare<A> {
         if words.capacity() <= most {
             self.words = Some(words);
         }
+    }
+
+    /// Keeps the memory of these lists for later, for as many workers, if each was used for the most part, and else gives it back.
+    pub fn keep_lists(&mut self, lists: Vec<WorkerReport<A>, A>) {
+        if lists.iter().all(|report| report.is_tight(FEW_ENTRIES)) {
+            self.lists = Some(lists);
+        }
+    }
+
+    /// Hands one worker's lists to a part of its own. An error says that memory ran out, and drops them.
+    fn hand_lists(&mut self, alloc: A, part: &mut Spare<A>) -> Result<(), AllocError> {
+        let Some(lists) = &mut self.lists else {
+            return Ok(());
+        };
+        let Some(report) = lists.pop() else {
+            return Ok(());
+        };
+        let mut own = Vec::with_capacity(alloc, 1)?;
+        own.push_reserved(report);
+        part.lists = Some(own);
+        Ok(())
+    }
+
+    /// Empty lists for what one worker wins and scans, where some are kept.
+    pub fn lists(&mut self) -> Option<(Vec<Won, A>, Vec<Place, A>)>
+        ensures { IfSome result (λ lists. (lists.0.items ≡ []) × (lists.1.items ≡ [])) }
+    {
+        let report = self.lists.as_mut()?.pop()?;
+        let (mut won, mut scanned) = report.into_lists();
+        won.clear();
+        scanned.clear();
+        Some((won, scanned))
     }
 
     /// Memory for words, with whatever stands in it.
@@ -109,10 +149,14 @@ impl<A: Allocator> Spare<A> {
         Block::new(alloc, words)
     }
 
-    /// Moves so many blocks, or all where there are fewer, to a part of its own. An error says that memory ran out, and
-    /// drops some.
-    pub fn split(&mut self, alloc: A, count: usize) -> Result<Spare<A>, AllocError> {
+    /// Moves so many blocks, or all where there are fewer, and one worker's lists to a part of its own. An error says that
+    /// memory ran out, and drops some.
+    pub fn split(&mut self, alloc: A, count: usize) -> Result<Spare<A>, AllocError>
+    where
+        A: Clone,
+    {
         let mut part = Spare::none();
+        self.hand_lists(alloc.clone()?, &mut part)?;
         part.reserve(alloc, count)?;
         for _ in 0..count {
             let Some(block) = self.pop() else {

@@ -75,6 +75,7 @@ pub fn collect_apart<
         Err(ThreadsError::Unsettled) => return Err(Fault::Unsettled(number)),
     };
     let (kept, freed) = (report.kept, report.freed);
+    session.heap.reuse(report);
     match write_collection(Cause::Command, generation, kept, freed, writer) {
         Ok(()) => Ok(()),
         Err(WriteFailed) => Err(Fault::WriteFailed),
@@ -121,7 +122,9 @@ pub fn make_room_apart<
         Err(ThreadsError::NoMemory) => return Err(Fault::NoMemory(Some(number))),
         Err(ThreadsError::Unsettled) => return Err(Fault::Unsettled(number)),
     };
-    match write_collection(Cause::FullNursery, 0, done.kept, done.freed, writer) {
+    let (kept, freed) = (done.kept, done.freed);
+    session.heap.reuse(done);
+    match write_collection(Cause::FullNursery, 0, kept, freed, writer) {
         Ok(()) => Ok(()),
         Err(WriteFailed) => Err(Fault::WriteFailed),
     }

@@ -109,6 +109,7 @@ pub fn collect<A: Allocator + Clone, W: Sink>(
         Err(CollectError::NoMemory) => return Err(Fault::NoMemory(Some(number))),
     };
     let (kept, freed) = (report.kept, report.freed);
+    session.heap.reuse(report);
     match write_collection(Cause::Command, generation, kept, freed, writer) {
         Ok(()) => Ok(()),
         Err(WriteFailed) => Err(Fault::WriteFailed),
@@ -145,7 +146,9 @@ pub fn make_room<A: Allocator + Clone, W: Sink>(
         Err(CollectError::HeapFull) => return Err(Fault::HeapFull(Some(number))),
         Err(CollectError::NoMemory) => return Err(Fault::NoMemory(Some(number))),
     };
-    match write_collection(Cause::FullNursery, 0, done.kept, done.freed, writer) {
+    let (kept, freed) = (done.kept, done.freed);
+    session.heap.reuse(done);
+    match write_collection(Cause::FullNursery, 0, kept, freed, writer) {
         Ok(()) => Ok(()),
         Err(WriteFailed) => Err(Fault::WriteFailed),
     }

@@ -1,5 +1,5 @@
 //! A worker among several, opened for a sweep over the block in hand.
-ghost use Rattle.std.specs.Prelude.{◌≡◌, ◌↔◌, ◌≢◌, true, false, None, IsSome, IsTrue, IfOk, IfErr};
+ghost use Rattle.std.specs.Prelude.{◌≡◌, ◌≢◌, true, false, None, IfOk, IfErr};
 ghost use Rattle.workers.specs.Worker.{Nothing};
 ghost use Rattle.workers.specs.WorkerSteps.{CanScan, current_slot};
 ghost use Rattle.workers.specs.WorkerRun.{Scanned};
@@ -132,14 +132,6 @@ impl<'a, C: Cells, A: Allocator> SharingSweep<'a, C, A> {
         }
     }
 
-    /// Whether there is a proposal.
-    #[inline(always)]
-    pub fn has_proposal(&self) -> bool
-        ensures { IsTrue result ↔ IsSome (worker_of self.now).proposal }
-    {
-        self.sweep.has_proposal()
-    }
-
     /// The current object is scanned, where another is unscanned behind it and there is room to note it: tells whether it is.
     #[inline(always)]
     pub fn scan_to_next(&mut self) -> bool
@@ -147,6 +139,7 @@ impl<'a, C: Cells, A: Allocator> SharingSweep<'a, C, A> {
         ensures same { IsSame C.at_home self.old self.new }
         ensures some { result ≡ true → Acts Scanned self.old self.new }
         ensures none { result ≡ false → self.new ≡ self.old }
+        ensures proposal { (worker_of self.new).proposal ≡ None }
     {
         self.sweep.scan_to_next()
     }
@@ -163,6 +156,7 @@ impl<'a, C: Cells, A: Allocator + Clone> SharingSweep<'a, C, A> {
         ensures none { result ≡ NoSlot → self.new.workspace ≡ self.old.workspace }
         ensures no_slot { result ≡ NoSlot → current_slot (setting_in self.old) (worker_of self.old) ≡ None }
         ensures held { result ≡ NoSlot → (worker_of self.old).hand ≢ Nothing }
+        ensures proposal { (worker_of self.new).proposal ≡ None }
     {
         self.sweep.evacuate(self.heap, self.collection, &mut self.cells, &mut self.pass)
     }

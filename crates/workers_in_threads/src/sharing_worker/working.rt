@@ -180,7 +180,7 @@ impl<'a, C: Cells, A: Allocator + Clone> SharingWorker<'a, C, A> {
                 if self.reserve_sweep().is_err() {
                     return (self, Err(LookError::NoMemory));
                 }
-                self = self.swept(rt);
+                self = self.swept();
             }
             let Ok(own) = alloc.clone() else {
                 return (self, Err(LookError::NoMemory));

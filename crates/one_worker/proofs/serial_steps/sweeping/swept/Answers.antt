@@ -17,11 +17,11 @@ loop-init g c =
     }
 
 pub loop-smaller : goal.loop-smaller
-loop-smaller g c = c.sweep_one.ensures.some c.loop-test.true
+loop-smaller g c = c.sweep_once.ensures.some c.loop-test.true
 
 pub loop-preserved : goal.loop-preserved
-loop-preserved g c = record { same = c.sweep_one.ensures.same; stepped = c.sweep_one.ensures.stepped; proposal = c.sweep_one.ensures.proposal c.loop-test.true; less = omega (arith, c.sweep_one.ensures.some c.loop-test.true, c.loop.invariant.less) }
+loop-preserved g c = record { same = c.sweep_once.ensures.same; stepped = c.sweep_once.ensures.stepped; proposal = c.sweep_once.ensures.proposal; less = omega (arith, c.sweep_once.ensures.some c.loop-test.true, c.loop.invariant.less) }
 
 pub returns-clause-less : goal.returns-clause-less
 returns-clause-less g c =
-    subst (λ v. left_to_do v ≤ left_to_do c.args.serial) (sym c.closed.ensures) (omega (arith, c.sweep_one.ensures.less, c.loop.invariant.less))
+    subst (λ v. left_to_do v ≤ left_to_do c.args.serial) (sym c.closed.ensures) (omega (arith, c.sweep_once.ensures.none c.loop-test.false, c.loop.invariant.less))

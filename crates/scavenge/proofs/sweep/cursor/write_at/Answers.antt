@@ -2,7 +2,6 @@ use Rattle.std.proofs.Common.{◌<◌, length, sym, ap, subst, ◌∙◌}
 use Rattle.layout.specs.Object.{Raw}
 use Rattle.block_pool.specs.BlockValue.{BlockValue}
 use Rattle.scavenge.specs.Cursors.{StandsAt}
-use Rattle.scavenge.proofs.Fields.{written}
 use Rattle.workers.proofs.Lists.{get-lt}
 use Rattle.scavenge.proofs.CursorLemmas.{is_front, stands_still}
 use Rattle.scavenge.proofs.sweep.cursor.write_at.Goals as goal

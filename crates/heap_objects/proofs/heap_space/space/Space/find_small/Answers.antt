@@ -1,5 +1,9 @@
-use Rattle.std.proofs.Common.{◌≡◌, ℕ, ◌<◌, List, Option, length, Some, sym, subst, ◌∙◌, arith}
-use Rattle.block_pool.specs.BlockValue.{BlockValue, offset_of}
+use Rattle.std.proofs.Common.{◌≡◌, ℕ, ◌<◌, List, Option, length, Some, None, sym, subst, ◌∙◌, arith}
+use Rattle.std.specs.Prelude.{IsSomeAnd}
+use Rattle.model.specs.Graph.{Object}
+use Rattle.layout.specs.Object.{Raw}
+use Rattle.steps.specs.Words.{LiesIn}
+use Rattle.block_pool.specs.BlockValue.{BlockValue, offset_of, BeginsAt}
 use Rattle.model.proofs.Options.{some_is}
 use Rattle.nursery.specs.Table.{slot_at}
 use Rattle.heap_objects.proofs.Finding.{block_there, lies_in, stands_there, too_old, young_enough, number_is, number_few}
@@ -11,6 +15,11 @@ ordinal_there : (table : List (Option BlockValue)) (number offset ordinal : ℕ)
     → (block : BlockValue) (k : ℕ) → slot_at table number ≡ Some block → k < length block.objects → offset_of block.objects k ≡ offset → ordinal ≡ k
 ordinal_there table number offset ordinal found is tells block k there lt at =
     subst (λ (b : BlockValue). (j : ℕ) → j < length b.objects → offset_of b.objects j ≡ offset → ordinal ≡ j) (some_is (sym is ∙ there)) tells k lt at
+
+-- the words of the object that lies there
+begins_there : (o : Option Object) (offset : ℕ) (block : BlockValue) → IsSomeAnd o (λ x. LiesIn x offset block) → (raw : Raw) × BeginsAt block offset raw
+begins_there None offset block there = absurd there
+begins_there (Some o) offset block there = (there.raw, there.begins)
 
 pub block_of-block-requires : goal.block_of-block-requires
 block_of-block-requires g c =
@@ -47,6 +56,12 @@ returns-then-step-generation-clause-number g c =
     let found = rw c.deref.ensures.value at c.block_of-block.ensures in
     rw (← c.self.view_is) (too_old _ _ _ _ c.self.invariant.space c.args.at.block c.args.at.offset c.args.at.offset_in_range there _ found c.args.generation (omega (arith, c.if-step-generation.true, c.generation.ensures)))
 
+pub ordinal_from-requires : goal.ordinal_from-requires
+ordinal_from-requires g c =
+    let there = rw (← c.self.view_is) at c.requires.there in
+    let found = rw c.deref.ensures.value at c.block_of-block.ensures in
+    begins_there _ _ _ (lies_in _ _ _ _ c.self.invariant.space c.args.at.block c.args.at.offset c.args.at.offset_in_range there _ found)
+
 pub bounds-bases-number : goal.bounds-bases-number
 bounds-bases-number g c =
     let there = rw (← c.self.view_is) at c.requires.there in
@@ -61,7 +76,7 @@ overflow_cast-named g c =
     let found = rw c.deref.ensures.value at c.block_of-block.ensures in
     let bases = rw (← c.self.view_is) at c.requires.bases in
     let young = young_enough _ _ _ _ c.self.invariant.space c.args.at.block c.args.at.offset c.args.at.offset_in_range there _ found c.args.generation (omega (arith, c.if-step-generation.false, c.generation.ensures)) in
-    let few = number_few _ _ _ _ c.self.invariant.space c.args.generation c.args.at.block c.args.at.offset c.args.at.offset_in_range young c.args.bases.now bases c.ordinal_at.result (ordinal_there c.self.inside.table.items c.args.at.block c.args.at.offset c.ordinal_at.result _ found c.ordinal_at.ensures) in
+    let few = number_few _ _ _ _ c.self.invariant.space c.args.generation c.args.at.block c.args.at.offset c.args.at.offset_in_range young c.args.bases.now bases c.ordinal_from.result (ordinal_there c.self.inside.table.items c.args.at.block c.args.at.offset c.ordinal_from.result _ found c.ordinal_from.ensures) in
     omega (arith, few)
 
 pub overflow_add-named : goal.overflow_add-named
@@ -70,7 +85,7 @@ overflow_add-named g c =
     let found = rw c.deref.ensures.value at c.block_of-block.ensures in
     let bases = rw (← c.self.view_is) at c.requires.bases in
     let young = young_enough _ _ _ _ c.self.invariant.space c.args.at.block c.args.at.offset c.args.at.offset_in_range there _ found c.args.generation (omega (arith, c.if-step-generation.false, c.generation.ensures)) in
-    let few = number_few _ _ _ _ c.self.invariant.space c.args.generation c.args.at.block c.args.at.offset c.args.at.offset_in_range young c.args.bases.now bases c.ordinal_at.result (ordinal_there c.self.inside.table.items c.args.at.block c.args.at.offset c.ordinal_at.result _ found c.ordinal_at.ensures) in
+    let few = number_few _ _ _ _ c.self.invariant.space c.args.generation c.args.at.block c.args.at.offset c.args.at.offset_in_range young c.args.bases.now bases c.ordinal_from.result (ordinal_there c.self.inside.table.items c.args.at.block c.args.at.offset c.ordinal_from.result _ found c.ordinal_from.ensures) in
     omega (arith, few)
 
 pub returns-clause-number : goal.returns-clause-number
@@ -79,4 +94,4 @@ returns-clause-number g c =
     let found = rw c.deref.ensures.value at c.block_of-block.ensures in
     let bases = rw (← c.self.view_is) at c.requires.bases in
     let young = young_enough _ _ _ _ c.self.invariant.space c.args.at.block c.args.at.offset c.args.at.offset_in_range there _ found c.args.generation (omega (arith, c.if-step-generation.false, c.generation.ensures)) in
-    rw (← c.self.view_is) (young, number_is _ _ _ _ c.self.invariant.space c.args.generation c.args.at.block c.args.at.offset c.args.at.offset_in_range young c.args.bases.now bases c.ordinal_at.result (ordinal_there c.self.inside.table.items c.args.at.block c.args.at.offset c.ordinal_at.result _ found c.ordinal_at.ensures))
+    rw (← c.self.view_is) (young, number_is _ _ _ _ c.self.invariant.space c.args.generation c.args.at.block c.args.at.offset c.args.at.offset_in_range young c.args.bases.now bases c.ordinal_from.result (ordinal_there c.self.inside.table.items c.args.at.block c.args.at.offset c.ordinal_from.result _ found c.ordinal_from.ensures))

@@ -14,13 +14,14 @@ use Rattle.scavenge.specs.Slots.{seen, objects_of}
 use Rattle.scavenge.specs.Evacuates.{ProposesThere}
 use Rattle.scavenge.proofs.Empty.{numbered_in, collected, looks_none}
 use Rattle.scavenge.proofs.AtOnce.{lies, lies_there, proposes_there}
+use Rattle.scavenge.proofs.SmallNames.{small_place_below}
 use Rattle.scavenge.proofs.sweep.sweep.Sweep.evacuate.Goals as goal
 
 pub returns-clause-raced : goal.returns-clause-raced
 returns-clause-raced g c = λ _.
     let word = small_word c.in-Small.at.block c.in-Small.at.offset in
     let there = c.find_small-number.ensures in
-    let d = c.in-Some-goes_to.d in
+    let d = c.goes_to-d.result in
     let found = numbered_in c.args.heap.now c.args.collection.now word c.in-Small.at.offset c.find_small-number.result.block.now (step_pair c.find_small-number.result.at) c.find_small-number.result.number c.in-Some-number.number c.in-Some-number.is there in
     let young : is_collected (seen c.args.heap.now c.args.collection.now) word ≡ true = collected c.args.heap.now c.args.collection.now word found.0 in
     let current : current_slot (seen c.args.heap.now c.args.collection.now) c.args.self.now.worker ≡ Some (Some word) =
@@ -29,12 +30,12 @@ returns-clause-raced g c = λ _.
     record { number = c.in-Some-number.number; of = record { in_range = found.1.in_range; is = found.1.is }; given = c.in_default-look.ensures.exact; learns = c.in_default-look.ensures.known }
     in
     let l = lies (object_at c.args.heap.now.graph word) c.in-Small.at.offset c.find_small-number.result.block.now (lies_there c.args.heap.now c.args.collection.now word c.in-Small.at.offset c.find_small-number.result.block.now (step_pair c.find_small-number.result.at) c.find_small-number.result.number there).0 in
-    let same : c.goes_to.new.self ≡ c.args.self.now = c.in-Some-goes_to.ensures.same in
+    let same : c.goes_to-d.new.self ≡ c.args.self.now = c.goes_to-d.ensures.same in
     let fits = subst (λ (w : WorkspaceValue). has_place_for w.config.block_words (raw_size l.0) (allocation_at w.worker d) ≡ true) same (c.race.ensures.fits c.if-not-race.false l.0 l.1.0) in
     let r = c.race.ensures.raced c.if-not-race.false l.0 l.1.0 in
     let proposing : WorkspaceValue = record c.args.self.now { worker = with_copy_proposed c.args.self.now.worker word l.0 d } in
     let p : ProposesThere (objects_of c.args.heap.now) word c.args.self.now proposing =
-    proposes_there c.args.heap.now c.args.self.now word d l.0 c.requires.open.config l.1.1 c.in-Some-goes_to.ensures.goes.small c.in-Some-goes_to.ensures.goes.of fits in
+    proposes_there c.args.heap.now c.args.self.now word d l.0 c.requires.open.config l.1.1 (c.requires.open.small word (small_place_below c.in-Small.at)) c.goes_to-d.ensures.goes fits in
     record {
       between = c.look.new.pass;
       proposing = proposing;

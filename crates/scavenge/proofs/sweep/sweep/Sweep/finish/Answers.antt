@@ -38,8 +38,8 @@ invariant_of-self g c =
       c.self.invariant.7,
     )
 
-pub returns : goal.returns
-returns g c =
+pub returns-clause-finished : goal.returns-clause-finished
+returns-clause-finished g c =
     let starts : drop c.self.inside.started (words_of c.self.inside.starts.items) ≡ [] = all_left place_word c.self.inside.starts.items c.self.inside.started c.self.invariant.5 in
     let r : Behind c.self.inside.held c.self.inside.fields = behind_held c.self.view_is c.self.inside.config.shape c.self.inside.held starts refl c.requires.slot in
     let value : target_of_word c.word_of.result ≡ option_map place_word c.args.value = value_written c.word_of.result c.args.value c.word_of.ensures in

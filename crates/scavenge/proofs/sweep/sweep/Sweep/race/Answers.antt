@@ -1,15 +1,15 @@
-use Rattle.std.proofs.Common.{◌≡◌, ◌<◌, true, map, Some, None, refl, sym, ap, subst, ◌∙◌, arith, le-leb}
+use Rattle.std.proofs.Common.{◌≡◌, true, map, Some, None, refl, sym, ap, subst, ◌∙◌, arith, le-leb}
 use Rattle.std.specs.Prelude.{slice_index}
-use Rattle.layout.specs.Object.{Raw, raw_size}
-use Rattle.layout.specs.Place.{place_word, small_word}
-use Rattle.block_pool.specs.BlockValue.{BlockValue, BeginsAt, used_of}
+use Rattle.layout.specs.Object.{raw_size}
+use Rattle.layout.specs.Place.{place_word}
+use Rattle.block_pool.specs.BlockValue.{BlockValue}
 use Rattle.forwarding.specs.declared.cells.outcome.Outcome.TheVariants.{Won, Lost}
 use Rattle.forwarding.specs.Learned.{Learns, RaceEnds, place_after}
 use Rattle.steps.specs.ReportValue.{renaming_of}
 use Rattle.steps.specs.ReportView.{won_value}
 use Rattle.workers.specs.Joined.{OnSome}
 use Rattle.workers.specs.Worker.{Worker, allocation_at}
-use Rattle.workers.specs.WorkerSteps.{finish_slot, after_race}
+use Rattle.workers.specs.WorkerSteps.{after_race}
 use Rattle.scavenge.specs.Named.{named}
 use Rattle.scavenge.specs.Shown.{WorkspaceValue, AreNoted, IsNoted, IsMade, has_place_for, with_copy_proposed}
 use Rattle.scavenge.specs.Swept.{with_block}
@@ -53,7 +53,7 @@ returns-in-Lost-clause-fits g c = λ _ raw r.
     (ap (λ (v : WorkspaceValue). has_place_for v.config.block_words size (allocation_at v.worker c.self.inside.destination)) (sym c.self.view_is)
     ∙ ap (has_place_for c.self.inside.config.block_words size) (shown_slot c.self.inside.config.shape slots c.self.inside.destination (Some c.self.inside.into) there)
     ∙ fits_same c.self.inside.config size (Some c.self.inside.into) (subst (OnSome (IsNoted 0)) there (c.self.invariant.0.in_slots c.self.inside.destination)) (subst (OnSome (IsMade c.self.inside.config)) there (c.self.invariant.1.in_slots c.self.inside.destination))
-    ∙ le-leb _ _ (omega (arith, c.fits.ensures.0 c.if-not-fits.false, c.size_from.ensures raw r)))
+    ∙ le-leb _ _ (omega (arith, c.fits.ensures.0 c.if-not-fits.false, c.size_from-size.ensures raw r)))
 
 pub returns-in-Won-clause-fits : goal.returns-in-Won-clause-fits
 returns-in-Won-clause-fits g c = λ _ raw r.
@@ -64,7 +64,7 @@ returns-in-Won-clause-fits g c = λ _ raw r.
     (ap (λ (v : WorkspaceValue). has_place_for v.config.block_words size (allocation_at v.worker c.self.inside.destination)) (sym c.self.view_is)
     ∙ ap (has_place_for c.self.inside.config.block_words size) (shown_slot c.self.inside.config.shape slots c.self.inside.destination (Some c.self.inside.into) there)
     ∙ fits_same c.self.inside.config size (Some c.self.inside.into) (subst (OnSome (IsNoted 0)) there (c.self.invariant.0.in_slots c.self.inside.destination)) (subst (OnSome (IsMade c.self.inside.config)) there (c.self.invariant.1.in_slots c.self.inside.destination))
-    ∙ le-leb _ _ (omega (arith, c.fits.ensures.0 c.if-not-fits.false, c.size_from.ensures raw r)))
+    ∙ le-leb _ _ (omega (arith, c.fits.ensures.0 c.if-not-fits.false, c.size_from-size.ensures raw r)))
 
 pub returns-in-Lost-clause-raced : goal.returns-in-Lost-clause-raced
 returns-in-Lost-clause-raced g c = λ _ raw r.
@@ -78,7 +78,7 @@ returns-in-Lost-clause-raced g c = λ _ raw r.
       given = subst (λ o. g.C.Cells.race_gives c.args.cells.now c.args.number c.place_behind-place.result o c.race.new.self) c.in-Lost.is c.in-Ok.ensures.exact;
       learns = subst (λ o. Learns (g.C.Cells.known c.args.pass.now) (g.C.Cells.known c.race.new.pass) c.args.number (Some (place_after o c.place_behind-place.result))) c.in-Lost.is c.in-Ok.ensures.known;
       won = subst (λ o. RaceEnds (g.C.Cells.known c.args.pass.now c.args.number) (g.C.Cells.won c.args.pass.now) (g.C.Cells.won c.race.new.pass) c.args.number c.place_behind-place.result o) c.in-Lost.is c.in-Ok.ensures.won;
-      worker = c.finish.ensures ∙ ap (λ (w : Worker). (let x : WorkspaceValue = record c.args.self.now { worker = w } in x)) (lost_is c.args.self.now.worker (place_word c.args.name) raw c.args.d (named c.self.inside.config.shape c.self.inside.into) (place_word c.in-Lost.first) there none);
+      worker = c.finish.ensures.finished ∙ ap (λ (w : Worker). (let x : WorkspaceValue = record c.args.self.now { worker = w } in x)) (lost_is c.args.self.now.worker (place_word c.args.name) raw c.args.d (named c.self.inside.config.shape c.self.inside.into) (place_word c.in-Lost.first) there none);
     }
 
 pub returns-in-Won-clause-raced : goal.returns-in-Won-clause-raced
@@ -96,7 +96,7 @@ returns-in-Won-clause-raced g c = λ _ raw r.
       learns = subst (λ o. Learns (g.C.Cells.known c.args.pass.now) (g.C.Cells.known c.race.new.pass) c.args.number (Some (place_after o c.place_behind-place.result))) c.in-Won.is c.in-Ok.ensures.known;
       won = subst (λ o. RaceEnds (g.C.Cells.known c.args.pass.now c.args.number) (g.C.Cells.won c.args.pass.now) (g.C.Cells.won c.race.new.pass) c.args.number c.place_behind-place.result o) c.in-Won.is c.in-Ok.ensures.won;
       worker =
-          c.finish-in-Won.ensures
+          c.finish-in-Won.ensures.finished
           ∙ won_is c.self.view_is c.self.inside.config.shape c.self.inside.allocation c.self.inside.aside.items c.self.inside.done.items (Some c.self.inside.held) c.self.inside.destination c.self.inside.into raw c.args.name c.place_behind-place.result c.self.invariant.4 refl c.self.invariant.0 c.place_behind-place.ensures c.note_origin.new.self is (renaming_of c.self.inside.names.numbers (map won_value c.push_reserved.new.self.items)) more
           ∙ ap (λ e. (let x : WorkspaceValue = record c.args.self.now { worker = after_race (with_copy_proposed c.args.self.now.worker (place_word c.args.name) raw e) None } in x)) (sym c.if-d-self.false);
     }

@@ -9,10 +9,10 @@ returns-in-Err g c = record { same = same_as g.C.Cells.fits g.C.Cells.limit g.C.
 pub loop-init : goal.loop-init
 loop-init g c = record { same = same_as g.C.Cells.fits g.C.Cells.limit g.C.Cells.known g.C.Cells.won g.C.Cells.at_home _ _ c.in-Ok.ensures.ok; proposal = c.in-Ok.ensures.proposal }
 
-pub returns-then-not-sweep_one : goal.returns-then-not-sweep_one
-returns-then-not-sweep_one g c =
-    let same = same_both g.C.Cells.fits g.C.Cells.limit g.C.Cells.known g.C.Cells.won g.C.Cells.at_home _ _ _ c.loop.invariant.same c.sweep_one.ensures.same in
+pub returns-then-not-sweep_once : goal.returns-then-not-sweep_once
+returns-then-not-sweep_once g c =
+    let same = same_both g.C.Cells.fits g.C.Cells.limit g.C.Cells.known g.C.Cells.won g.C.Cells.at_home _ _ _ c.loop.invariant.same c.sweep_once.ensures.same in
     record { same = subst (IsSame g.C.Cells.at_home c.args.self) (sym c.closed.ensures) same }
 
 pub loop-preserved : goal.loop-preserved
-loop-preserved g c = record { same = same_both g.C.Cells.fits g.C.Cells.limit g.C.Cells.known g.C.Cells.won g.C.Cells.at_home _ _ _ c.loop.invariant.same c.sweep_one.ensures.same; proposal = c.sweep_one.ensures.proposal c.if-not-sweep_one.false }
+loop-preserved g c = record { same = same_both g.C.Cells.fits g.C.Cells.limit g.C.Cells.known g.C.Cells.won g.C.Cells.at_home _ _ _ c.loop.invariant.same c.sweep_once.ensures.same; proposal = c.sweep_once.ensures.proposal }
