@@ -1,7 +1,7 @@
 -- Where all workers ended: what they hold may be committed.
 use Rattle.std.proofs.Common.{◌≡◌, ℕ, ◌<◌, ◌≤◌, List, ◌++◌, ◌∷◌, [], length, map, Option, Some, None, refl, sym, ap, subst, ◌∙◌, arith}
 use Rattle.std.proofs.lemmas.List.{length-map, append-nil}
-use Rattle.std.specs.Prelude.{flat_map, slice_index}
+use Rattle.std.specs.Prelude.{All, IsTrue, flat_map, slice_index}
 use Rattle.std.specs.Option.{option_map}
 use Rattle.std.specs.Ordering.{nat_cmp}
 use Rattle.std.specs.FinMap.{find}
@@ -10,13 +10,15 @@ use Rattle.layout.specs.Place.{place_word}
 use Rattle.block_pool.specs.BlockValue.{BlockValue}
 use Rattle.steps.specs.ReportValue.{WorkerLists, all_won, renaming_of}
 use Rattle.steps.specs.HeapValue.{HeapValue}
-use Rattle.steps.specs.CollectionValue.{CollectionValue, young_names}
+use Rattle.model.specs.Live.{IsYoung}
+use Rattle.model.specs.Reached.{has}
+use Rattle.steps.specs.CollectionValue.{CollectionValue, IsOpened, young_names}
 use Rattle.steps.specs.SettledValue.{IsSettled}
 use Rattle.heap.proofs.SoundHeap.{heap_empty}
 use Rattle.forwarding.specs.Plain.{place_of, place_held}
 use Rattle.workers.specs.Worker.{Worker}
-use Rattle.workers.specs.Total.{times, wins_of, ones}
-use Rattle.workers.specs.Joined.{Each, blocks_of}
+use Rattle.workers.specs.Total.{total, times, wins_of, ones}
+use Rattle.workers.specs.Joined.{Each, Part, blocks_of}
 use Rattle.workers.specs.Kept.{Kept, won_lists}
 use Rattle.workers.specs.Lawful.{AllEnded}
 use Rattle.workers.specs.Finish.{NothingLeft}
@@ -27,8 +29,8 @@ use Rattle.workers.proofs.Kept.{kept}
 use Rattle.settling.specs.Brings.{left_blocks}
 use Rattle.settling.proofs.Bridge.{settled}
 use Rattle.scavenge.proofs.Starts.{has_starts, targets_live}
-use Rattle.settling.specs.Shown.{shown_after}
-use Rattle.settling.proofs.ShownLarge.{shown_in, places_show}
+use Rattle.settling.specs.Shown.{shown_in, AreShown}
+use Rattle.settling.proofs.LargeDone.{large_young, places_show}
 use Rattle.settling.proofs.Blocks.{stands_has, times-places}
 use Rattle.settling.proofs.Blocks.{held_place}
 use Rattle.machine.specs.InterleavedValue.{InterleavedValue, MemberValue, worker_of, system_of, setting_in, targets_in, destinations_in}
@@ -37,7 +39,7 @@ use Rattle.machine.proofs.Places.{get-map}
 use Rattle.settling.specs.Collects.{ScansOnce}
 use Rattle.scavenge.specs.Shown.{WorkspaceValue}
 use Rattle.settling.specs.Telling.{IsAtRest, AreBrought}
-use Rattle.settling.proofs.EndedLists.{joined_lists, joined_map, renamed_joined, same_places, parts_won, parts_left, parts_scanned, each_place}
+use Rattle.settling.proofs.EndedLists.{joined_lists, joined_map, renamed_joined, same_places, parts_won, parts_left, parts_times, each_place}
 
 module _ (v : InterleavedValue) (k : IsInterleaved v) (ended : AllEnded (system_of v)) where
   empty : AreEmpty v.heap.graph v.heap.free
@@ -80,20 +82,24 @@ module _ (v : InterleavedValue) (k : IsInterleaved v) (ended : AllEnded (system_
         no_proposal = (nothing_left.workers t m.workspace.worker (get-map worker_of v.members t m at)).0.free.no_proposal;
       })
 
-  module _ (reports : List WorkerLists) (blocks : List BlockValue) (b : AreBrought v.heap v.collection (map worker_of v.members) reports blocks) where
+  drawn_free : (number : ℕ) → 0 < total (λ (p : Part). times number p.history.drawn) brings.parts → IsTrue (has v.heap.free number)
+  drawn_free number l = stands_has number v.heap.free (brings.drawn number l)
+
+  large_is : all_of (λ (w : Worker). w.large_done) ≡ flat_map (λ (w : Worker). w.large_done) (map (λ (p : Part). p.final) brings.parts)
+  large_is = ap (flat_map (λ (w : Worker). w.large_done)) (sym brings.workers)
+
+  module _ (reports : List WorkerLists) (blocks : List BlockValue) (large : List ℕ) (b : AreBrought v.heap v.collection (map worker_of v.members) reports blocks large) where
+    -- the large objects that they scanned are numbered
+    pub young : All (IsYoung v.heap.graph v.collection.generation) large
+    young =
+        subst (All (IsYoung v.heap.graph v.collection.generation)) (sym (b.large_are ∙ large_is))
+        (large_young v.heap v.collection k.ready.sound v.workers placed brings.parts parts_kept drawn_free)
+
     renamed_is : renaming_of (young_names v.heap.graph v.collection.generation) (all_won reports) ≡ all_of (λ (w : Worker). w.won)
     renamed_is = renamed_joined (young_names v.heap.graph v.collection.generation) reports ∙ ap joined_lists b.reported.won ∙ sym (joined_map (λ (w : Worker). w.won) (system_of v).workers)
 
-    -- each cell shows the place of its name, once the large objects that were won stand at their own places
-    cells_show : (number : ℕ) → number < v.collection.cells
-        → shown_after number (all_won reports) (option_map place_word (place_held v.cells.held number)) ≡ placed (slice_index (young_names v.heap.graph v.collection.generation) number)
-    cells_show number lt =
-        places_show v.heap v.collection k.ready.sound k.ready.opened v.workers placed brings.parts parts_kept (all_won reports) (renamed_is ∙ sym won_is) b.numbers number lt (place_held v.cells.held number)
-        (k.cells.shown (slice_index (young_names v.heap.graph v.collection.generation) number) number (record { in_range = lt; is = refl }))
-
-    -- what they hold may be committed
-    pub settles : (held places : List (Option Place)) → held ≡ map place_of v.cells.held → length places ≡ length held → ((number : ℕ) → shown_in places number ≡ shown_after number (all_won reports) (shown_in held number))
-        → IsSettled v.heap v.collection places blocks (all_won reports)
+    -- what they hold may be committed, once the large objects that they scanned stand at their own places
+    pub settles : (held places : List (Option Place)) → held ≡ map place_of v.cells.held → length places ≡ length held → AreShown v.heap v.collection large held places → IsSettled v.heap v.collection places blocks (all_won reports)
     settles held places are count shown =
         settled v.heap v.collection v.workers placed brings.parts places blocks (all_won reports)
         (record {
@@ -103,11 +109,14 @@ module _ (v : InterleavedValue) (k : IsInterleaved v) (ended : AllEnded (system_
           some_step = k.ready.range.some_step;
           blocks_are = b.left ∙ sym left_is;
           whole = b.whole;
-          drawn_free = λ number l. stands_has number v.heap.free (brings.drawn number l);
+          drawn_free = drawn_free;
           won_are = renamed_is ∙ sym won_is;
           numbers = b.numbers;
           places_count = count ∙ ap length are ∙ length-map v.cells.held place_of ∙ k.cells.count;
-          places_are = λ number lt. shown number ∙ ap (λ ps. shown_after number (all_won reports) (shown_in ps number)) are ∙ ap (λ h. shown_after number (all_won reports) (option_map place_word h)) (held_place v.cells.held number) ∙ cells_show number lt;
+          places_are = λ number lt.
+              places_show v.heap v.collection k.ready.sound v.workers placed brings.parts parts_kept drawn_free large (b.large_are ∙ large_is) held places shown number lt (place_held v.cells.held number)
+              (ap (λ ps. shown_in ps number) are ∙ ap (option_map place_word) (held_place v.cells.held number))
+              (k.cells.shown (slice_index (young_names v.heap.graph v.collection.generation) number) number (record { in_range = lt; is = refl }));
         })
 
     -- each name was won once, and each place that was won was scanned once
@@ -117,7 +126,7 @@ module _ (v : InterleavedValue) (k : IsInterleaved v) (ended : AllEnded (system_
           won_once = λ name. (let e : wins_of name (renaming_of (young_names v.heap.graph v.collection.generation) (all_won reports)) ≡ ones (placed name) = ap (wins_of name) renamed_is ∙ wins_are name in let l = at_most_one (placed name) in omega (arith, e, l));
           scanned_once = λ place.
               ap (times place) (joined_map (λ (l : WorkerLists). l.scanned) reports ∙ ap joined_lists b.reported.scanned ∙ sym (joined_map (λ (w : Worker). w.scanned) (system_of v).workers) ∙ ap (flat_map (λ (w : Worker). w.scanned)) (sym brings.workers))
-              ∙ parts_scanned place brings.parts ∙ parts_kept.scanned_once place ∙ sym (times-places place (won_lists brings.parts))
+              ∙ parts_times (λ (w : Worker). w.scanned) place brings.parts ∙ parts_kept.scanned_once place ∙ sym (times-places place (won_lists brings.parts))
               ∙ ap (λ ws. times place (map (λ (q : ℕ × ℕ). q.1) ws)) (won_is ∙ sym renamed_is) ∙ ap (times place) (same_places (young_names v.heap.graph v.collection.generation) (all_won reports));
         }
       where
@@ -157,8 +166,20 @@ module _ (v : InterleavedValue) (heap : HeapValue) (c : CollectionValue) (member
       (subst (λ d. Each (IsAtRest v.heap d) workspaces) (sym same_collection)
       (subst (Each (IsAtRest v.heap v.collection)) (sym their) (each_map (IsAtRest v.heap v.collection) v.members (at_rest v k ended))))
 
-  pub brought_in : (reports : List WorkerLists) (blocks : List BlockValue) → AreBrought heap c (map (λ (w : WorkspaceValue). w.worker) workspaces) reports blocks → AreBrought v.heap v.collection (map worker_of v.members) reports blocks
-  brought_in reports blocks b =
-      subst (λ ws. AreBrought v.heap v.collection ws reports blocks) (ap (map (λ (w : WorkspaceValue). w.worker)) their ∙ workers_are v.members)
-      (subst (λ d. AreBrought v.heap d (map (λ (w : WorkspaceValue). w.worker) workspaces) reports blocks) same_collection
-      (subst (λ h. AreBrought h c (map (λ (w : WorkspaceValue). w.worker) workspaces) reports blocks) same_heap b))
+  pub brought_in : (reports : List WorkerLists) (blocks : List BlockValue) (large : List ℕ) → AreBrought heap c (map (λ (w : WorkspaceValue). w.worker) workspaces) reports blocks large → AreBrought v.heap v.collection (map worker_of v.members) reports blocks large
+  brought_in reports blocks large b =
+      subst (λ ws. AreBrought v.heap v.collection ws reports blocks large) (ap (map (λ (w : WorkspaceValue). w.worker)) their ∙ workers_are v.members)
+      (subst (λ d. AreBrought v.heap d (map (λ (w : WorkspaceValue). w.worker) workspaces) reports blocks large) same_collection
+      (subst (λ h. AreBrought h c (map (λ (w : WorkspaceValue). w.worker) workspaces) reports blocks large) same_heap b))
+
+  -- what putting the large objects at their places asks for, and what it gives
+  pub opened_in : IsInterleaved v → IsOpened heap c.generation c
+  opened_in k = subst (λ h. IsOpened h c.generation c) (sym same_heap) (subst (λ (d : CollectionValue). IsOpened v.heap d.generation d) (sym same_collection) k.ready.opened)
+
+  pub young_in : (large : List ℕ) → All (IsYoung v.heap.graph v.collection.generation) large → All (IsYoung heap.graph c.generation) large
+  young_in large all =
+      subst (λ (h : HeapValue). All (IsYoung h.graph c.generation) large) (sym same_heap)
+      (subst (λ (d : CollectionValue). All (IsYoung v.heap.graph d.generation) large) (sym same_collection) all)
+
+  pub shown_so : (large : List ℕ) (old new : List (Option Place)) → AreShown heap c large old new → AreShown v.heap v.collection large old new
+  shown_so large old new shown = subst (λ h. AreShown h v.collection large old new) same_heap (subst (λ d. AreShown heap d large old new) same_collection shown)

@@ -1,9 +1,10 @@
 -- A worker that is out of work, with an empty queue, has ended its collection: what it holds may be committed.
-use Rattle.std.proofs.Common.{◌≡◌, ℕ, zero, suc, ◌+◌, ◌<◌, ◌≤◌, true, List, [], ◌∷◌, ◌++◌, length, map, Option, Some, None, refl, sym, ap, ◌∙◌, arith, nat_eq}
-use Rattle.std.specs.Prelude.{All, slice_index, slice_index_or}
+use Rattle.std.proofs.Common.{◌≡◌, ℕ, zero, suc, ◌+◌, ◌<◌, ◌≤◌, true, List, [], ◌∷◌, ◌++◌, length, map, Option, Some, None, refl, sym, ap, subst, ◌∙◌, arith, nat_eq}
+use Rattle.std.specs.Prelude.{All, IsTrue, flat_map, slice_index, slice_index_or}
 use Rattle.std.specs.Option.{option_map}
 use Rattle.std.specs.Ordering.{nat_cmp}
 use Rattle.std.specs.FinMap.{find}
+use Rattle.model.specs.Live.{IsYoung}
 use Rattle.model.specs.Reached.{has}
 use Rattle.layout.specs.declared.place.Place.{Place}
 use Rattle.layout.specs.Place.{place_word}
@@ -12,7 +13,7 @@ use Rattle.steps.specs.ReportValue.{renaming_of}
 use Rattle.steps.specs.CollectionValue.{young_names}
 use Rattle.steps.specs.SettledValue.{IsSettled}
 use Rattle.heap.proofs.SoundHeap.{heap_empty}
-use Rattle.forwarding.specs.Plain.{place_held}
+use Rattle.forwarding.specs.Plain.{place_of, place_held}
 use Rattle.workers.specs.Worker.{Worker}
 use Rattle.workers.specs.WorkerSteps.{IsOutOfWork}
 use Rattle.workers.specs.System.{System, Idle, End}
@@ -33,9 +34,9 @@ use Rattle.scavenge.specs.Waiting.{waiting_in}
 use Rattle.one_worker.specs.IsSerial.{IsSerial}
 use Rattle.scavenge.proofs.Starts.{has_starts, targets_live}
 use Rattle.one_worker.specs.Settling.{ScansWhatItWon}
-use Rattle.settling.specs.Shown.{shown_after}
-use Rattle.settling.proofs.ShownLarge.{places_show}
-use Rattle.settling.proofs.Blocks.{stands_has, times-places}
+use Rattle.settling.specs.Shown.{shown_in, AreShown}
+use Rattle.settling.proofs.LargeDone.{large_young, places_show}
+use Rattle.settling.proofs.Blocks.{stands_has, times-places, held_place}
 
 append_nil : {A : Type 0} (xs : List A) → xs ++ [] ≡ xs
 append_nil [] = refl
@@ -138,9 +139,20 @@ module _ (v : SerialValue) (k : IsSerial v) (r : IsReached (setting_in v) (desti
         places_are = shown;
       })
 
-  -- each cell shows the place of its name, once the large objects that were won stand at their own places
-  pub cells_show : (won : List (ℕ × ℕ)) → renaming_of (young_names v.heap.graph v.collection.generation) won ≡ v.workspace.worker.won → All (λ e. e.0 < v.collection.cells) won → (number : ℕ) → number < v.collection.cells
-      → shown_after number won (option_map place_word (place_held v.cells.held number)) ≡ placed (slice_index (young_names v.heap.graph v.collection.generation) number)
-  cells_show won renames numbers number lt =
-      places_show v.heap v.collection k.ready.sound k.ready.opened 1 placed brings.parts parts_kept won (renames ∙ sym won_is) numbers number lt (place_held v.cells.held number)
+  drawn_free : (number : ℕ) → 0 < total (λ (p : Part). times number p.history.drawn) brings.parts → IsTrue (has v.heap.free number)
+  drawn_free number l = stands_has number v.heap.free (brings.drawn number l)
+
+  large_is : v.workspace.worker.large_done ≡ flat_map (λ (w : Worker). w.large_done) (map (λ (p : Part). p.final) brings.parts)
+  large_is = sym (ap (flat_map (λ (w : Worker). w.large_done)) brings.workers ∙ append_nil v.workspace.worker.large_done)
+
+  -- the large objects that the worker scanned are numbered
+  pub scanned_young : All (IsYoung v.heap.graph v.collection.generation) v.workspace.worker.large_done
+  scanned_young = subst (All (IsYoung v.heap.graph v.collection.generation)) (sym large_is) (large_young v.heap v.collection k.ready.sound 1 placed brings.parts parts_kept drawn_free)
+
+  -- each cell shows the place of its name, once they stand at their own places
+  pub cells_show : (held places : List (Option Place)) → held ≡ map place_of v.cells.held → AreShown v.heap v.collection v.workspace.worker.large_done held places
+      → (number : ℕ) → number < v.collection.cells → shown_in places number ≡ placed (slice_index (young_names v.heap.graph v.collection.generation) number)
+  cells_show held places are shown number lt =
+      places_show v.heap v.collection k.ready.sound 1 placed brings.parts parts_kept drawn_free v.workspace.worker.large_done large_is held places shown number lt (place_held v.cells.held number)
+      (ap (λ ps. shown_in ps number) are ∙ ap (option_map place_word) (held_place v.cells.held number))
       (k.cells.shown (slice_index (young_names v.heap.graph v.collection.generation) number) number (record { in_range = lt; is = refl }))

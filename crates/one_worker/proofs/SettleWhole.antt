@@ -5,9 +5,10 @@ use Rattle.std.specs.Prelude.{All, slice_get}
 use Rattle.std.specs.Option.{option_map}
 use Rattle.model.specs.Destination.{Shape}
 use Rattle.layout.specs.declared.place.Place.{Place}
-use Rattle.layout.specs.Place.{place_word}
 use Rattle.block_pool.specs.BlockValue.{BlockValue}
-use Rattle.steps.specs.CollectionValue.{CollectionValue, young_names}
+use Rattle.model.specs.Live.{IsYoung}
+use Rattle.steps.specs.HeapValue.{HeapValue}
+use Rattle.steps.specs.CollectionValue.{CollectionValue, IsOpened, young_names}
 use Rattle.steps.specs.ReportValue.{WorkerLists, all_won, renaming_of}
 use Rattle.steps.specs.SettledValue.{IsSettled}
 use Rattle.forwarding.specs.Plain.{place_of}
@@ -21,19 +22,19 @@ use Rattle.one_worker.specs.SerialValue.{SerialValue, lane_of, system_of, settin
 use Rattle.scavenge.specs.Waiting.{waiting_in}
 use Rattle.one_worker.specs.IsSerial.{IsSerial}
 use Rattle.one_worker.specs.Settling.{IsReportOf, ScansWhatItWon, exports_of}
-use Rattle.settling.specs.Shown.{shown_after}
-use Rattle.settling.proofs.ShownLarge.{shown_in}
-use Rattle.one_worker.proofs.SettleBrings.{settles, cells_show, scans_won}
-use Rattle.settling.proofs.Blocks.{somes-map, somes_each, held_place, named_length}
+use Rattle.settling.specs.Shown.{AreShown}
+use Rattle.one_worker.proofs.SettleBrings.{settles, cells_show, scanned_young, scans_won}
+use Rattle.settling.proofs.Blocks.{somes-map, somes_each, named_length}
 
--- the worker has nothing left, and this is its collection
-pub record IsAtEnd (v : SerialValue) (c : CollectionValue) : Type 0 where
+-- the worker has nothing left, and these are its heap and its collection
+pub record IsAtEnd (v : SerialValue) (heap : HeapValue) (c : CollectionValue) : Type 0 where
+  pub heap_is : heap ≡ v.heap
   pub collection_is : c ≡ v.collection
   pub out : IsOutOfWork v.workspace.worker
   pub queue : waiting_in (lane_of v) ≡ []
   pub reached : IsReached (setting_in v) (destinations_in v) 1 (targets_in v) v.heap.free (system_of v)
 
-module _ (v : SerialValue) (k : IsSerial v) (c : CollectionValue) (e : IsAtEnd v c) where
+module _ (v : SerialValue) (k : IsSerial v) (heap : HeapValue) (c : CollectionValue) (e : IsAtEnd v heap c) where
   -- what was won, by number
   renames_at_end : (won : List (ℕ × ℕ)) → renaming_of v.workspace.names won ≡ v.workspace.worker.won → renaming_of (young_names v.heap.graph v.collection.generation) won ≡ v.workspace.worker.won
   renames_at_end won is = ap (λ names. renaming_of names won) (sym k.names) ∙ is
@@ -41,22 +42,34 @@ module _ (v : SerialValue) (k : IsSerial v) (c : CollectionValue) (e : IsAtEnd v
   in_cells : (won : List (ℕ × ℕ)) → All (λ p. p.0 < length v.workspace.names) won → All (λ p. p.0 < v.collection.cells) won
   in_cells won below = subst (λ n. All (λ (p : ℕ × ℕ). p.0 < n) won) (ap length k.names ∙ sym k.ready.opened.cells) below
 
-  pub numbers_at_end : (won : List (ℕ × ℕ)) → All (λ p. p.0 < length v.workspace.names) won → All (λ p. p.0 < c.cells) won
-  numbers_at_end won below = subst (λ (x : CollectionValue). All (λ (p : ℕ × ℕ). p.0 < x.cells) won) (sym e.collection_is) (in_cells won below)
+  pub opened_at_end : IsOpened heap c.generation c
+  opened_at_end = subst (λ h. IsOpened h c.generation c) (sym e.heap_is) (subst (λ (x : CollectionValue). IsOpened v.heap x.generation x) (sym e.collection_is) k.ready.opened)
 
-  pub settled_at_end : (allocation : List (Option BlockValue)) (done blocks : List BlockValue) (won : List (ℕ × ℕ)) (held places : List (Option Place))
+  -- the large objects that it scanned are numbered
+  pub young_at_end : (large : List ℕ) → large ≡ v.workspace.worker.large_done → All (IsYoung heap.graph c.generation) large
+  young_at_end large are =
+      subst (λ (h : HeapValue). All (IsYoung h.graph c.generation) large) (sym e.heap_is)
+      (subst (λ (x : CollectionValue). All (IsYoung v.heap.graph x.generation) large) (sym e.collection_is)
+      (subst (All (IsYoung v.heap.graph v.collection.generation)) (sym are) (scanned_young v k e.reached e.out e.queue)))
+
+  pub settled_at_end : (allocation : List (Option BlockValue)) (done blocks : List BlockValue) (won : List (ℕ × ℕ)) (large : List ℕ) (held places : List (Option Place))
       → map (option_map (named v.workspace.config.shape)) allocation ≡ v.workspace.worker.allocation → map (named v.workspace.config.shape) done ≡ v.workspace.worker.done
       → ((d : ℕ) → OnSome (IsWhole v.workspace.config.shape v.workspace.config.block_words) (slot_at allocation d)) → Each (IsWhole v.workspace.config.shape v.workspace.config.block_words) done
       → blocks ≡ somes allocation ++ done → renaming_of v.workspace.names won ≡ v.workspace.worker.won → All (λ p. p.0 < length v.workspace.names) won
-      → held ≡ map place_of v.cells.held → length places ≡ length held → ((number : ℕ) → shown_in places number ≡ shown_after number won (shown_in held number))
+      → large ≡ v.workspace.worker.large_done → held ≡ map place_of v.cells.held → length places ≡ length held → AreShown heap c large held places
       → IsSettled v.heap c places blocks won
-  settled_at_end allocation done blocks won held places a d aw dw blocks_are renames numbers held_are count shown =
+  settled_at_end allocation done blocks won large held places a d aw dw blocks_are renames numbers large_are held_are count shown =
       subst (λ (x : CollectionValue). IsSettled v.heap x places blocks won) (sym e.collection_is)
       (settles v k e.reached e.out e.queue places blocks won named_are whole (renames_at_end won renames) (in_cells won numbers)
       (count ∙ ap length held_are ∙ length-map v.cells.held place_of ∙ k.cells.count)
-      (λ number lt. shown number ∙ ap (λ ps. shown_after number won (shown_in ps number)) held_are ∙ ap (λ h. shown_after number won (option_map place_word h)) (held_place v.cells.held number)
-      ∙ cells_show v k e.reached e.out e.queue won (renames_at_end won renames) (in_cells won numbers) number lt))
+      (cells_show v k e.reached e.out e.queue held places held_are shown_at_end))
     where
+      shown_at_end : AreShown v.heap v.collection v.workspace.worker.large_done held places
+      shown_at_end =
+          subst (λ h. AreShown h v.collection v.workspace.worker.large_done held places) e.heap_is
+          (subst (λ x. AreShown heap x v.workspace.worker.large_done held places) e.collection_is
+          (subst (λ ns. AreShown heap c ns held places) large_are shown))
+
       named_by : map (named v.workspace.config.shape) blocks ≡ blocks_of v.workspace.worker
       named_by =
           ap (map (named v.workspace.config.shape)) blocks_are ∙ map-append (named v.workspace.config.shape) (somes allocation) done

@@ -72,7 +72,7 @@ fn scavenged<A: Allocator + Clone>(
     let serial = SerialCollection::new(alloc.clone()?, heap, &collection, spare)?;
     let (serial, ended) = run_to_end(alloc.clone()?, heap, &collection, serial);
     match ended {
-        Ok(()) => Ok(settle(alloc, collection, serial)?),
+        Ok(()) => Ok(settle(alloc, heap, collection, serial)?),
         Err(LookError::NoMemory) => Err(CollectError::NoMemory),
         Err(LookError::HeapFull) => {
             serial.count_drawn(alloc)?;

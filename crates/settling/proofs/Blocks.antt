@@ -1,5 +1,6 @@
 -- Blocks in one list, places that are held, and counts of places.
-use Rattle.std.proofs.Common.{◌≡◌, ℕ, zero, suc, ◌+◌, ◌<◌, List, [], ◌∷◌, ◌++◌, length, map, Option, Some, None, refl, sym, ap, subst, arith, Bool, true, false, nat_eq, eqb-true}
+use Rattle.std.proofs.Common.{◌≡◌, ◌≢◌, ℕ, zero, suc, ◌+◌, ◌<◌, List, [], ◌∷◌, ◌++◌, length, map, Option, Some, None, refl, sym, ap, subst, ◌∙◌, ⊎_elim, arith, Bool, true, false, ◌||◌, nat_eq, eqb-true, eq-eqb, true≢false}
+use Rattle.std.proofs.lemmas.Bool.{cases_eq}
 use Rattle.std.specs.Prelude.{slice_index_or, IsTrue}
 use Rattle.std.specs.Option.{option_map}
 use Rattle.model.specs.Destination.{Shape}
@@ -44,6 +45,38 @@ stands_has x (y ∷ ys) l = by_test (nat_eq y x) refl (stands_has x ys)
     by_test true e rest = subst (λ z. has (z ∷ ys) x ≡ true) (sym (eqb-true y x e)) (has_head x ys)
     by_test false e rest = let z : one_if (nat_eq y x) ≡ 0 = ap one_if e in has_tail y ys x (rest (omega arith))
 
+pub has_stands : (y : ℕ) (zs : List ℕ) → has zs y ≡ true → 0 < times y zs
+has_stands y [] m = absurd (true≢false (sym m))
+has_stands y (z ∷ zs) m =
+    ⊎_elim
+    (λ (p : z ≡ y). let o : one_if (nat_eq z y) ≡ 1 = ap one_if (eq-eqb z y p) in omega arith)
+    (λ (n : z ≢ y). let q = has_stands y zs (later n m) in omega arith)
+    (cases_eq z y)
+  where
+    later : z ≢ y → has (z ∷ zs) y ≡ true → has zs y ≡ true
+    later n m = go (nat_eq y z) refl m
+      where
+        go : (b : Bool) → nat_eq y z ≡ b → has (z ∷ zs) y ≡ true → has zs y ≡ true
+        go true e m = absurd (n (sym (eqb-true y z e)))
+        go false e m = sym (ap (λ t. t || has zs y) e) ∙ m
+
 pub times-places : (place : ℕ) (won : List (ℕ × ℕ)) → times place (map (λ e. e.1) won) ≡ total (λ (q : ℕ × ℕ). one_if (nat_eq q.1 place)) won
 times-places place [] = refl
 times-places place (e ∷ es) = ap (λ n. one_if (nat_eq e.1 place) + n) (times-places place es)
+
+-- one of those that make a total positive
+pub total_some : {A : Type 0} (f : A → ℕ) (P : A → Type 0) (xs : List A) → Each P xs → 0 < total f xs → (x : A) × (P x × (0 < f x))
+total_some f P [] h l = absurd (omega arith)
+total_some f P (x ∷ xs) h l = go (f x) refl (total_some f P xs h.1)
+  where
+    go : (n : ℕ) → f x ≡ n → (0 < total f xs → (y : _) × (P y × (0 < f y))) → (y : _) × (P y × (0 < f y))
+    go zero e rest = rest (omega arith)
+    go (suc n) e rest = (x, (h.0, omega arith))
+
+pub one_if-positive : (b : Bool) → 0 < one_if b → b ≡ true
+one_if-positive true h = refl
+one_if-positive false h = absurd (omega arith)
+
+pub Each-zip : {A : Type 0} (P Q : A → Type 0) (xs : List A) → Each P xs → Each Q xs → Each (λ x. P x × Q x) xs
+Each-zip P Q [] h k = tt
+Each-zip P Q (x ∷ xs) h k = ((h.0, k.0), Each-zip P Q xs h.1 k.1)

@@ -1,5 +1,5 @@
 -- What the workers bring may be committed.
-use Rattle.std.proofs.Common.{◌≡◌, ◌≢◌, ℕ, zero, suc, ◌+◌, ◌<◌, ◌≤◌, Bool, true, false, ◌||◌, List, [], ◌∷◌, ◌++◌, length, map, Option, Some, None, refl, sym, ap, subst, ◌∙◌, ◌⊎◌, inl, inr, arith, ⊎_elim, eq-eqb, eqb-true, nat_eq, true≢false}
+use Rattle.std.proofs.Common.{◌≡◌, ◌≢◌, ℕ, ◌+◌, ◌<◌, ◌≤◌, Bool, true, false, List, [], ◌∷◌, ◌++◌, length, map, Option, Some, None, refl, sym, ap, subst, ◌∙◌, ◌⊎◌, inl, inr, arith, ⊎_elim, eq-eqb, eqb-true, nat_eq, true≢false}
 use Rattle.std.proofs.lemmas.Bool.{cases_eq, cases_lt}
 use Rattle.std.proofs.lemmas.List.{get_or_past}
 use Rattle.std.proofs.lemmas.List.Elements.{All-nil, All-cons, All-weaker}
@@ -39,6 +39,7 @@ use Rattle.workers.specs.Kept.{IsCopy, IsLeft}
 use Rattle.scavenge.specs.Named.{named, named_copies, IsWhole}
 use Rattle.settling.specs.Brings.{Brings, left_blocks}
 use Rattle.settling.proofs.Entries.{Moved, moved_entries, laid_goes}
+use Rattle.settling.proofs.Blocks.{Each-zip, total_some, one_if-positive, has_stands}
 
 some_is : {X : Type 0} {x y : X} → Some x ≡ Some y → x ≡ y
 some_is e = cc
@@ -55,10 +56,6 @@ Each-map : {A : Type 0} (P Q : A → Type 0) → ((x : A) → P x → Q x) → (
 Each-map P Q k [] h = tt
 Each-map P Q k (x ∷ xs) h = (k x h.0, Each-map P Q k xs h.1)
 
-Each-zip : {A : Type 0} (P Q : A → Type 0) (xs : List A) → Each P xs → Each Q xs → Each (λ x. P x × Q x) xs
-Each-zip P Q [] h k = tt
-Each-zip P Q (x ∷ xs) h k = ((h.0, k.0), Each-zip P Q xs h.1 k.1)
-
 Each-of : {A B : Type 0} (P : B → Type 0) (f : A → B) (xs : List A) → Each P (map f xs) → Each (λ x. P (f x)) xs
 Each-of P f [] h = tt
 Each-of P f (x ∷ xs) h = (h.0, Each-of P f xs h.1)
@@ -74,18 +71,6 @@ total-append f (x ∷ xs) ys = let h : total f (xs ++ ys) ≡ total f xs + total
 total-map : {A B : Type 0} (f : B → ℕ) (g : A → B) (xs : List A) → total f (map g xs) ≡ total (λ x. f (g x)) xs
 total-map f g [] = refl
 total-map f g (x ∷ xs) = ap (λ n. f (g x) + n) (total-map f g xs)
-
-total_some : {A : Type 0} (f : A → ℕ) (P : A → Type 0) (xs : List A) → Each P xs → 0 < total f xs → (x : A) × (P x × (0 < f x))
-total_some f P [] h l = absurd (omega arith)
-total_some f P (x ∷ xs) h l = go (f x) refl (total_some f P xs h.1)
-  where
-    go : (n : ℕ) → f x ≡ n → (0 < total f xs → (y : _) × (P y × (0 < f y))) → (y : _) × (P y × (0 < f y))
-    go zero e rest = rest (omega arith)
-    go (suc n) e rest = (x, (h.0, omega arith))
-
-one_if-positive : (b : Bool) → 0 < one_if b → b ≡ true
-one_if-positive true h = refl
-one_if-positive false h = absurd (omega arith)
 
 find-Each : {X : Type 0} (P : ℕ × X → Type 0) (k : ℕ) (x : X) (es : List (ℕ × X)) → Each P es → find nat_cmp k es ≡ Some x → P (k, x)
 find-Each P k x [] h e = absurd (none_some e)
@@ -116,24 +101,9 @@ distinct_once : (xs : List ℕ) → ((k : ℕ) → times k xs ≤ 1) → IsDisti
 unfolding IsDistinct
 distinct_once [] h = tt
 distinct_once (x ∷ xs) h = (
-  apart_from_absent x xs (λ y m e. let p : 0 < times y xs = member y xs m in let l : one_if (nat_eq x y) + times y xs ≤ 1 = h y in let o : one_if (nat_eq x y) ≡ 1 = ap one_if (eq-eqb x y e) in absurd (omega arith)),
+  apart_from_absent x xs (λ y m e. let p : 0 < times y xs = has_stands y xs m in let l : one_if (nat_eq x y) + times y xs ≤ 1 = h y in let o : one_if (nat_eq x y) ≡ 1 = ap one_if (eq-eqb x y e) in absurd (omega arith)),
   distinct_once xs (λ k. let l : one_if (nat_eq x k) + times k xs ≤ 1 = h k in omega arith),
 )
-  where
-    member : (y : ℕ) (zs : List ℕ) → has zs y ≡ true → 0 < times y zs
-    member y [] m = absurd (true≢false (sym m))
-    member y (z ∷ zs) m =
-        ⊎_elim
-        (λ (p : z ≡ y). let o : one_if (nat_eq z y) ≡ 1 = ap one_if (eq-eqb z y p) in omega arith)
-        (λ (n : z ≢ y). let q = member y zs (later n m) in omega arith)
-        (cases_eq z y)
-      where
-        later : z ≢ y → has (z ∷ zs) y ≡ true → has zs y ≡ true
-        later n m = go (nat_eq y z) refl m
-          where
-            go : (b : Bool) → nat_eq y z ≡ b → has (z ∷ zs) y ≡ true → has zs y ≡ true
-            go true e m = absurd (n (sym (eqb-true y z e)))
-            go false e m = sym (ap (λ t. t || has zs y) e) ∙ m
 
 times-map : (f : ℕ → ℕ) (k : ℕ) (xs : List ℕ) → times k xs ≤ times (f k) (map f xs)
 times-map f k [] = omega arith
@@ -144,7 +114,7 @@ times-map f k (x ∷ xs) = let r : times k xs ≤ times (f k) (map f xs) = times
     go false e r = let p : one_if (nat_eq x k) ≡ 0 = ap one_if e in omega arith
 
 -- where a copy lies in its block
-laid_offsets : (setting : Setting) (number destination offset : ℕ) (cs : List Copy) → LaidFrom setting number destination offset cs → offset + words_in setting cs ≤ 512 → Each (λ (c : Copy). (o : ℕ) × ((o < 512) × (c.place ≡ small_word number o))) cs
+pub laid_offsets : (setting : Setting) (number destination offset : ℕ) (cs : List Copy) → LaidFrom setting number destination offset cs → offset + words_in setting cs ≤ 512 → Each (λ (c : Copy). (o : ℕ) × ((o < 512) × (c.place ≡ small_word number o))) cs
 laid_offsets setting number destination offset [] h l = tt
 laid_offsets setting number destination offset (c ∷ cs) h l =
     let w : 0 < words_of setting c.name = h.0.has_words in

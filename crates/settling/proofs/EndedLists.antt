@@ -34,9 +34,9 @@ pub parts_left : (ps : List Part) → left_blocks ps ≡ flat_map blocks_of (map
 parts_left [] = refl
 parts_left (p ∷ ps) = ap (λ xs. blocks_of p.final ++ xs) (parts_left ps)
 
-pub parts_scanned : (place : ℕ) (ps : List Part) → times place (flat_map (λ (w : Worker). w.scanned) (map (λ (p : Part). p.final) ps)) ≡ total (λ (p : Part). times place p.final.scanned) ps
-parts_scanned place [] = refl
-parts_scanned place (p ∷ ps) = total-append (λ x. one_if (nat_eq x place)) p.final.scanned _ ∙ ap (λ n. times place p.final.scanned + n) (parts_scanned place ps)
+pub parts_times : (f : Worker → List ℕ) (x : ℕ) (ps : List Part) → times x (flat_map f (map (λ (p : Part). p.final) ps)) ≡ total (λ (p : Part). times x (f p.final)) ps
+parts_times f x [] = refl
+parts_times f x (p ∷ ps) = total-append (λ y. one_if (nat_eq y x)) (f p.final) _ ∙ ap (λ n. times x (f p.final) + n) (parts_times f x ps)
 
 -- what holds of each where it stands
 pub each_place : {A : Type 0} (P : A → Type 0) (xs : List A) → ((t : ℕ) (x : A) → slice_get xs t ≡ Some x → P x) → Each P xs

@@ -3,9 +3,9 @@
 pub mod Blocks
 pub mod EndedLists
 pub mod SettleLists
--- Each number has the place that was won, a large object its own.
-pub mod ShownLarge
-pub mod ShownAll
+-- Each number has the place of its name, a large object its own.
+mod ShownLarge
+pub mod LargeDone
 -- Reports, blocks and deliveries, one worker after another.
 pub mod Parted
 pub mod ToldLists

@@ -36,18 +36,18 @@ abbrev pub worker_of : WorkspaceValue → Worker
 worker_of w = w.worker
 
 -- some workers were taken apart, the others weren't
-pub record BroughtSoFar (heap : HeapValue) (c : CollectionValue) (all rest : List WorkspaceValue) (reports : List WorkerLists) (blocks : List BlockValue) : Type 0 where
+pub record BroughtSoFar (heap : HeapValue) (c : CollectionValue) (all rest : List WorkspaceValue) (reports : List WorkerLists) (blocks : List BlockValue) (large : List ℕ) : Type 0 where
   pub before : List WorkspaceValue
   pub split : before ++ rest ≡ all
   pub others : Each (λ (m : WorkspaceValue). IsAtRest heap c m) rest
-  pub brought : AreBrought heap c (map worker_of before) reports blocks
+  pub brought : AreBrought heap c (map worker_of before) reports blocks large
 
 module _ (heap : HeapValue) (c : CollectionValue) (all : List WorkspaceValue) where
-  pub brought_none : Each (λ (m : WorkspaceValue). IsAtRest heap c m) all → BroughtSoFar heap c all all [] []
-  brought_none h = record { before = []; split = refl; others = h; brought = record { reported = record { won = refl; scanned = refl }; numbers = All-nil (λ (e : ℕ × ℕ). e.0 < c.cells); left = refl; whole = tt } }
+  pub brought_none : Each (λ (m : WorkspaceValue). IsAtRest heap c m) all → BroughtSoFar heap c all all [] [] []
+  brought_none h = record { before = []; split = refl; others = h; brought = record { reported = record { won = refl; scanned = refl }; numbers = All-nil (λ (e : ℕ × ℕ). e.0 < c.cells); left = refl; whole = tt; large_are = refl } }
 
-  pub brought_more : (m : WorkspaceValue) (rest : List WorkspaceValue) (reports : List WorkerLists) (report : WorkerLists) (blocks left : List BlockValue) → BroughtSoFar heap c all (m ∷ rest) reports blocks → IsPartOf heap c m.worker report left → BroughtSoFar heap c all rest (reports ++ report ∷ []) (blocks ++ left)
-  brought_more m rest reports report blocks left k part =
+  pub brought_more : (m : WorkspaceValue) (rest : List WorkspaceValue) (reports : List WorkerLists) (report : WorkerLists) (blocks left : List BlockValue) (large claimed : List ℕ) → BroughtSoFar heap c all (m ∷ rest) reports blocks large → IsPartOf heap c m.worker report left claimed → BroughtSoFar heap c all rest (reports ++ report ∷ []) (blocks ++ left) (large ++ claimed)
+  brought_more m rest reports report blocks left large claimed k part =
       record {
         before = k.before ++ m ∷ [];
         split = append_assoc k.before (m ∷ []) rest ∙ k.split;
@@ -59,9 +59,9 @@ module _ (heap : HeapValue) (c : CollectionValue) (all : List WorkspaceValue) wh
           };
           numbers = subst (All (λ (e : ℕ × ℕ). e.0 < c.cells)) (sym (flat_map-append (λ (l : WorkerLists). l.won) reports (report ∷ []) ∙ ap (λ xs. all_won reports ++ xs) (append-nil report.won)))
               (All-append (λ (e : ℕ × ℕ). e.0 < c.cells) (all_won reports) report.won k.brought.numbers part.numbers);
-          left = map-append (named heap.config.shape) blocks left ∙ ap (λ xs. xs ++ map (named heap.config.shape) left) k.brought.left ∙ ap (λ xs. flat_map blocks_of (map worker_of k.before) ++ xs) (part.left ∙ sym (append-nil (blocks_of m.worker)))
-              ∙ sym (ap (flat_map blocks_of) (map-append worker_of k.before (m ∷ [])) ∙ flat_map-append blocks_of (map worker_of k.before) (m.worker ∷ []));
+          left = map-append (named heap.config.shape) blocks left ∙ ap (λ xs. xs ++ map (named heap.config.shape) left) k.brought.left ∙ ap (λ xs. flat_map blocks_of (map worker_of k.before) ++ xs) part.left ∙ sym (joined_more blocks_of);
           whole = Each-append (IsWhole heap.config.shape heap.config.block_words) blocks left k.brought.whole part.whole;
+          large_are = ap (λ xs. xs ++ claimed) k.brought.large_are ∙ ap (λ xs. flat_map (λ (w : Worker). w.large_done) (map worker_of k.before) ++ xs) part.large_are ∙ sym (joined_more (λ (w : Worker). w.large_done));
         };
       }
     where
@@ -71,6 +71,9 @@ module _ (heap : HeapValue) (c : CollectionValue) (all : List WorkspaceValue) wh
       of_more : {A : Type 0} (f : Worker → A) → map f (map worker_of (k.before ++ m ∷ [])) ≡ map f (map worker_of k.before) ++ f m.worker ∷ []
       of_more f = ap (map f) (map-append worker_of k.before (m ∷ [])) ∙ map-append f (map worker_of k.before) (m.worker ∷ [])
 
-  pub brought_all : (rest : List WorkspaceValue) (reports : List WorkerLists) (blocks : List BlockValue) → length rest ≡ 0 → BroughtSoFar heap c all rest reports blocks → AreBrought heap c (map worker_of all) reports blocks
-  brought_all [] reports blocks none k = subst (λ ms. AreBrought heap c (map worker_of ms) reports blocks) (sym (append-nil k.before) ∙ k.split) k.brought
-  brought_all (m ∷ rest) reports blocks none k = absurd (omega (arith, none))
+      joined_more : {A : Type 0} (f : Worker → List A) → flat_map f (map worker_of (k.before ++ m ∷ [])) ≡ flat_map f (map worker_of k.before) ++ f m.worker
+      joined_more f = ap (flat_map f) (map-append worker_of k.before (m ∷ [])) ∙ flat_map-append f (map worker_of k.before) (m.worker ∷ []) ∙ ap (λ xs. flat_map f (map worker_of k.before) ++ xs) (append-nil (f m.worker))
+
+  pub brought_all : (rest : List WorkspaceValue) (reports : List WorkerLists) (blocks : List BlockValue) (large : List ℕ) → length rest ≡ 0 → BroughtSoFar heap c all rest reports blocks large → AreBrought heap c (map worker_of all) reports blocks large
+  brought_all [] reports blocks large none k = subst (λ ms. AreBrought heap c (map worker_of ms) reports blocks large) (sym (append-nil k.before) ∙ k.split) k.brought
+  brought_all (m ∷ rest) reports blocks large none k = absurd (omega (arith, none))

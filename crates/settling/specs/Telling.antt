@@ -19,20 +19,22 @@ pub record IsAtRest (heap : HeapValue) (c : CollectionValue) (w : WorkspaceValue
   pub names : w.names ≡ young_names heap.graph c.generation
   pub no_proposal : w.worker.proposal ≡ None
 
--- the report of a worker, and the blocks that it leaves
-pub record IsPartOf (heap : HeapValue) (c : CollectionValue) (w : Worker) (report : WorkerLists) (blocks : List BlockValue) : Type 0 where
+-- the report of a worker, the blocks that it leaves, and the large objects that it scanned
+pub record IsPartOf (heap : HeapValue) (c : CollectionValue) (w : Worker) (report : WorkerLists) (blocks : List BlockValue) (large : List ℕ) : Type 0 where
   pub won : renaming_of (young_names heap.graph c.generation) report.won ≡ w.won
   pub numbers : All (λ (e : ℕ × ℕ). e.0 < c.cells) report.won
   pub scanned : report.scanned ≡ w.scanned
   pub left : map (named heap.config.shape) blocks ≡ blocks_of w
   pub whole : Each (IsWhole heap.config.shape heap.config.block_words) blocks
+  pub large_are : large ≡ w.large_done
 
 -- those of all workers, in order
-pub record AreBrought (heap : HeapValue) (c : CollectionValue) (workers : List Worker) (reports : List WorkerLists) (blocks : List BlockValue) : Type 0 where
+pub record AreBrought (heap : HeapValue) (c : CollectionValue) (workers : List Worker) (reports : List WorkerLists) (blocks : List BlockValue) (large : List ℕ) : Type 0 where
   pub reported : AreReportsOf heap c.generation workers reports
   pub numbers : All (λ (e : ℕ × ℕ). e.0 < c.cells) (all_won reports)
   pub left : map (named heap.config.shape) blocks ≡ flat_map blocks_of workers
   pub whole : Each (IsWhole heap.config.shape heap.config.block_words) blocks
+  pub large_are : large ≡ flat_map (λ (w : Worker). w.large_done) workers
 
 -- a worker's export at a position, of which the queues tell this
 abbrev pub delivery_of : ℕ → ℕ × Outcome → Delivery

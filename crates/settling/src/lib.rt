@@ -7,6 +7,6 @@ mod places;
 mod told;
 
 pub use law::parts_settle;
-pub use parts::{brought, in_one_list};
-pub use places::{show_all, show_large};
+pub use parts::{JoinedParts, brought, in_one_list};
+pub use places::show_large;
 pub use told::all_delivered;

@@ -1,5 +1,5 @@
 -- What the lists say that workers brought back.
-use Rattle.std.proofs.Common.{◌≡◌, ℕ, zero, suc, ◌+◌, ◌<◌, ◌≤◌, List, [], ◌∷◌, All, map, length, Option, None, refl, sym, ap, subst, ◌∙◌, arith, nat_eq, Contains}
+use Rattle.std.proofs.Common.{◌≡◌, ℕ, ◌<◌, List, [], ◌∷◌, All, map, length, Option, None, refl, sym, ap, subst, ◌∙◌, nat_eq, Contains}
 use Rattle.std.proofs.lemmas.List.Elements.{All-nil, All-cons}
 use Rattle.std.specs.Prelude.{slice_index_or}
 use Rattle.std.specs.List.{IsDistinct}
@@ -15,14 +15,13 @@ use Rattle.pending_queues.specs.PendingValue.{IsSeatOf as IsQueueSeat}
 use Rattle.pending_queues.specs.Delivered.{AreDelivered}
 use Rattle.steps.specs.HeapValue.{HeapValue}
 use Rattle.steps.specs.CollectionValue.{CollectionValue}
-use Rattle.steps.specs.ReportValue.{WorkerLists, all_won}
+use Rattle.steps.specs.ReportValue.{WorkerLists}
 use Rattle.workers.specs.Joined.{Each}
 use Rattle.scavenge.specs.Handed.{CopiesKeyValue}
 use Rattle.scavenge.specs.Shown.{WorkspaceValue}
-use Rattle.settling.specs.Shown.{shown_after}
+use Rattle.settling.specs.Shown.{AreShown}
 use Rattle.settling.specs.Telling.{IsAtRest, AreBrought}
 use Rattle.settling.proofs.EndedLists.{each_place}
-use Rattle.settling.proofs.ShownLarge.{shown_in}
 use Rattle.workers_in_threads.specs.declared.kit.Brought.{Brought}
 use Rattle.workers_in_threads.specs.declared.sharing_worker.resting.Outcome.{Outcome}
 use Rattle.workers_in_threads.specs.declared.sharing_worker.resting.Outcome.TheVariants.{Ended}
@@ -148,10 +147,10 @@ module _ {P A : Type 0} (is_pass : ℕ → P → Type 0) (known : P → ℕ → 
             delivered = subst (λ ss. AreDelivered ss lists) seats_are told;
           }
 
-      pub reported : (reports : List WorkerLists) (blocks : List BlockValue) (shown : List (Option Place)) → AreBrought heap c (map (λ (w : WorkspaceValue). w.worker) workspaces) reports blocks → length shown ≡ c.cells
-          → ((number : ℕ) → shown_in shown number ≡ shown_after number (all_won reports) (shown_in places number)) → Reported gathered reports blocks shown
-      reported reports blocks shown b many shows =
-          let w : AreBrought heap c (workers_of threads) reports blocks = subst (λ ws. AreBrought heap c ws reports blocks) workers_are b in
+      pub reported : (reports : List WorkerLists) (blocks : List BlockValue) (large : List ℕ) (shown : List (Option Place)) → AreBrought heap c (map (λ (w : WorkspaceValue). w.worker) workspaces) reports blocks large → length shown ≡ c.cells
+          → AreShown heap c large places shown → Reported gathered reports blocks shown
+      reported reports blocks large shown b many shows =
+          let w : AreBrought heap c (workers_of threads) reports blocks large = subst (λ ws. AreBrought heap c ws reports blocks large) workers_are b in
           record {
             won_are = w.reported.won;
             scanned_are = w.reported.scanned;
@@ -159,5 +158,5 @@ module _ {P A : Type 0} (is_pass : ℕ → P → Type 0) (known : P → ℕ → 
             left = w.left;
             whole = w.whole;
             count = many;
-            shown = shows;
+            shown = subst (λ ns. AreShown heap c ns places shown) w.large_are shows;
           }

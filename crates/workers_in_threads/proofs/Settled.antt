@@ -1,13 +1,9 @@
 -- What threads brought may be committed, and each place was scanned once.
-use Rattle.std.proofs.Common.{◌≡◌, ℕ, zero, suc, ◌+◌, ◌<◌, ◌≤◌, List, [], ◌∷◌, ◌++◌, All, map, length, Option, Some, None, refl, sym, ap, subst, ◌∙◌, arith, cond, nat_eq}
+use Rattle.std.proofs.Common.{◌≡◌, ℕ, ◌+◌, ◌<◌, ◌≤◌, List, [], ◌∷◌, ◌++◌, All, map, Option, Some, None, refl, sym, ap, subst, ◌∙◌, arith, nat_eq}
 use Rattle.std.proofs.lemmas.List.{map-append}
-use Rattle.std.specs.Prelude.{flat_map, slice_index, slice_index_or, IsTrue}
-use Rattle.std.specs.Option.{option_map}
-use Rattle.std.specs.Ordering.{nat_cmp}
-use Rattle.std.specs.FinMap.{find}
-use Rattle.model.specs.Reached.{has}
+use Rattle.std.specs.Prelude.{flat_map, slice_index}
+use Rattle.model.specs.Live.{IsYoung}
 use Rattle.layout.specs.declared.place.Place.{Place}
-use Rattle.layout.specs.Place.{place_word}
 use Rattle.block_pool.specs.BlockValue.{BlockValue}
 use Rattle.forwarding.specs.Settled as settled
 use Rattle.steps.specs.ReportValue.{WorkerLists, all_won, renaming_of}
@@ -15,19 +11,18 @@ use Rattle.steps.specs.CollectionValue.{young_names}
 use Rattle.steps.specs.SettledValue.{IsSettled}
 use Rattle.workers.specs.Worker.{Worker}
 use Rattle.workers.specs.Total.{total, one_if, times, wins_of, ones}
-use Rattle.workers.specs.Joined.{Each, Part, blocks_of}
+use Rattle.workers.specs.Joined.{Part, blocks_of}
 use Rattle.workers.specs.Kept.{won_lists}
 use Rattle.settling.specs.Brings.{left_blocks}
 use Rattle.settling.proofs.Bridge.{settled as may_settle}
-use Rattle.settling.specs.Shown.{shown_after}
-use Rattle.settling.proofs.ShownLarge.{large_here, places_show}
+use Rattle.settling.proofs.LargeDone.{held_of, large_young, places_show}
 use Rattle.settling.proofs.Blocks.{times-places}
-use Rattle.workers_in_threads.specs.SharingValue.{forwarded_in, stands_at}
-use Rattle.workers_in_threads.specs.Threads.{ThreadValue, Gathered, KeptBy, placed_in, passes_of}
+use Rattle.workers_in_threads.specs.SharingValue.{forwarded_in}
+use Rattle.workers_in_threads.specs.Threads.{Gathered, KeptBy, placed_in}
 use Rattle.workers_in_threads.specs.Reported.{Reported, workers_of}
 use Rattle.workers_in_threads.proofs.Lists.{total-append}
-use Rattle.workers_in_threads.proofs.Named.{name_at, found_named, found_once, wins_named, won_once}
-use Rattle.workers_in_threads.proofs.Joined.{threads_keep, in_range, given_each, wins_least, cells_are, pairs, given}
+use Rattle.workers_in_threads.proofs.Named.{name_at, found_named, found_once, wins_named}
+use Rattle.workers_in_threads.proofs.Joined.{threads_keep, in_range, given_each, cells_are, pairs, given}
 
 abbrev joined_lists : {X : Type 0} → List (List X) → List X
 joined_lists xss = flat_map (λ xs. xs) xss
@@ -54,7 +49,7 @@ module _ {P A : Type 0} {known : P → ℕ → Option Place} {won : P → List (
 
   -- each cell shows where its name was placed
   cell_shows : (number : ℕ) → number < all.collection.cells → (held : Option Place) → given all number ≡ held
-      → option_map (λ place. cond (large_here all.heap (slice_index (young_names all.heap.graph all.collection.generation) number)) (slice_index (young_names all.heap.graph all.collection.generation) number) (place_word place)) held ≡ placed_in all (slice_index (young_names all.heap.graph all.collection.generation) number)
+      → held_of all.heap (slice_index (young_names all.heap.graph all.collection.generation) number) held ≡ placed_in all (slice_index (young_names all.heap.graph all.collection.generation) number)
   cell_shows number lt (Some place) e =
       let w : settled.wins_of number (pairs all) ≡ 1 = all.settled.once number ∙ ap settled.ones e in
       sym (found_named all.heap all.collection (cells_are all) (given all) number place lt e (pairs all) (in_range all) (given_each all) (omega (arith, w)))
@@ -67,6 +62,19 @@ module _ {P A : Type 0} {known : P → ℕ → Option Place} {won : P → List (
       none_of : (o : Option ℕ) → ones o ≡ 0 → None ≡ o
       none_of None z = refl
       none_of (Some x) z = absurd (omega (arith, z))
+
+  -- the large objects that they scanned
+  abbrev large : List ℕ
+  large = flat_map (λ (w : Worker). w.large_done) (workers_of all.threads)
+
+  large_is : large ≡ flat_map (λ (w : Worker). w.large_done) (map (λ (p : Part). p.final) kept_by.parts)
+  large_is = ap (flat_map (λ (w : Worker). w.large_done)) (sym kept_by.finals)
+
+  -- they are numbered
+  pub threads_young : All (IsYoung all.heap.graph all.collection.generation) large
+  threads_young =
+      subst (All (IsYoung all.heap.graph all.collection.generation)) (sym large_is)
+      (large_young all.heap all.collection all.ready.sound all.workers (placed_in all) kept_by.parts kept_by.kept kept_by.drawn_free)
 
   module _ (reports : List WorkerLists) (blocks : List BlockValue) (places : List (Option Place)) (r : Reported all reports blocks places) where
     won_is : won_lists kept_by.parts ≡ flat_map (λ (w : Worker). w.won) (workers_of all.threads)
@@ -90,8 +98,9 @@ module _ {P A : Type 0} {known : P → ℕ → Option Place} {won : P → List (
           won_are = renamed_is;
           numbers = r.numbers;
           places_count = r.count;
-          places_are = λ number lt. r.shown number
-              ∙ places_show all.heap all.collection all.ready.sound all.ready.opened all.workers (placed_in all) kept_by.parts kept_by.kept (all_won reports) renamed_is r.numbers number lt (given all number) (cell_shows number lt (given all number) refl);
+          places_are = λ number lt.
+              places_show all.heap all.collection all.ready.sound all.workers (placed_in all) kept_by.parts kept_by.kept kept_by.drawn_free large large_is all.places places r.shown number lt
+              (given all number) refl (cell_shows number lt (given all number) refl);
         })
 
     scanned_parts : (place : ℕ) (ps : List Part) → times place (flat_map (λ (w : Worker). w.scanned) (map (λ (p : Part). p.final) ps)) ≡ total (λ (p : Part). times place p.final.scanned) ps

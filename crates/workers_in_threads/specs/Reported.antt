@@ -1,15 +1,13 @@
 -- What is made of what threads brought: reports, blocks and places.
-use Rattle.std.specs.Prelude.{◌≡◌, ℕ, ◌<◌, List, All, map, flat_map, length, Option, None, slice_index_or}
-use Rattle.std.specs.Option.{option_map}
+use Rattle.std.specs.Prelude.{◌≡◌, ℕ, ◌<◌, List, All, map, flat_map, length, Option}
 use Rattle.layout.specs.declared.place.Place.{Place}
-use Rattle.layout.specs.Place.{place_word}
 use Rattle.block_pool.specs.BlockValue.{BlockValue}
 use Rattle.steps.specs.ReportValue.{WorkerLists, all_won, renaming_of}
 use Rattle.steps.specs.CollectionValue.{young_names}
 use Rattle.workers.specs.Worker.{Worker}
 use Rattle.workers.specs.Joined.{Each, blocks_of}
 use Rattle.scavenge.specs.Named.{named, IsWhole}
-use Rattle.settling.specs.Shown.{shown_after}
+use Rattle.settling.specs.Shown.{AreShown}
 use Rattle.workers_in_threads.specs.Threads.{ThreadValue, Gathered}
 
 -- the workers of all threads
@@ -24,4 +22,4 @@ pub record Reported {P A : Type 0} {known : P → ℕ → Option Place} {won : P
   pub left : map (named all.heap.config.shape) blocks ≡ flat_map blocks_of (workers_of all.threads)
   pub whole : Each (IsWhole all.heap.config.shape all.heap.config.block_words) blocks
   pub count : length places ≡ all.collection.cells
-  pub shown : (number : ℕ) → option_map place_word (slice_index_or places number None) ≡ shown_after number (all_won reports) (option_map place_word (slice_index_or all.places number None))
+  pub shown : AreShown all.heap all.collection (flat_map (λ (w : Worker). w.large_done) (workers_of all.threads)) all.places places

@@ -10,7 +10,7 @@ ghost use Rattle.workers_in_threads.specs.Reports.{ReportsApart};
 use crate::separating::Seats;
 use forwarding::{Forwards, SharedCells};
 use heap::{Collection, Heap, Settled};
-use settling::{all_delivered, brought, show_all};
+use settling::{JoinedParts, all_delivered, brought, show_large};
 use std::alloc::{AllocError, Allocator};
 use std::sync::Wait;
 
@@ -46,9 +46,14 @@ pub fn gathered<R: Wait, S: SharedCells, A: Allocator + Clone>(
     } = seats;
     let workers = workspaces.len() as u32;
     let _drawn = claims.close(draws);
-    let (reports, blocks, spare) = brought(alloc.clone()?, heap, &collection, workspaces)?;
-    show_all(&mut places, &reports);
+    let JoinedParts {
+        reports,
+        blocks,
+        large,
+        spare,
+    } = brought(alloc.clone()?, heap, &collection, workspaces)?;
     let told = queues.close(rt, alloc.clone()?, seats)?;
+    show_large(heap, &collection, &mut places, &large);
     let deliveries = all_delivered(alloc, &told, workers)?;
     Ok(Settled {
         collection,

@@ -12,7 +12,7 @@ use crate::interleaved_settling::settle_error::SettleError;
 use crate::workers_in_turn::{InterleavedCollection, InterleavedParts, Member};
 use heap::{Collection, Heap, Settled};
 use scavenge::Workspace;
-use settling::{all_delivered, brought, show_all};
+use settling::{JoinedParts, all_delivered, brought, show_large};
 use std::alloc::{AllocError, Allocator};
 
 /// The members' own parts, in order.
@@ -57,9 +57,14 @@ fn gathered<A: Allocator + Clone>(
     } = workers.into_parts();
     let n = members.len() as u32;
     let workspaces = workspaces_of(alloc.clone()?, members)?;
-    let (reports, blocks, spare) = brought(alloc.clone()?, heap, &collection, workspaces)?;
+    let JoinedParts {
+        reports,
+        blocks,
+        large,
+        spare,
+    } = brought(alloc.clone()?, heap, &collection, workspaces)?;
     let mut places = cells.settle_alone(pass);
-    show_all(&mut places, &reports);
+    show_large(heap, &collection, &mut places, &large);
     let told = queues.close(alloc.clone()?, Vec::new(alloc.clone()?))?;
     let deliveries = all_delivered(alloc, &told, n)?;
     Ok(Settled {

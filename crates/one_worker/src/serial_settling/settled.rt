@@ -14,7 +14,7 @@ ghost use Rattle.settling.specs.OwnDeliveries.{deliveries_of_sizes, own_deliveri
 
 use crate::parts::SerialParts;
 use crate::serial::SerialCollection;
-use heap::{Collection, Delivery, Settled, Won, WorkerReport};
+use heap::{Collection, Delivery, Heap, Settled, Won, WorkerReport};
 use layout::Place;
 use pending_queues::{Delivery as Outcome, PlainPending, PlainSeat};
 use scavenge::{Copies, Parts};
@@ -67,9 +67,11 @@ fn reported<A: Allocator>(
 /// What the worker brings to the commit of its collection, once nothing is left to it. An error says that memory ran out.
 pub fn settle<A: Allocator + Clone>(
     alloc: A,
+    heap: &Heap<A>,
     collection: Collection<A>,
     serial: SerialCollection<A>,
 ) -> Result<Settled<A>, AllocError>
+    requires heap { heap.now ≡ serial.heap }
     requires collection { collection ≡ serial.collection }
     requires out { IsOutOfWork serial.workspace.worker }
     requires queue { waiting_in (lane_of serial) ≡ [] }
@@ -92,14 +94,14 @@ pub fn settle<A: Allocator + Clone>(
     let Parts {
         allocation,
         done,
-        large: _,
+        large,
         won,
         scanned,
         spare,
     } = workspace.into_parts();
     let blocks = in_one_list(alloc.clone()?, allocation, done)?;
     let mut places = cells.settle_alone(pass);
-    show_large(&mut places, &won);
+    show_large(heap, &collection, &mut places, &large);
     let deliveries = exported(alloc.clone()?, queues, seat)?;
     let workers = reported(alloc, won, scanned)?;
     Ok(Settled {

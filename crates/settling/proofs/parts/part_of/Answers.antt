@@ -14,4 +14,5 @@ returns g c =
       scanned = ap (λ (l : WorkerLists). l.scanned) c.new.ensures ∙ c.into_parts-allocation.ensures.scanned;
       left = blocks_left c.args.heap.now c.args.workspace c.requires.rest.config c.into_parts-allocation.result.allocation.items c.into_parts-allocation.result.done.items c.in_ok-blocks.blocks.items c.in_ok-blocks.ensures c.into_parts-allocation.ensures.allocation c.into_parts-allocation.ensures.done;
       whole = blocks_whole c.args.heap.now c.args.workspace c.requires.rest.config c.into_parts-allocation.result.allocation.items c.into_parts-allocation.result.done.items c.in_ok-blocks.blocks.items c.in_ok-blocks.ensures c.into_parts-allocation.ensures.allocation_whole c.into_parts-allocation.ensures.done_whole;
+      large_are = c.into_parts-allocation.ensures.large;
     }

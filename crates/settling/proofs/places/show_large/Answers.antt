@@ -1,27 +1,22 @@
-use Rattle.std.proofs.Common.{◌+◌, Some, length, length-set, ap, subst, sym, ◌∙◌, arith}
-use Rattle.settling.proofs.ShownLarge.{ShownSoFar, number_below, small_word_below, large_word_above, small_more, large_more}
-use Rattle.settling.proofs.places.show_large.Goals.{in-Large, in_default}
+use Rattle.std.proofs.Common.{◌+◌, Some, length, map, take, length-set, ap, subst, sym, ◌∙◌, arith}
+use Rattle.model.specs.Live.{IsYoung}
+use Rattle.layout.specs.Place.{place_word}
+use Rattle.settling.specs.Shown.{AreShown}
+use Rattle.settling.proofs.ShownLarge.{this_one, large_more}
 use Rattle.settling.proofs.places.show_large.Goals as goal
 
-pub set-requires : goal.set-requires
-set-requires g c =
-    let below = number_below c.args.won.now (length c.args.places.now) c.requires c.loop-win.win-index c.win-item.result c.loop-win-test.true c.win-item.is in
-    omega (arith, below, c.loop-win.invariant.count)
+pub number_of-requires-clause-young : goal.number_of-requires-clause-young
+number_of-requires-clause-young g c =
+    this_one c.args.heap.now c.args.collection.now c.args.large.now c.loop-place.place-index c.place-item.result c.loop-place-test.true c.place-item.is (IsYoung c.args.heap.now.graph c.args.collection.now.generation) c.requires.young
 
-pub loop-win-preserved : goal.loop-win-preserved
-loop-win-preserved g c = elim c.match-win.branch [
-  | in-Large w ↦
-      let is = w.places-is ∙ w.set.ensures in
-      let below = number_below c.args.won.now (length c.args.places.now) c.requires c.loop-win.win-index c.win-item.result c.loop-win-test.true c.win-item.is in
-      record {
-        count = ap length is ∙ (length-set c.loop-win.places c.win-item.result.number (Some c.win-item.result.place) ∙ c.loop-win.invariant.count);
-        shown = subst (ShownSoFar c.args.won.now (c.loop-win.win-index + 1) c.args.places.now) (sym is)
-            (large_more c.args.won.now c.args.places.now c.loop-win.places c.loop-win.win-index c.win-item.result c.loop-win-test.true c.win-item.is c.loop-win.invariant.shown (omega (arith, below, c.loop-win.invariant.count)) (large_word_above c.win-item.result.place w.in-Large.field-0 w.in-Large.is));
-      }
-  | in_default w ↦ record {
-    count = ap length w.places-is ∙ c.loop-win.invariant.count;
-    shown =
-        subst (ShownSoFar c.args.won.now (c.loop-win.win-index + 1) c.args.places.now) (sym w.places-is)
-        (small_more c.args.won.now c.args.places.now c.loop-win.places c.loop-win.win-index c.win-item.result c.loop-win-test.true c.win-item.is c.loop-win.invariant.shown (small_word_below c.win-item.result.place w.in_default.field-0 w.in_default.is));
-  }
-]
+pub set-requires : goal.set-requires
+set-requires g c = omega (arith, c.number_of.ensures.in_range, c.loop-place.invariant.count, c.requires.count)
+
+pub loop-place-preserved : goal.loop-place-preserved
+loop-place-preserved g c = record {
+  count = ap length c.set.ensures ∙ (length-set c.loop-place.places c.number_of.result (Some c.place-item.result) ∙ c.loop-place.invariant.count);
+  shown =
+      subst (AreShown c.args.heap.now c.args.collection.now (map place_word (take (c.loop-place.place-index + 1) c.args.large.now)) c.args.places.now) (sym c.set.ensures)
+      (large_more c.args.heap.now c.args.collection.now c.args.large.now c.loop-place.place-index c.place-item.result c.loop-place-test.true c.place-item.is
+      c.requires.opened c.args.places.now c.loop-place.places c.number_of.result c.number_of.ensures.in_range c.number_of.ensures.number (c.loop-place.invariant.count ∙ c.requires.count) c.loop-place.invariant.shown);
+}

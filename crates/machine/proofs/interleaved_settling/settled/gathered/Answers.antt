@@ -1,4 +1,4 @@
-use Rattle.std.proofs.Common.{◌≡◌, ℕ, ◌<◌, All, length, map, sym, ap, subst, ◌∙◌, arith}
+use Rattle.std.proofs.Common.{◌≡◌, All, length, map, sym, ap, subst, ◌∙◌, arith}
 use Rattle.std.specs.Prelude.{IsSome}
 use Rattle.std.proofs.lemmas.List.{length-map}
 use Rattle.pending_queues.specs.declared.exports.deliveries.Delivery.{Delivery as Outcome}
@@ -11,9 +11,10 @@ use Rattle.pending_queues.specs.PlainValue.{PlainValue as PlainQueuesValue}
 use Rattle.machine.specs.InterleavedValue.{system_of}
 use Rattle.settling.specs.Together.{AreDelivered}
 use Rattle.settling.specs.Telling.{all_deliveries}
-use Rattle.machine.proofs.Ended.{at_rest_in, brought_in, held_count, settles, scans_once, nothing_left}
-use Rattle.settling.specs.Shown.{shown_after}
-use Rattle.settling.proofs.ShownLarge.{shown_in}
+use Rattle.machine.proofs.Ended.{at_rest_in, brought_in, opened_in, young_in, shown_so, held_count, young, settles, scans_once, nothing_left}
+use Rattle.layout.specs.Place.{place_word}
+use Rattle.steps.specs.CollectionValue.{CollectionValue}
+use Rattle.settling.specs.Shown.{AreShown}
 use Rattle.scavenge.specs.Handed.{CopiesKeyValue}
 use Rattle.machine.proofs.Delivered.{told_is, each_taken, delivered}
 use Rattle.machine.proofs.interleaved_settling.settled.gathered.Goals as goal
@@ -35,35 +36,41 @@ pub all_delivered-requires-clause-taken : goal.all_delivered-requires-clause-tak
 all_delivered-requires-clause-taken g c =
     subst (All (λ es. All (λ (e : Outcome). IsSome e.taker) es)) (sym (told_is c.args.workers c.into_parts-cells.result.queues c.in_ok-told.told c.into_parts-cells.ensures.queues (c.in_ok-told.ensures ∙ ap (λ (q : PlainQueuesValue CopiesKeyValue). map outcomes_of q.lanes) c.queues.view_is))) (each_taken c.args.workers c.into_parts-cells.ensures.interleaved c.requires.ended)
 
-pub show_all-requires : goal.show_all-requires
-show_all-requires g c =
-    let count : length c.settle_alone-places.result ≡ c.args.workers.collection.cells =
-    held_count c.args.workers c.into_parts-cells.ensures.interleaved c.settle_alone-places.result (c.settle_alone-places.ensures.exact ∙ ap (λ (k : PlainCellsValue). map place_of k.held) c.into_parts-cells.ensures.cells) in
-    subst (λ rs. All (λ (e : ℕ × ℕ). e.0 < length c.settle_alone-places.result) (all_won rs)) (sym c.deref.ensures.value)
-    (subst (λ n. All (λ (e : ℕ × ℕ). e.0 < n) (all_won c.in_ok-reports.reports.items)) (sym count)
-    (brought_in c.args.workers c.args.heap.now c.args.collection c.into_parts-cells.result.members.items c.requires.heap c.requires.collection c.into_parts-cells.ensures.members c.in_ok-workspaces.workspaces.items c.in_ok-workspaces.ensures c.in_ok-reports.reports.items c.in_ok-reports.blocks.items c.in_ok-reports.ensures).numbers)
+pub show_large-requires-clause-opened : goal.show_large-requires-clause-opened
+show_large-requires-clause-opened g c = opened_in c.args.workers c.args.heap.now c.args.collection c.into_parts-cells.result.members.items c.requires.heap c.requires.collection c.into_parts-cells.ensures.members c.in_ok-workspaces.workspaces.items c.in_ok-workspaces.ensures c.into_parts-cells.ensures.interleaved
+
+pub show_large-requires-clause-young : goal.show_large-requires-clause-young
+show_large-requires-clause-young g c =
+    rw c.deref.ensures.value
+    (young_in c.args.workers c.args.heap.now c.args.collection c.into_parts-cells.result.members.items c.requires.heap c.requires.collection c.into_parts-cells.ensures.members c.in_ok-workspaces.workspaces.items c.in_ok-workspaces.ensures (map place_word c.in_ok-reports.field-0.large.items)
+    (young c.args.workers c.into_parts-cells.ensures.interleaved c.requires.ended c.in_ok-reports.field-0.reports.items c.in_ok-reports.field-0.blocks.items (map place_word c.in_ok-reports.field-0.large.items)
+    (brought_in c.args.workers c.args.heap.now c.args.collection c.into_parts-cells.result.members.items c.requires.heap c.requires.collection c.into_parts-cells.ensures.members c.in_ok-workspaces.workspaces.items c.in_ok-workspaces.ensures c.in_ok-reports.field-0.reports.items c.in_ok-reports.field-0.blocks.items (map place_word c.in_ok-reports.field-0.large.items) c.in_ok-reports.ensures)))
+
+pub show_large-requires-clause-count : goal.show_large-requires-clause-count
+show_large-requires-clause-count g c =
+    held_count c.args.workers c.into_parts-cells.ensures.interleaved c.settle_alone-places.result (c.settle_alone-places.ensures.exact ∙ ap (λ (k : PlainCellsValue). map place_of k.held) c.into_parts-cells.ensures.cells)
+    ∙ ap (λ (d : CollectionValue). d.cells) (sym c.requires.collection)
 
 pub returns-clause-settled : goal.returns-clause-settled
 returns-clause-settled g c =
-    let count : length c.show_all.new.places ≡ length c.settle_alone-places.result = c.show_all.ensures.count in
-    let shown : (number : ℕ) → shown_in c.show_all.new.places number ≡ shown_after number (all_won c.in_ok-reports.reports.items) (shown_in c.settle_alone-places.result number) =
-    λ number. c.show_all.ensures.shown number ∙ ap (λ rs. shown_after number (all_won rs) (shown_in c.settle_alone-places.result number)) c.deref.ensures.value in
-    subst (λ d. IsSettled c.args.workers.heap d c.show_all.new.places c.in_ok-reports.blocks.items (all_won c.in_ok-reports.reports.items)) (sym c.requires.collection)
-    (settles c.args.workers c.into_parts-cells.ensures.interleaved c.requires.ended c.in_ok-reports.reports.items c.in_ok-reports.blocks.items
-    (brought_in c.args.workers c.args.heap.now c.args.collection c.into_parts-cells.result.members.items c.requires.heap c.requires.collection c.into_parts-cells.ensures.members c.in_ok-workspaces.workspaces.items c.in_ok-workspaces.ensures c.in_ok-reports.reports.items c.in_ok-reports.blocks.items c.in_ok-reports.ensures)
-    c.settle_alone-places.result c.show_all.new.places (c.settle_alone-places.ensures.exact ∙ ap (λ (k : PlainCellsValue). map place_of k.held) c.into_parts-cells.ensures.cells) count shown)
+    let shown : AreShown c.args.heap.now c.args.collection (map place_word c.in_ok-reports.field-0.large.items) c.settle_alone-places.result c.show_large.new.places = subst (λ ps. AreShown c.args.heap.now c.args.collection (map place_word ps) c.settle_alone-places.result c.show_large.new.places) c.deref.ensures.value c.show_large.ensures.shown in
+    subst (λ d. IsSettled c.args.workers.heap d c.show_large.new.places c.in_ok-reports.field-0.blocks.items (all_won c.in_ok-reports.field-0.reports.items)) (sym c.requires.collection)
+    (settles c.args.workers c.into_parts-cells.ensures.interleaved c.requires.ended c.in_ok-reports.field-0.reports.items c.in_ok-reports.field-0.blocks.items (map place_word c.in_ok-reports.field-0.large.items)
+    (brought_in c.args.workers c.args.heap.now c.args.collection c.into_parts-cells.result.members.items c.requires.heap c.requires.collection c.into_parts-cells.ensures.members c.in_ok-workspaces.workspaces.items c.in_ok-workspaces.ensures c.in_ok-reports.field-0.reports.items c.in_ok-reports.field-0.blocks.items (map place_word c.in_ok-reports.field-0.large.items) c.in_ok-reports.ensures)
+    c.settle_alone-places.result c.show_large.new.places (c.settle_alone-places.ensures.exact ∙ ap (λ (k : PlainCellsValue). map place_of k.held) c.into_parts-cells.ensures.cells) c.show_large.ensures.count
+    (shown_so c.args.workers c.args.heap.now c.args.collection c.into_parts-cells.result.members.items c.requires.heap c.requires.collection c.into_parts-cells.ensures.members c.in_ok-workspaces.workspaces.items c.in_ok-workspaces.ensures (map place_word c.in_ok-reports.field-0.large.items) c.settle_alone-places.result c.show_large.new.places shown))
 
 pub returns-clause-once : goal.returns-clause-once
 returns-clause-once g c =
-    scans_once c.args.workers c.into_parts-cells.ensures.interleaved c.requires.ended c.in_ok-reports.reports.items c.in_ok-reports.blocks.items
-    (brought_in c.args.workers c.args.heap.now c.args.collection c.into_parts-cells.result.members.items c.requires.heap c.requires.collection c.into_parts-cells.ensures.members c.in_ok-workspaces.workspaces.items c.in_ok-workspaces.ensures c.in_ok-reports.reports.items c.in_ok-reports.blocks.items c.in_ok-reports.ensures)
+    scans_once c.args.workers c.into_parts-cells.ensures.interleaved c.requires.ended c.in_ok-reports.field-0.reports.items c.in_ok-reports.field-0.blocks.items (map place_word c.in_ok-reports.field-0.large.items)
+    (brought_in c.args.workers c.args.heap.now c.args.collection c.into_parts-cells.result.members.items c.requires.heap c.requires.collection c.into_parts-cells.ensures.members c.in_ok-workspaces.workspaces.items c.in_ok-workspaces.ensures c.in_ok-reports.field-0.reports.items c.in_ok-reports.field-0.blocks.items (map place_word c.in_ok-reports.field-0.large.items) c.in_ok-reports.ensures)
 
 pub returns-clause-reports : goal.returns-clause-reports
 returns-clause-reports g c =
     record {
       ended = c.requires.ended;
       left = nothing_left c.args.workers c.into_parts-cells.ensures.interleaved c.requires.ended;
-      lists = (brought_in c.args.workers c.args.heap.now c.args.collection c.into_parts-cells.result.members.items c.requires.heap c.requires.collection c.into_parts-cells.ensures.members c.in_ok-workspaces.workspaces.items c.in_ok-workspaces.ensures c.in_ok-reports.reports.items c.in_ok-reports.blocks.items c.in_ok-reports.ensures).reported;
+      lists = (brought_in c.args.workers c.args.heap.now c.args.collection c.into_parts-cells.result.members.items c.requires.heap c.requires.collection c.into_parts-cells.ensures.members c.in_ok-workspaces.workspaces.items c.in_ok-workspaces.ensures c.in_ok-reports.field-0.reports.items c.in_ok-reports.field-0.blocks.items (map place_word c.in_ok-reports.field-0.large.items) c.in_ok-reports.ensures).reported;
       delivered = subst (AreDelivered (system_of c.args.workers)) (sym (c.in_ok-deliveries.ensures ∙ ap all_deliveries (told_is c.args.workers c.into_parts-cells.result.queues c.in_ok-told.told c.into_parts-cells.ensures.queues (c.in_ok-told.ensures ∙ ap (λ (q : PlainQueuesValue CopiesKeyValue). map outcomes_of q.lanes) c.queues.view_is))))
           (delivered c.args.workers c.into_parts-cells.ensures.interleaved c.requires.ended);
     }

@@ -1,5 +1,6 @@
 use Rattle.std.proofs.Common.{◌≡◌, ℕ, ◌<◌, All, length, map, sym, ap, subst, ◌∙◌}
 use Rattle.std.specs.Option.{option_map}
+use Rattle.layout.specs.Place.{place_word}
 use Rattle.block_pool.specs.BlockValue.{BlockValue}
 use Rattle.steps.specs.ReportValue.{all_won, renaming_of}
 use Rattle.steps.specs.ReportView.{won_value}
@@ -13,9 +14,7 @@ use Rattle.scavenge.specs.Named.{named, IsWhole}
 use Rattle.scavenge.specs.Fronts.{slot_at}
 use Rattle.scavenge.specs.Shown.{WorkspaceValue}
 use Rattle.settling.specs.OwnDeliveries.{deliveries_of_sizes}
-use Rattle.settling.specs.Shown.{shown_after}
-use Rattle.settling.proofs.ShownLarge.{shown_in}
-use Rattle.one_worker.proofs.SettleWhole.{numbers_at_end, settled_at_end, held_count, reports_at_end, scans_at_end, sizes_at_end, all_won-alone}
+use Rattle.one_worker.proofs.SettleWhole.{opened_at_end, young_at_end, settled_at_end, held_count, reports_at_end, scans_at_end, sizes_at_end, all_won-alone}
 use Rattle.one_worker.proofs.serial_settling.settled.settle.Goals as goal
 
 pub settle_alone-places-requires-clause-fits : goal.settle_alone-places-requires-clause-fits
@@ -29,29 +28,31 @@ settle_alone-places-requires-clause-alone g c = ap (λ (k : PlainValue). k.passe
 pub exported-requires : goal.exported-requires
 exported-requires g c = ap (λ (q : PlainQueuesValue CopiesKeyValue). length q.lanes) c.into_parts-cells.ensures.queues ∙ c.into_parts-cells.ensures.serial.queue.lanes
 
-pub show_large-requires : goal.show_large-requires
-show_large-requires g c =
-    let count : length c.settle_alone-places.result ≡ c.args.collection.cells =
-    held_count c.args.serial c.into_parts-cells.ensures.serial c.args.collection
-    (record { collection_is = c.requires.collection; out = c.requires.out; queue = c.requires.queue; reached = c.requires.reached })
-    c.settle_alone-places.result (c.settle_alone-places.ensures.exact ∙ ap (λ (k : PlainValue). map place_of k.held) c.into_parts-cells.ensures.cells) in
-    subst (λ ws. All (λ (e : ℕ × ℕ). e.0 < length c.settle_alone-places.result) (map won_value ws)) (sym c.deref.ensures.value)
-    (subst (λ n. All (λ (e : ℕ × ℕ). e.0 < n) (map won_value c.into_parts-allocation.result.won.items)) (sym count)
-    (numbers_at_end c.args.serial c.into_parts-cells.ensures.serial c.args.collection
-    (record { collection_is = c.requires.collection; out = c.requires.out; queue = c.requires.queue; reached = c.requires.reached })
-    (map won_value c.into_parts-allocation.result.won.items) (subst (λ (w : WorkspaceValue). All (λ (e : ℕ × ℕ). e.0 < length w.names) (map won_value c.into_parts-allocation.result.won.items)) c.into_parts-cells.ensures.workspace c.into_parts-allocation.ensures.numbers)))
+pub show_large-requires-clause-opened : goal.show_large-requires-clause-opened
+show_large-requires-clause-opened g c =
+    opened_at_end c.args.serial c.into_parts-cells.ensures.serial c.args.heap.now c.args.collection
+    (record { heap_is = c.requires.heap; collection_is = c.requires.collection; out = c.requires.out; queue = c.requires.queue; reached = c.requires.reached })
+
+pub show_large-requires-clause-young : goal.show_large-requires-clause-young
+show_large-requires-clause-young g c =
+    young_at_end c.args.serial c.into_parts-cells.ensures.serial c.args.heap.now c.args.collection
+    (record { heap_is = c.requires.heap; collection_is = c.requires.collection; out = c.requires.out; queue = c.requires.queue; reached = c.requires.reached })
+    _ (ap (map place_word) c.deref.ensures.value ∙ c.into_parts-allocation.ensures.large ∙ ap (λ (w : WorkspaceValue). w.worker.large_done) c.into_parts-cells.ensures.workspace)
+
+pub show_large-requires-clause-count : goal.show_large-requires-clause-count
+show_large-requires-clause-count g c =
+    held_count c.args.serial c.into_parts-cells.ensures.serial c.args.heap.now c.args.collection
+    (record { heap_is = c.requires.heap; collection_is = c.requires.collection; out = c.requires.out; queue = c.requires.queue; reached = c.requires.reached })
+    c.settle_alone-places.result (c.settle_alone-places.ensures.exact ∙ ap (λ (k : PlainValue). map place_of k.held) c.into_parts-cells.ensures.cells)
 
 pub returns-clause-settled : goal.returns-clause-settled
 returns-clause-settled g c =
     let won : all_won c.in_ok-workers.workers.items ≡ map won_value c.into_parts-allocation.result.won.items = all_won-alone c.in_ok-workers.workers.items _ c.in_ok-workers.ensures in
     let same = c.into_parts-cells.ensures.workspace in
-    let count : length c.show_large.new.places ≡ length c.settle_alone-places.result = c.show_large.ensures.count in
-    let shown : (number : ℕ) → shown_in c.show_large.new.places number ≡ shown_after number (map won_value c.into_parts-allocation.result.won.items) (shown_in c.settle_alone-places.result number) =
-    λ number. c.show_large.ensures.shown number ∙ ap (λ ws. shown_after number (map won_value ws) (shown_in c.settle_alone-places.result number)) c.deref.ensures.value in
     subst (IsSettled c.args.serial.heap c.args.collection c.show_large.new.places c.in_ok-blocks.blocks.items) (sym won)
-    (settled_at_end c.args.serial c.into_parts-cells.ensures.serial c.args.collection
-    (record { collection_is = c.requires.collection; out = c.requires.out; queue = c.requires.queue; reached = c.requires.reached })
-    c.into_parts-allocation.result.allocation.items c.into_parts-allocation.result.done.items c.in_ok-blocks.blocks.items (map won_value c.into_parts-allocation.result.won.items) c.settle_alone-places.result c.show_large.new.places
+    (settled_at_end c.args.serial c.into_parts-cells.ensures.serial c.args.heap.now c.args.collection
+    (record { heap_is = c.requires.heap; collection_is = c.requires.collection; out = c.requires.out; queue = c.requires.queue; reached = c.requires.reached })
+    c.into_parts-allocation.result.allocation.items c.into_parts-allocation.result.done.items c.in_ok-blocks.blocks.items (map won_value c.into_parts-allocation.result.won.items) _ c.settle_alone-places.result c.show_large.new.places
     (subst (λ (w : WorkspaceValue). map (option_map (named w.config.shape)) c.into_parts-allocation.result.allocation.items ≡ w.worker.allocation) same c.into_parts-allocation.ensures.allocation)
     (subst (λ (w : WorkspaceValue). map (named w.config.shape) c.into_parts-allocation.result.done.items ≡ w.worker.done) same c.into_parts-allocation.ensures.done)
     (λ d. subst (λ (w : WorkspaceValue). OnSome (IsWhole w.config.shape w.config.block_words) (slot_at c.into_parts-allocation.result.allocation.items d)) same (c.into_parts-allocation.ensures.allocation_whole d))
@@ -59,8 +60,9 @@ returns-clause-settled g c =
     c.in_ok-blocks.ensures
     (subst (λ (w : WorkspaceValue). renaming_of w.names (map won_value c.into_parts-allocation.result.won.items) ≡ w.worker.won) same c.into_parts-allocation.ensures.won)
     (subst (λ (w : WorkspaceValue). All (λ (e : ℕ × ℕ). e.0 < length w.names) (map won_value c.into_parts-allocation.result.won.items)) same c.into_parts-allocation.ensures.numbers)
+    (ap (map place_word) c.deref.ensures.value ∙ c.into_parts-allocation.ensures.large ∙ ap (λ (w : WorkspaceValue). w.worker.large_done) same)
     (c.settle_alone-places.ensures.exact ∙ ap (λ (k : PlainValue). map place_of k.held) c.into_parts-cells.ensures.cells)
-    count shown)
+    c.show_large.ensures.count c.show_large.ensures.shown)
 
 pub returns-clause-collection : goal.returns-clause-collection
 returns-clause-collection g c = c.requires.collection
@@ -68,8 +70,8 @@ returns-clause-collection g c = c.requires.collection
 pub returns-clause-lists : goal.returns-clause-lists
 returns-clause-lists g c =
     let same = c.into_parts-cells.ensures.workspace in
-    reports_at_end c.args.serial c.into_parts-cells.ensures.serial c.args.collection
-    (record { collection_is = c.requires.collection; out = c.requires.out; queue = c.requires.queue; reached = c.requires.reached })
+    reports_at_end c.args.serial c.into_parts-cells.ensures.serial c.args.heap.now c.args.collection
+    (record { heap_is = c.requires.heap; collection_is = c.requires.collection; out = c.requires.out; queue = c.requires.queue; reached = c.requires.reached })
     c.in_ok-workers.workers.items _ c.in_ok-workers.ensures
     (subst (λ (w : WorkspaceValue). renaming_of w.names (map won_value c.into_parts-allocation.result.won.items) ≡ w.worker.won) same c.into_parts-allocation.ensures.won)
     (c.into_parts-allocation.ensures.scanned ∙ ap (λ (w : WorkspaceValue). w.worker.scanned) same)
@@ -79,5 +81,5 @@ returns-clause-deliveries g c = c.in_ok-deliveries.ensures ∙ ap (λ q. deliver
 
 pub returns-clause-once : goal.returns-clause-once
 returns-clause-once g c =
-    scans_at_end c.args.serial c.into_parts-cells.ensures.serial c.args.collection
-    (record { collection_is = c.requires.collection; out = c.requires.out; queue = c.requires.queue; reached = c.requires.reached })
+    scans_at_end c.args.serial c.into_parts-cells.ensures.serial c.args.heap.now c.args.collection
+    (record { heap_is = c.requires.heap; collection_is = c.requires.collection; out = c.requires.out; queue = c.requires.queue; reached = c.requires.reached })
