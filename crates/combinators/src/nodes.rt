@@ -98,7 +98,10 @@ impl Nodes {
             0
         };
         match collect_one(alloc, &mut self.heap, oldest) {
-            Ok(_report) => Ok(()),
+            Ok(report) => {
+                self.heap.reuse(report);
+                Ok(())
+            }
             Err(CollectError::NoMemory) => Err(Trouble::NoMemory),
             Err(CollectError::HeapFull | CollectError::NoGeneration) => Err(Trouble::HeapFull),
         }

@@ -78,6 +78,43 @@ fn assert_spare_of_new(
     assert_spare(rt, alloc, refusing, &mut heap)
 }
 
+/// Collects, hands in the report, and tells how many requests for memory that took.
+fn asked_with_lists<'a>(
+    refusing: &'a Refusing<Global>,
+    heap: &mut Counting<'a>,
+) -> Result<u64, Fail> {
+    let before = refusing.asked();
+    let report = collect_one(refusing, heap, 0)?;
+    heap.reuse(report);
+    Ok(refusing.asked().saturating_sub(before))
+}
+
+/// Asserts that lists that were handed in are used again: what is won and what is scanned grows twice or more from nothing to
+/// 60 entries.
+fn assert_lists_used(
+    rt: &impl Abort,
+    alloc: Global,
+    refusing: &Refusing<Global>,
+) -> Result<(), Fail> {
+    let mut heap = heap_of(refusing, 16, 16, 100)?;
+    let _roots = add_sixty(alloc, &mut heap)?;
+    let _first = spare_after(refusing, &mut heap)?;
+    let _second = spare_after(refusing, &mut heap)?;
+    let (anew, _) = spare_after(refusing, &mut heap)?;
+    let _handed_in = asked_with_lists(refusing, &mut heap)?;
+    let again = asked_with_lists(refusing, &mut heap)?;
+    assert!(rt; again.saturating_add(4) <= anew, "{again} {anew}");
+    Ok(())
+}
+
+#[test]
+fn lists_of_a_report_are_used_again(rt: HostRuntime) -> Result<(), Fail> {
+    let refusing = Refusing::new(rt.alloc(), NONE);
+    assert_lists_used(&rt, rt.alloc(), &refusing)?;
+    assert_eq!(rt; refusing.asked(), refusing.returned());
+    Ok(())
+}
+
 #[test]
 fn blocks_given_up_are_the_next_ones(rt: HostRuntime) -> Result<(), Fail> {
     let refusing = Refusing::new(rt.alloc(), NONE);
@@ -137,7 +174,8 @@ fn kept_after<'a>(
     refusing: &'a Refusing<Global>,
     heap: &mut Counting<'a>,
 ) -> Result<(usize, u64), Fail> {
-    let _report = collect_one(refusing, heap, 1)?;
+    let report = collect_one(refusing, heap, 1)?;
+    heap.reuse(report);
     let held = refusing.asked().saturating_sub(refusing.returned());
     Ok((heap.spare_blocks(), held))
 }

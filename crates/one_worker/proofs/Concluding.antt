@@ -1,29 +1,25 @@
 -- What a collection that ended, or that wants a block, concludes.
-use Rattle.std.proofs.Common.{◌≡◌, ◌≢◌, ℕ, zero, suc, ◌+◌, ◌*◌, ◌<◌, ◌≤◌, Bool, true, false, cond, not, nat_lt, nat_eq, List, [], ◌∷◌, ◌++◌, map, flat_map, filter, length, Option, Some, None, refl, sym, ap, subst, ◌∙◌, arith, true≢false, ne_eqb, lt-ltb, ⊎_elim, inl, inr}
-use Rattle.std.specs.Prelude.{sum_by, slice_get, slice_index, slice_index_or, All}
-use Rattle.std.specs.List.{Contains}
+use Rattle.std.proofs.Common.{◌≡◌, ◌≢◌, ℕ, zero, suc, ◌+◌, ◌*◌, ◌<◌, ◌≤◌, true, false, cond, not, List, [], ◌∷◌, ◌++◌, map, flat_map, filter, length, Option, Some, None, refl, sym, ap, subst, ◌∙◌, arith, true≢false, ne_eqb, lt-ltb, ⊎_elim}
+use Rattle.std.specs.Prelude.{sum_by, slice_index_or, All}
 use Rattle.std.specs.Option.{option_map_or}
-use Rattle.std.proofs.lemmas.Bool.{cases_eq, cases_lt}
+use Rattle.std.proofs.lemmas.Bool.{cases_eq}
 use Rattle.model.specs.Graph.{Object, object_at, is_large}
-use Rattle.model.specs.LiveCount.{LiveCount, LiveWords}
-use Rattle.model.specs.SpaceBound.{space_bound}
-use Rattle.model.specs.Destination.{dest_count}
-use Rattle.layout.specs.Place.{small_word, large_word}
+use Rattle.model.specs.LiveCount.{LiveCount}
 use Rattle.steps.specs.HeapValue.{HeapValue}
 use Rattle.steps.specs.CollectionValue.{CollectionValue, target_of_slot, young_names}
 use Rattle.steps.specs.CollectedHeap.{CollectedHeap}
 use Rattle.steps.specs.ReportValue.{WorkerLists, renaming_of, all_won}
 use Rattle.steps.specs.declared.heap_values.report.Delivery.{Delivery}
-use Rattle.heap.proofs.SoundHeap.{heap_free, heap_large_name, AreFreeBlocks}
-use Rattle.workers.specs.Setting.{Setting, is_large_name}
-use Rattle.workers.specs.Worker.{Worker, Hand, Nothing, current_in, current_object}
+use Rattle.heap.proofs.SoundHeap.{heap_free, heap_large_name}
+use Rattle.workers.specs.Setting.{Setting}
+use Rattle.workers.specs.Worker.{Worker, current_in, current_object}
 use Rattle.workers.specs.WorkerSteps.{current_slot, slot_of_starts, IsOutOfWork}
 use Rattle.workers.specs.Block.{Block}
-use Rattle.workers.specs.System.{System, Event, Look, Idle, End, opening}
+use Rattle.workers.specs.System.{System, Look, Idle, End, opening}
 use Rattle.workers.specs.Steps.{GoesIdle, Ends}
 use Rattle.workers.specs.Total.{times, wins_of}
 use Rattle.workers.specs.Lawful.{next_alone, next_of_one, race_or, look_or, scan_or, export_or, take_or, own_or, large_or, lowest_open, AllEnded, IsRefused}
-use Rattle.workers.specs.Finish.{Stepped, stay, IsReached}
+use Rattle.workers.specs.Finish.{Stepped, stay}
 use Rattle.workers.specs.Alone.{TellsSmall, ScannedInOrder}
 use Rattle.workers.proofs.OneMore.{stepped_more, reached_more}
 use Rattle.workers.proofs.AloneSteps.{ended_in_order}
@@ -37,7 +33,7 @@ use Rattle.settling.specs.OwnDeliveries.{own_deliveries}
 use Rattle.scavenge.proofs.OpenBlocks.{none_open}
 use Rattle.scavenge.proofs.Starts.{targets_live}
 use Rattle.one_worker.specs.Stepping.{IsOf, IsDone, IsFullForLook, HasStepped}
-use Rattle.settling.specs.Collects.{is_small_word, won_places, ScansInOrder, RunsAlone, ScansAlone, ScansOnce, Collects, IsShortOfBlocks, IsStuckAlone}
+use Rattle.settling.specs.Collects.{is_small_word, won_places, RunsAlone, ScansAlone, ScansOnce, Collects, IsShortOfBlocks, IsStuckAlone}
 use Rattle.one_worker.proofs.Going.{reached_of}
 
 pub begins : (v : SerialValue) → system_of v ≡ opening (destinations_in v) 1 (targets_in v) v.heap.free → HasStepped v

@@ -1,5 +1,5 @@
 -- A worker that looks and races at once takes two events of the system.
-use Rattle.std.proofs.Common.{sym, ◌≡◌, ℕ, [], ◌∷◌, ◌++◌, length, Option, None, refl, ap, arith, length-append, Contains, Some, ⊎_elim, inl, inr, subst, ◌∙◌}
+use Rattle.std.proofs.Common.{sym, ◌≡◌, ℕ, [], ◌∷◌, ◌++◌, length, Option, None, refl, ap, arith, length-append, Contains, Some, subst, ◌∙◌}
 use Rattle.std.specs.Prelude.{IsSome}
 use Rattle.layout.specs.declared.place.Place.{Place}
 use Rattle.block_pool.specs.ClaimsValue.{SeatValue}
@@ -16,7 +16,7 @@ use Rattle.scavenge.specs.Evacuates as evacuates
 use Rattle.heap.specs.Found.{HasNumber}
 use Rattle.scavenge.specs.declared.evacuating.Evacuated.{Evacuated}
 use Rattle.scavenge.specs.declared.evacuating.Evacuated.TheVariants as evacuated
-use Rattle.one_worker.specs.SerialValue.{SerialValue, Goes, Stays, LooksThenRaces, system_of, IsLeft, setting_in}
+use Rattle.one_worker.specs.SerialValue.{SerialValue, Goes, Stays, LooksThenRaces, system_of, IsUncopied, setting_in}
 use Rattle.one_worker.specs.IsSerial.{IsSerial}
 use Rattle.one_worker.proofs.Raced.{turned, race_goes}
 use Rattle.one_worker.proofs.Looked.{look_goes, stands, can_look, slot_here}
@@ -66,14 +66,12 @@ module _ (v : SerialValue) (k : IsSerial v) (heap : HeapValue) (c : CollectionVa
   evacuated_keeps evacuated.Raced left no_slot same looked_slot raced_slot looked raced = (goes_twice (raced_slot refl) (raced refl)).0
 
   -- a slot is left for the same cause
-  pub left_why : evacuates.IsLeft heap c Gives v.workspace.worker → IsLeft v
-  left_why l =
-      ⊎_elim (λ starts. inl starts)
-      (λ u. (let of : HasNumber v.heap v.collection u.name u.number = subst (λ h. HasNumber h v.collection u.name u.number) same_heap (subst (λ d. HasNumber heap d u.name u.number) same_collection u.of) in
-      inr (record {
+  pub left_why : evacuates.IsUncopied heap c Gives v.workspace.worker → IsUncopied v
+  left_why u =
+      let of : HasNumber v.heap v.collection u.name u.number = subst (λ h. HasNumber h v.collection u.name u.number) same_heap (subst (λ d. HasNumber heap d u.name u.number) same_collection u.of) in
+      record {
         name = u.name;
         slot = sym (slot_here v k heap c same_heap same_collection pass) ∙ u.slot;
         empty = sym (k.cells.shown u.name u.number of) ∙ ap (cell_of (setting_in v) (Some u.name)) (sym u.given);
         wants = subst (λ h. WantsMore (objects_of h) v.workspace.worker u.name) same_heap u.wants;
-      })))
-      l
+      }

@@ -21,7 +21,7 @@ use Rattle.workers.proofs.OneMore.{stepped_more, stepped_run}
 use Rattle.workers.proofs.Reached.{reached_falls, young_covers}
 use Rattle.scavenge.specs.Evacuates.{WantsMore}
 use Rattle.scavenge.specs.Shown.{has_another}
-use Rattle.one_worker.specs.SerialValue.{SerialValue, Goes, Stays, IsLeft, LooksThenRaces, WantsDraw, system_of, setting_in, targets_in, destinations_in}
+use Rattle.one_worker.specs.SerialValue.{SerialValue, Goes, Stays, IsUncopied, LooksThenRaces, WantsDraw, system_of, setting_in, targets_in, destinations_in}
 use Rattle.scavenge.specs.ReadyToCollect.{IsReadyToCollect}
 use Rattle.one_worker.proofs.Readiness.{room_of}
 use Rattle.one_worker.proofs.Order.{next_look, next_race, next_scan}
@@ -184,17 +184,16 @@ setting_still old new g = ap (λ heap. Seen heap new.collection) g.heap ∙ ap (
     Seen : HeapValue → CollectionValue → Setting
     Seen heap c = setting_of heap.graph c.generation heap.config.shape heap.config.block_words 1
 
-pub is_left_still : (old new : SerialValue) → Stays old new → IsLeft old → IsLeft new
-is_left_still old new g (inl starts) = inl (λ none. starts (ap (λ (w : Worker). w.starts) (sym (worker_still old new g)) ∙ none))
-is_left_still old new g (inr is) =
+pub is_left_still : (old new : SerialValue) → Stays old new → IsUncopied old → IsUncopied new
+is_left_still old new g is =
     let seen = setting_still old new g in
     let same = worker_still old new g in
-    inr (record {
+    record {
       name = is.name;
       slot = ap (λ s. current_slot s new.workspace.worker) seen ∙ ap (current_slot (setting_in old)) same ∙ is.slot;
       empty = ap (λ s. cell_of s (Some is.name)) g.system ∙ is.empty;
       wants = subst (λ s. WantsMore s new.workspace.worker is.name) (sym seen) (subst (λ w. WantsMore (setting_in old) w is.name) (sym same) is.wants);
-    })
+    }
 
 -- and what is left to `step`
 pub left_to_step_still : (old new : SerialValue) → Stays old new → IsLeftToStep old → IsLeftToStep new

@@ -1,5 +1,5 @@
 -- A collection by one worker, as its calls see it, and as a system of workers.
-use Rattle.std.specs.Prelude.{◌≡◌, ℕ, zero, suc, true, false, List, [], ◌∷◌, ◌++◌, map, length, IsSome, refl, ◌≢◌, ◌⊎◌, Some, None}
+use Rattle.std.specs.Prelude.{◌≡◌, ℕ, zero, suc, true, false, List, [], ◌∷◌, ◌++◌, map, length, IsSome, refl, Some, None}
 use Rattle.std.specs.Coded.{Coded, code_by, coded×, coded_ℕ}
 use Rattle.model.specs.Destination.{dest_count}
 use Rattle.block_pool.specs.ClaimsValue.{ClaimsValue, SeatValue, claims_code, seat_code}
@@ -87,10 +87,6 @@ pub record IsUncopied (v : SerialValue) : Type 0 where
   pub slot : current_slot (setting_in v) v.workspace.worker ≡ Some (Some name)
   pub empty : cell_of (system_of v) (Some name) ≡ None
   pub wants : WantsMore (setting_in v) v.workspace.worker name
-
--- a slot that is left to a look: one of the start list, or of an object that needs more
-abbrev pub IsLeft : SerialValue → Type 0
-IsLeft v = (v.workspace.worker.starts ≢ []) ⊎ IsUncopied v
 
 -- a look came, and at once the race for what it proposed
 pub record LooksThenRaces (old new : SerialValue) : Type 0 where

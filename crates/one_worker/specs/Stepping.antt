@@ -9,7 +9,7 @@ use Rattle.workers.specs.Lawful.{next_alone}
 use Rattle.workers.specs.Finish.{Stepped}
 use Rattle.workers.specs.Measure.{measure, young_names_of}
 use Rattle.scavenge.specs.Shown.{has_another}
-use Rattle.one_worker.specs.SerialValue.{SerialValue, Goes, IsLeft, WantsDraw, lane_of, setting_in, system_of, targets_in, destinations_in}
+use Rattle.one_worker.specs.SerialValue.{SerialValue, Goes, IsUncopied, WantsDraw, lane_of, setting_in, system_of, targets_in, destinations_in}
 use Rattle.scavenge.specs.Waiting.{waiting_in}
 
 -- the collection is one of this heap
@@ -57,7 +57,7 @@ pub record HasNoneBehind (v : SerialValue) : Type 0 where
 
 -- the next event is left to `step`: something is proposed, the slot is left to a look, or there is no slot and nothing behind what is in hand
 abbrev pub IsLeftToStep : SerialValue → Type 0
-IsLeftToStep v = IsSome v.workspace.worker.proposal ⊎ (IsLeft v ⊎ HasNoneBehind v)
+IsLeftToStep v = IsSome v.workspace.worker.proposal ⊎ (IsUncopied v ⊎ HasNoneBehind v)
 
 -- the next event is a scan
 abbrev pub ScansNext : SerialValue → Type 0

@@ -3,7 +3,7 @@ ghost use Rattle.std.specs.Prelude.{◌≡◌, ◌↔◌, true, false, None, Ok,
 ghost use Rattle.workers.specs.WorkerSteps.{current_slot};
 ghost use Rattle.workers.specs.System.{Look, Race};
 ghost use Rattle.scavenge.specs.declared.evacuating.Evacuated.TheVariants.{Left, NoSlot, Looked, Raced};
-ghost use Rattle.one_worker.specs.SerialValue.{Goes, Stays, IsLeft, LooksThenRaces, WantsDraw, setting_in};
+ghost use Rattle.one_worker.specs.SerialValue.{Goes, Stays, IsUncopied, LooksThenRaces, WantsDraw, setting_in};
 
 use crate::serial::SerialCollection;
 use heap::{Collection, Heap};
@@ -65,7 +65,7 @@ impl<A: Allocator + Clone> SerialCollection<A> {
         requires collection { collection.now ≡ self.old.collection }
         requires proposal { self.old.workspace.worker.proposal ≡ None }
         ensures left { result ≡ Left → Stays self.old self.new }
-        ensures left_why { result ≡ Left → IsLeft self.old }
+        ensures left_why { result ≡ Left → IsUncopied self.old }
         ensures none { result ≡ NoSlot → Stays self.old self.new }
         ensures no_slot { result ≡ NoSlot → current_slot (setting_in self.new) self.new.workspace.worker ≡ None }
         ensures looked_slot { result ≡ Looked → IsSome (current_slot (setting_in self.old) self.old.workspace.worker) }

@@ -1,5 +1,5 @@
 -- What a worker does that looks and races at once.
-use Rattle.std.specs.Prelude.{◌≡◌, ◌≢◌, ℕ, true, List, [], Option, Some, None, IsSome, ◌⊎◌}
+use Rattle.std.specs.Prelude.{◌≡◌, ℕ, true, List, Option, Some, None, IsSome, ◌⊎◌}
 use Rattle.layout.specs.declared.place.Place.{Place}
 use Rattle.block_pool.specs.ClaimsValue.{SeatValue}
 use Rattle.forwarding.specs.declared.cells.outcome.Outcome.{Outcome}
@@ -26,10 +26,6 @@ pub record IsUncopied (heap : HeapValue) (c : CollectionValue) (gives : ℕ → 
   pub of : HasNumber heap c name number
   pub given : gives number None
   pub wants : WantsMore (objects_of heap) w name
-
--- a slot that is left to a look: one of the start list, or of an object that needs more
-abbrev pub IsLeft : HeapValue → CollectionValue → (ℕ → Option Place → Type 0) → Worker → Type 0
-IsLeft heap c gives w = (w.starts ≢ []) ⊎ IsUncopied heap c gives w
 
 -- a copy of the object with this name was proposed, at the end of the block that stood there: none was drawn
 pub record ProposesThere (setting : Setting) (name : ℕ) (old new : WorkspaceValue) : Type 0 where

@@ -6,10 +6,10 @@ ghost use Rattle.heap.specs.CollectionValue.{young_names};
 ghost use Rattle.workers.specs.WorkerSteps.{current_slot};
 ghost use Rattle.scavenge.specs.Slots.{seen, Looks};
 ghost use Rattle.scavenge.specs.MayStep.{IsOpenFor, MayLook, OnlyLooks};
-ghost use Rattle.scavenge.specs.Evacuates.{IsLeft, LooksAndRaces};
+ghost use Rattle.scavenge.specs.Evacuates.{IsUncopied, LooksAndRaces};
 ghost use Rattle.scavenge.specs.declared.evacuating.Evacuated.TheVariants.{Left, NoSlot, Looked, Raced};
 
-use crate::looking::forwarded_place;
+use crate::looking::{forwarded_place, target_of};
 use crate::proposing::propose_there;
 use crate::racing::race_for;
 use crate::slots::slot;
@@ -31,8 +31,8 @@ pub enum Evacuated {
     Raced,
 }
 
-/// Looks at the current slot of what is in hand, where no block is wanted for it: what `look` does, and where a small object
-/// has no copy yet, the race for its copy at once. It leaves to `look` the start list, large objects, and copies that don't
+/// Looks at the current slot, of the start list or of what is in hand, where no block is wanted for it: what `look` does, and
+/// where a small object has no copy yet, the race for its copy at once. It leaves to `look` large objects, and copies that don't
 /// fit where the last ones stand.
 #[inline(always)]
 pub fn evacuate<A: Allocator + Clone, C: Cells>(
@@ -49,7 +49,7 @@ pub fn evacuate<A: Allocator + Clone, C: Cells>(
     ensures keeps { KeepsPasses C.limit C.fits C.at_home C.apart cells.old pass.old cells.new pass.new }
     ensures looks { result ≢ Raced → OnlyLooks C.won C.known cells.old pass.old cells.new pass.new }
     ensures left { result ≡ Left → (workspace.new ≡ workspace.old) ×
-        IsLeft heap.now collection.now (C.look_gives cells.old) workspace.old.worker }
+        IsUncopied heap.now collection.now (C.look_gives cells.old) workspace.old.worker }
     ensures none { result ≡ NoSlot → (workspace.new ≡ workspace.old) ×
         (current_slot (seen heap.now collection.now) workspace.old.worker ≡ None) }
     ensures slot { (result ≡ Looked) ⊎ (result ≡ Raced) →
@@ -62,9 +62,6 @@ pub fn evacuate<A: Allocator + Clone, C: Cells>(
         (λ number at outcome. C.race_gives cells.old number at outcome cells.new) pass.old pass.new workspace.old
         workspace.new }
 {
-    if !workspace.is_started() {
-        return Evacuated::Left;
-    }
     let Some(target) = slot(workspace, heap) else {
         return Evacuated::NoSlot;
     };
@@ -72,7 +69,10 @@ pub fn evacuate<A: Allocator + Clone, C: Cells>(
         workspace.finish(None);
         return Evacuated::Looked;
     };
-    let found = heap.find_there(collection, name);
+    let Some(found) = target_of(workspace, heap, collection, name) else {
+        workspace.finish(target);
+        return Evacuated::Looked;
+    };
     let Some(number) = found.number else {
         workspace.finish(Some(name));
         return Evacuated::Looked;

@@ -1,28 +1,25 @@
 -- What threads brought is what a collection keeps.
-use Rattle.std.proofs.Common.{◌≡◌, ◌≢◌, ℕ, zero, suc, ◌+◌, ◌<◌, ◌≤◌, Bool, true, false, List, [], ◌∷◌, ◌++◌, All, map, length, Option, Some, None, refl, sym, ap, subst, ◌∙◌, arith, nat_eq, nat_lt, true≢false, Contains, inl, inr, ⊎_elim, ne_eqb, get_or}
+use Rattle.std.proofs.Common.{◌≡◌, ◌≢◌, ℕ, zero, suc, ◌+◌, ◌<◌, ◌≤◌, List, [], ◌∷◌, ◌++◌, All, map, length, Option, Some, None, refl, sym, ap, subst, ◌∙◌, arith, nat_eq, Contains, inl, ⊎_elim, ne_eqb}
 use Rattle.std.proofs.lemmas.Bool.{lt-ltb, cases_eq}
 use Rattle.std.proofs.lemmas.List.{map-append}
-use Rattle.std.specs.Prelude.{slice_get, slice_index_or, flat_map, IsTrue, IsSome, IsSomeAnd}
-use Rattle.std.specs.List.{IsDistinct, sum_by}
-use Rattle.std.specs.Ordering.{nat_cmp}
-use Rattle.std.specs.FinMap.{find}
-use Rattle.model.specs.Live.{Live, IsStart}
+use Rattle.std.specs.Prelude.{slice_get, slice_index_or, IsTrue, IsSomeAnd}
+use Rattle.std.specs.List.{sum_by}
+use Rattle.model.specs.Live.{Live}
 use Rattle.model.specs.Reached.{has}
 use Rattle.layout.specs.declared.place.Place.{Place}
 use Rattle.block_pool.specs.BlockValue.{BlockValue}
-use Rattle.block_pool.specs.ClaimsValue.{SeatValue, all_drawn}
+use Rattle.block_pool.specs.ClaimsValue.{all_drawn}
 use Rattle.block_pool.specs.Drawn.{times_in}
 use Rattle.block_pool.proofs.ClaimLemmas.{times-distinct}
 use Rattle.forwarding.specs.Settled.{IsSettled, all_pairs, KnowsOnly, Pairs}
 use Rattle.forwarding.specs.Settled as settled
 use Rattle.pending_queues.specs.Labelled.{times_at}
-use Rattle.pending_queues.specs.declared.exports.deliveries.Delivery.{Delivery}
 use Rattle.steps.specs.HeapValue.{HeapValue}
 use Rattle.steps.specs.CollectionValue.{CollectionValue, young_names, target_of_slot}
 use Rattle.heap.proofs.SoundHeap.{heap_empty}
 use Rattle.pending_queues.specs.PassValue.{position_of, position_on}
 use Rattle.pending_queues.specs.PendingValue.{SeatValue as QueueSeatValue}
-use Rattle.pending_queues.specs.Delivered.{AreDelivered, IsDelivered, IsLabelledBelow}
+use Rattle.pending_queues.specs.Delivered.{IsDelivered, IsLabelledBelow}
 use Rattle.pending_queues.proofs.Unique.{sum-total}
 use Rattle.scavenge.specs.Handed.{CopiesKeyValue}
 use Rattle.model.specs.Destination.{dest_count}
@@ -32,7 +29,7 @@ use Rattle.workers.specs.System.{opening_workers}
 use Rattle.workers.specs.Total.{total, one_if, times, wins_of, ones}
 use Rattle.workers.specs.Joined.{Each, Part, HasRun, Joined, WasExported, deliveries}
 use Rattle.model.specs.Collected.{IsLiveOrOlder}
-use Rattle.workers.specs.Kept.{Brought, Kept, CopiesLive}
+use Rattle.workers.specs.Kept.{Brought, CopiesLive}
 use Rattle.workers.specs.Ordered.{TurnRun}
 use Rattle.workers.specs.Places.{IsPair}
 use Rattle.workers.specs.Ready.{IsHanded}
@@ -45,13 +42,13 @@ use Rattle.workers.proofs.ScanOwn.{scan_own}
 use Rattle.scavenge.specs.Named.{named}
 use Rattle.scavenge.proofs.Starts.{has_starts}
 use Rattle.workers_in_threads.specs.SharingValue.{setting_for, begins, forwarded_in, forwarded_at, stands_at, labelled_from}
-use Rattle.workers_in_threads.specs.IsSharing.{HasWorked, KnowsPair}
+use Rattle.workers_in_threads.specs.IsSharing.{KnowsPair}
 use Rattle.workers_in_threads.proofs.Readiness.{start_roomy, start_live}
 use Rattle.workers_in_threads.proofs.Knowing.{left_here, labelled_length}
-use Rattle.workers_in_threads.specs.Threads.{ThreadValue, IsThread, AreThreads, HasEnded, Gathered, placed_in, KeptBy, passes_of, draws_of, seats_of}
-use Rattle.workers_in_threads.proofs.Lists.{all_each, each_get, get-map, get-some, length-map, each_map, each_of_map, each_and, total-map, total-append, total-flat, times-is, delivered-is, has-contains}
-use Rattle.workers_in_threads.proofs.Named.{name_at, InRange, found_once, wins_named, IsGiven, found_named, won_once}
-use Rattle.workers_in_threads.proofs.Parts.{Is, Are, part_of, parts_of, finals_are, parts_length, each_part, each_thread, total_parts, PartFirst, part_first}
+use Rattle.workers_in_threads.specs.Threads.{ThreadValue, HasEnded, Gathered, placed_in, KeptBy, passes_of, draws_of, seats_of}
+use Rattle.workers_in_threads.proofs.Lists.{all_each, each_get, get-map, get-some, length-map, each_of_map, total-map, total-append, times-is, delivered-is, has-contains}
+use Rattle.workers_in_threads.proofs.Named.{InRange, found_once, IsGiven, found_named, won_once}
+use Rattle.workers_in_threads.proofs.Parts.{Are, part_of, parts_of, finals_are, parts_length, each_part, each_thread, total_parts, part_first}
 
 ones-le : {X : Type 0} (o : Option X) → settled.ones o ≤ 1
 ones-le None = omega arith

@@ -1,5 +1,5 @@
 -- What settled cells say of names.
-use Rattle.std.proofs.Common.{◌≡◌, ◌≢◌, ℕ, zero, suc, ◌+◌, ◌<◌, ◌≤◌, Bool, true, false, cond, List, [], ◌∷◌, ◌++◌, All, map, length, Option, Some, None, refl, sym, ap, subst, ◌∙◌, ⊎_elim, arith, nat_eq, eq-eqb, ne_eqb}
+use Rattle.std.proofs.Common.{◌≡◌, ◌≢◌, ℕ, zero, suc, ◌+◌, ◌<◌, ◌≤◌, List, [], ◌∷◌, length, Option, Some, refl, sym, ap, ◌∙◌, ⊎_elim, arith, nat_eq, eq-eqb, ne_eqb}
 use Rattle.std.proofs.lemmas.Bool.{cases_eq, cond-true, cond-false}
 use Rattle.std.specs.Prelude.{slice_index, ◌==◌, if◌then◌else◌}
 use Rattle.std.specs.Ordering.{nat_cmp}
@@ -8,12 +8,12 @@ use Rattle.std.specs.FinMap.{find}
 use Rattle.model.specs.OldSlots.{is_young_name}
 use Rattle.model.proofs.RisingKeys.{same_index, keys-filter_rise}
 use Rattle.layout.specs.declared.place.Place.{Place}
-use Rattle.forwarding.specs.Settled.{wins_of as cell_wins, ones as cell_ones}
+use Rattle.forwarding.specs.Settled.{wins_of as cell_wins}
 use Rattle.steps.specs.HeapValue.{HeapValue}
 use Rattle.steps.specs.CollectionValue.{CollectionValue, young_names}
-use Rattle.workers.specs.Total.{total, one_if, wins_of, ones}
+use Rattle.workers.specs.Total.{one_if, wins_of, ones}
 use Rattle.workers.specs.Joined.{Each}
-use Rattle.workers_in_threads.specs.SharingValue.{stands_at, forwarded_at, forwarded_in}
+use Rattle.workers_in_threads.specs.SharingValue.{stands_at, forwarded_in}
 
 some_is : {X : Type 0} {x y : X} → Some x ≡ Some y → x ≡ y
 some_is e = cc

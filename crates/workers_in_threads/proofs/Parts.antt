@@ -1,5 +1,5 @@
 -- What each thread did, as a worker's part.
-use Rattle.std.proofs.Common.{◌≡◌, ℕ, zero, suc, ◌+◌, ◌<◌, List, [], ◌∷◌, map, length, Option, Some, None, refl, sym, ap, subst, ◌∙◌, arith}
+use Rattle.std.proofs.Common.{◌≡◌, ℕ, zero, suc, ◌+◌, List, [], ◌∷◌, map, length, Option, Some, refl, sym, ap, subst, ◌∙◌, arith}
 use Rattle.std.specs.Prelude.{slice_get}
 use Rattle.layout.specs.declared.place.Place.{Place}
 use Rattle.steps.specs.HeapValue.{HeapValue}
@@ -7,7 +7,7 @@ use Rattle.steps.specs.CollectionValue.{CollectionValue}
 use Rattle.workers.specs.Total.{total}
 use Rattle.workers.specs.Joined.{Each, Part}
 use Rattle.workers_in_threads.specs.SharingValue.{begins}
-use Rattle.workers_in_threads.specs.Threads.{ThreadValue, IsThread, AreThreads, HasEnded}
+use Rattle.workers_in_threads.specs.Threads.{ThreadValue, IsThread, AreThreads}
 
 module _ {P A : Type 0} (known : P → ℕ → Option Place) (won : P → List (ℕ × Place)) (heap : HeapValue) (c : CollectionValue) (n : ℕ) where
   abbrev pub Is : ℕ → ThreadValue P A → Type 0

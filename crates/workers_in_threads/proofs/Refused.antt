@@ -1,5 +1,5 @@
 -- Where a worker on a thread of its own is refused a block, fewer were free than the space bound.
-use Rattle.std.proofs.Common.{◌≡◌, ℕ, zero, suc, ◌+◌, ◌<◌, ◌≤◌, List, [], ◌∷◌, ◌++◌, length, Option, Some, None, refl, sym, ap, subst, ◌∙◌, arith, nat_eq, length-append, map}
+use Rattle.std.proofs.Common.{◌≡◌, ℕ, ◌+◌, ◌<◌, List, [], ◌∷◌, ◌++◌, length, Option, None, refl, sym, ap, subst, ◌∙◌, arith, nat_eq, length-append, map}
 use Rattle.std.proofs.lemmas.List.{map-append}
 use Rattle.model.specs.LiveCount.{LiveWords}
 use Rattle.model.specs.SpaceBound.{space_bound}
@@ -8,13 +8,11 @@ use Rattle.layout.specs.declared.place.Place.{Place}
 use Rattle.block_pool.specs.ClaimsValue.{all_drawn}
 use Rattle.forwarding.specs.Settled.{all_pairs}
 use Rattle.steps.specs.CollectionValue.{target_of_slot}
-use Rattle.workers.specs.Block.{Block}
 use Rattle.workers.specs.System.{opening_worker}
 use Rattle.workers.specs.Total.{total, one_if, wins_of}
 use Rattle.workers.specs.Joined.{Each, Part}
 use Rattle.model.specs.Collected.{IsLiveOrOlder}
 use Rattle.workers.specs.Kept.{CopiesLive}
-use Rattle.workers.specs.Ready.{IsHanded}
 use Rattle.workers.specs.Refused.{Refused, HasBegun}
 use Rattle.workers.proofs.Starts.{opens, length-replicate-none}
 use Rattle.workers.proofs.SpaceBound.{refused-below}
@@ -25,7 +23,7 @@ use Rattle.workers_in_threads.specs.Refusing.{Refusing}
 use Rattle.workers_in_threads.specs.Reports.{IsStuckApart}
 use Rattle.workers_in_threads.proofs.Lists.{all_each, total-append}
 use Rattle.workers_in_threads.proofs.Named.{InRange, won_once}
-use Rattle.workers_in_threads.proofs.Parts.{Is, Are, part_of, parts_of, parts_length, each_thread, total_parts, part_first, starts_at}
+use Rattle.workers_in_threads.proofs.Parts.{Are, part_of, parts_of, parts_length, each_thread, total_parts, part_first, starts_at}
 use Rattle.workers_in_threads.proofs.Joined.{handed_live}
 
 module _ {P A : Type 0} {known : P → ℕ → Option Place} {won : P → List (ℕ × Place)} (all : Refusing P A known won) where

@@ -1,9 +1,9 @@
 -- What threads report is what they brought, as a state in which all ended.
-use Rattle.std.proofs.Common.{◌≡◌, ◌≢◌, ℕ, zero, suc, ◌+◌, ◌-◌, ◌*◌, ◌/◌, ◌<◌, ◌≤◌, ◌&&◌, Bool, true, false, cond, List, [], ◌∷◌, ◌++◌, All, map, min, length, Option, Some, None, refl, sym, ap, subst, ◌∙◌, arith, nat_eq, nat_lt, eqb-true, true≢false, is_some}
+use Rattle.std.proofs.Common.{◌≡◌, ℕ, zero, suc, ◌+◌, ◌-◌, ◌*◌, ◌/◌, ◌<◌, ◌&&◌, Bool, true, false, List, [], ◌∷◌, ◌++◌, All, map, min, length, Option, Some, None, refl, sym, ap, subst, ◌∙◌, arith, nat_eq, nat_lt, eqb-true, true≢false, is_some}
 use Rattle.std.proofs.lemmas.List.{map-append}
 use Rattle.std.proofs.lemmas.Bool.{lt-ltb}
 use Rattle.std.proofs.lemmas.Option.{slice_get_within, get_or_from_slice_get}
-use Rattle.std.specs.Prelude.{slice_get, slice_index_or, flat_map, unwrap_or, IsSome, IsSomeAnd, ◌==◌, if◌then◌else◌}
+use Rattle.std.specs.Prelude.{slice_get, slice_index_or, flat_map, unwrap_or, IsSome, IsSomeAnd, if◌then◌else◌}
 use Rattle.std.specs.List.{enumerate_from, range_with_len, sum_by}
 use Rattle.std.specs.Option.{option_map_or, option_and_then}
 use Rattle.model.specs.Graph.{is_large}
@@ -16,7 +16,7 @@ use Rattle.pending_queues.specs.Labelled.{times_at}
 use Rattle.pending_queues.specs.Delivered.{IsDelivered, IsLabelledBelow, names_taker, is_taker}
 use Rattle.pending_queues.proofs.Unique.{sum-total}
 use Rattle.steps.specs.HeapValue.{HeapValue}
-use Rattle.steps.specs.CollectionValue.{CollectionValue, slots_of, target_of_slot}
+use Rattle.steps.specs.CollectionValue.{CollectionValue, target_of_slot}
 use Rattle.steps.specs.ReportValue.{WorkerLists}
 use Rattle.steps.specs.declared.heap_values.report.Delivery.{Delivery}
 use Rattle.heap.proofs.SoundHeap.{heap_empty}
@@ -31,31 +31,30 @@ use Rattle.workers.specs.System.{opening_worker}
 use Rattle.workers.specs.Total.{total, one_if, times}
 use Rattle.workers.specs.Joined.{Each, Part, HasRun, blocks_of, deliveries, is_sent}
 use Rattle.workers.specs.Kept.{IsLeft}
-use Rattle.workers.specs.Ordered.{TurnRun, IsRising, in_block, rests}
-use Rattle.workers.specs.Scans.{ScansInBlock, ScansInBlocks}
-use Rattle.workers.specs.Taken.{AreTakenInOrder, IsTakenFrom, HaveLists, takings, positions_of}
+use Rattle.workers.specs.Ordered.{IsRising, in_block, rests}
+use Rattle.workers.specs.Scans.{ScansInBlocks}
+use Rattle.workers.specs.Taken.{AreTakenInOrder, takings, positions_of}
 use Rattle.workers.specs.Lawful.{AllEnded}
 use Rattle.workers.specs.Finish.{NothingLeft}
 use Rattle.workers.proofs.Kept.{kept}
 use Rattle.workers.proofs.Scans.{parts_scan_in_block}
-use Rattle.settling.specs.Collects.{setting_at}
-use Rattle.settling.specs.Together.{AreReportsOf, label_of, labels_of, IsDelivery, AreDelivered, Reports}
+use Rattle.settling.specs.Together.{label_of, IsDelivery, AreDelivered}
 use Rattle.settling.specs.Telling.{delivery_of, deliveries_of, all_deliveries}
 use Rattle.settling.proofs.Blocks.{named_length, stands_has}
 use Rattle.settling.proofs.EndedLists.{each_place}
 use Rattle.settling.proofs.Parted.{Each-append}
-use Rattle.workers_in_threads.specs.SharingValue.{setting_for, begins, labelled_from}
+use Rattle.workers_in_threads.specs.SharingValue.{setting_for, labelled_from}
 use Rattle.workers_in_threads.specs.Queued.{position_first, positions_in}
-use Rattle.workers_in_threads.specs.Threads.{ThreadValue, IsThread, HasEnded, Gathered, seats_of}
-use Rattle.workers_in_threads.specs.Reported.{Reported, workers_of}
+use Rattle.workers_in_threads.specs.Threads.{ThreadValue, HasEnded, Gathered, seats_of}
+use Rattle.workers_in_threads.specs.Reported.{Reported}
 use Rattle.workers_in_threads.specs.Reports.{exports_from, label_first, labels_on, finals_of, state_of, ReportsApart}
 use Rattle.workers_in_threads.proofs.Lists.{all_each, each_get, get-map, get-some, length-map, total-map, delivered-is}
 use Rattle.workers_in_threads.proofs.Back.{each_all}
 use Rattle.workers_in_threads.proofs.Knowing.{left_here, labelled_length}
 use Rattle.workers_in_threads.proofs.LastPlaces.{stand_in_order, each_unscanned}
-use Rattle.workers_in_threads.proofs.Parts.{Is, part_of, parts_of, finals_are, parts_length, part_first}
-use Rattle.workers_in_threads.proofs.Joined.{parts, joined, brought, turns, threads_keep, delivered_each, labels_each, deliveries_total}
-use Rattle.workers_in_threads.specs.Threads.{KeptBy, placed_in}
+use Rattle.workers_in_threads.proofs.Parts.{Is, part_of, finals_are, parts_length, part_first}
+use Rattle.workers_in_threads.proofs.Joined.{parts, joined, brought, turns, delivered_each, labels_each, deliveries_total}
+use Rattle.workers_in_threads.specs.Threads.{placed_in}
 
 some_is : {X : Type 0} {x y : X} → Some x ≡ Some y → x ≡ y
 some_is e = cc

@@ -1,5 +1,5 @@
 -- What workers on threads of their own brought back, list by list, and once their cells were settled.
-use Rattle.std.specs.Prelude.{◌≡◌, ◌≢◌, ℕ, ◌<◌, ◌≤◌, List, Option, Some, None, Result, Err, IfOk, length, map, slice_get, slice_index_or}
+use Rattle.std.specs.Prelude.{◌≡◌, ◌≢◌, ℕ, ◌≤◌, List, Option, Some, None, Result, Err, IfOk, length, map, slice_get, slice_index_or}
 use Rattle.layout.specs.declared.place.Place.{Place}
 use Rattle.block_pool.specs.ClaimsValue.{ClaimsValue, SeatValue}
 use Rattle.forwarding.specs.Settled.{IsSettled, all_pairs, wins_of}

@@ -1,5 +1,5 @@
 -- Where a worker on a thread of its own is refused a block.
-use Rattle.std.specs.Prelude.{◌≡◌, ℕ, ◌<◌, ◌≤◌, true, List, length, Option, Some, None, slice_get}
+use Rattle.std.specs.Prelude.{◌≡◌, ℕ, ◌≤◌, true, List, length, Option, Some, None, slice_get}
 use Rattle.layout.specs.declared.place.Place.{Place}
 use Rattle.block_pool.specs.ClaimsValue.{all_drawn}
 use Rattle.forwarding.specs.Settled.{all_pairs, wins_of}

@@ -40,7 +40,7 @@ impl<'a, C: Cells, A: Allocator + Clone> SharingWorker<'a, C, A> {
         };
         for _ in 0..u64::MAX {
             if !sweep.sweep_once() {
-                break;
+                return sweep.closed();
             }
         }
         sweep.closed()

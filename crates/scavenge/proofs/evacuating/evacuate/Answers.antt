@@ -16,24 +16,24 @@ pub returns-in_default-number-clause-looked : goal.returns-in_default-number-cla
 returns-in_default-number-clause-looked g c = λ _ seat.
     let current : current_slot (seen c.args.heap.now c.args.collection.now) c.args.workspace.now.worker ≡ Some (Some (place_word c.in-Some-target.name)) = sym c.slot.ensures ∙ ap (option_map (option_map place_word)) c.in-Some.is ∙ ap (λ t. Some (option_map place_word t)) c.in-Some-target.is in
     looks_old c.args.heap.now c.args.collection.now (g.C.Cells.look_gives c.args.cells.now) (g.C.Cells.known c.args.pass.now) seat c.args.workspace.now c.finish-in_default-number.new.self (place_word c.in-Some-target.name) current
-    (is_old c.args.heap.now c.args.collection.now (place_word c.in-Some-target.name) c.find_there-found.result c.in_default-number.is c.find_there-found.ensures) c.finish-in_default-number.ensures
+    (is_old c.args.heap.now c.args.collection.now (place_word c.in-Some-target.name) c.in-Some-target_of.found c.in_default-number.is c.in-Some-target_of.ensures) c.finish-in_default-number.ensures
 
 pub race_for-requires-clause-known : goal.race_for-requires-clause-known
 race_for-requires-clause-known g c =
-    let found = numbered c.args.heap.now c.args.collection.now (place_word c.in-Some-target.name) c.find_there-found.result c.in-Some-number.number c.in-Some-number.is c.find_there-found.ensures in
+    let found = numbered c.args.heap.now c.args.collection.now (place_word c.in-Some-target.name) c.in-Some-target_of.found c.in-Some-number.number c.in-Some-number.is c.in-Some-target_of.ensures in
     let p = c.propose_there.ensures.proposed c.if-not-propose_there.false in
     let lt : c.in-Some-number.number < length (young_names c.args.heap.now.graph c.args.collection.now.generation) = omega (arith, found.1.in_range, c.requires.open.opened.cells) in
     subst (λ names. c.in-Some-number.number < length names) (sym (ap (λ (v : WorkspaceValue). v.names) p.worker ∙ c.requires.names)) lt
 
 pub race_for-requires-clause-name : goal.race_for-requires-clause-name
 race_for-requires-clause-name g c =
-    let found = numbered c.args.heap.now c.args.collection.now (place_word c.in-Some-target.name) c.find_there-found.result c.in-Some-number.number c.in-Some-number.is c.find_there-found.ensures in
+    let found = numbered c.args.heap.now c.args.collection.now (place_word c.in-Some-target.name) c.in-Some-target_of.found c.in-Some-number.number c.in-Some-number.is c.in-Some-target_of.ensures in
     let p = c.propose_there.ensures.proposed c.if-not-propose_there.false in
     ap (λ names. slice_index names c.in-Some-number.number) (ap (λ (v : WorkspaceValue). v.names) p.worker ∙ c.requires.names) ∙ found.1.is ∙ sym (ap (λ (v : WorkspaceValue). name_of v.worker.proposal) p.worker)
 
 pub returns-in-Ok-clause-raced : goal.returns-in-Ok-clause-raced
 returns-in-Ok-clause-raced g c = λ _.
-    let found = numbered c.args.heap.now c.args.collection.now (place_word c.in-Some-target.name) c.find_there-found.result c.in-Some-number.number c.in-Some-number.is c.find_there-found.ensures in
+    let found = numbered c.args.heap.now c.args.collection.now (place_word c.in-Some-target.name) c.in-Some-target_of.found c.in-Some-number.number c.in-Some-number.is c.in-Some-target_of.ensures in
     let young : is_collected (seen c.args.heap.now c.args.collection.now) (place_word c.in-Some-target.name) ≡ true = collected c.args.heap.now c.args.collection.now (place_word c.in-Some-target.name) found.0 in
     let current : current_slot (seen c.args.heap.now c.args.collection.now) c.args.workspace.now.worker ≡ Some (Some (place_word c.in-Some-target.name)) = sym c.slot.ensures ∙ ap (option_map (option_map place_word)) c.in-Some.is ∙ ap (λ t. Some (option_map place_word t)) c.in-Some-target.is in
     let tells : Tells c.args.heap.now c.args.collection.now (g.C.Cells.look_gives c.args.cells.now) (g.C.Cells.known c.args.pass.now) (g.C.Cells.known c.look.new.pass) (place_word c.in-Some-target.name) None =
@@ -65,7 +65,7 @@ returns-in-Ok-clause-raced g c = λ _.
 
 pub returns-in-Err-clause-looked : goal.returns-in-Err-clause-looked
 returns-in-Err-clause-looked g c = λ _ seat.
-    let found = numbered c.args.heap.now c.args.collection.now (place_word c.in-Some-target.name) c.find_there-found.result c.in-Some-number.number c.in-Some-number.is c.find_there-found.ensures in
+    let found = numbered c.args.heap.now c.args.collection.now (place_word c.in-Some-target.name) c.in-Some-target_of.found c.in-Some-number.number c.in-Some-number.is c.in-Some-target_of.ensures in
     let young : is_collected (seen c.args.heap.now c.args.collection.now) (place_word c.in-Some-target.name) ≡ true = collected c.args.heap.now c.args.collection.now (place_word c.in-Some-target.name) found.0 in
     let current : current_slot (seen c.args.heap.now c.args.collection.now) c.args.workspace.now.worker ≡ Some (Some (place_word c.in-Some-target.name)) = sym c.slot.ensures ∙ ap (option_map (option_map place_word)) c.in-Some.is ∙ ap (λ t. Some (option_map place_word t)) c.in-Some-target.is in
     let tells : Tells c.args.heap.now c.args.collection.now (g.C.Cells.look_gives c.args.cells.now) (g.C.Cells.known c.args.pass.now) (g.C.Cells.known c.look.new.pass) (place_word c.in-Some-target.name) None =

@@ -1,4 +1,4 @@
-use Rattle.std.proofs.Common.{◌≡◌, [], All, length, map, refl, sym, ap, subst, ◌∙◌, arith}
+use Rattle.std.proofs.Common.{◌≡◌, [], length, refl, sym, ap, subst, ◌∙◌, arith}
 use Rattle.std.proofs.lemmas.List.{length-map}
 use Rattle.std.proofs.lemmas.List.FromFn.{length-range_with_len}
 use Rattle.std.specs.List.{range_with_len}
@@ -6,8 +6,7 @@ use Rattle.block_pool.specs.ClaimsValue.{unused}
 use Rattle.forwarding.specs.Passes.{AtEach}
 use Rattle.idle_count.specs.IdleValue.{IdleSeatValue, busy}
 use Rattle.idle_count.specs.VerdictValue.{VerdictSeatValue, untold}
-use Rattle.pending_queues.specs.PendingValue.{SeatValue, new_seat}
-use Rattle.scavenge.specs.Handed.{CopiesKeyValue}
+use Rattle.pending_queues.specs.PendingValue.{new_seat}
 use Rattle.workers_in_threads.specs.Kits.{IsKit}
 use Rattle.workers_in_threads.proofs.Places.{at_push, at_rest, at_first, at_begin, at_none}
 use Rattle.workers_in_threads.proofs.Taking.{popped, left, one_less, both, numbered_at}

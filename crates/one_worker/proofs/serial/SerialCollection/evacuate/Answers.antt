@@ -4,7 +4,7 @@ use Rattle.steps.specs.HeapValue.{HeapValue}
 use Rattle.steps.specs.CollectionValue.{CollectionValue, young_names}
 use Rattle.workers.specs.WorkerSteps.{current_slot}
 use Rattle.workers.specs.System.{Look}
-use Rattle.one_worker.specs.SerialValue.{SerialValue, Goes, Stays, IsLeft, LooksThenRaces, setting_in}
+use Rattle.one_worker.specs.SerialValue.{SerialValue, Goes, Stays, IsUncopied, LooksThenRaces, setting_in}
 use Rattle.one_worker.proofs.Looked.{slot_here}
 use Rattle.one_worker.proofs.Evacuation.{goes_once, goes_twice, stays, left_why, evacuated_keeps}
 use Rattle.scavenge.specs.Shown.{WorkspaceValue}
@@ -50,7 +50,7 @@ returns-clause-left_why g c = λ is.
     let heap = c.requires.heap ∙ ap (λ (v : SerialValue). v.heap) (sym c.self.view_is) in
     let collection = c.requires.collection ∙ ap (λ (v : SerialValue). v.collection) (sym c.self.view_is) in
     let none = subst (λ (v : SerialValue). v.workspace.worker.proposal ≡ None) (sym c.self.view_is) c.requires.proposal in
-    subst IsLeft c.self.view_is
+    subst IsUncopied c.self.view_is
     (left_why _ c.self.invariant c.args.heap.now c.args.collection.now heap collection none c.evacuate.new.cells c.evacuate.new.pass c.evacuate.new.workspace c.evacuate.ensures.keeps.pass c.evacuate.ensures.keeps.limit (c.evacuate.ensures.left is).1)
 
 pub returns-clause-none : goal.returns-clause-none

@@ -5,8 +5,9 @@ use Rattle.trace_session.proofs.PrintedSteps.{room_made}
 use Rattle.trace_session.proofs.trace_prints.apart.make_room_apart.Goals as goal
 
 pub returns-in-Ok-write_collection-clause-ok : goal.returns-in-Ok-write_collection-clause-ok
-returns-in-Ok-write_collection-clause-ok g c = λ config store stands.
-    room_made _ _ config store stands _ _ _ _ _ _ c.in-Ok-collect.ensures.ok.collects (collected_apart 0 _ _ _ _ _ stands.made c.in-Ok-collect.ensures.ok) c.in-Ok-write_collection.ensures.bytes
+returns-in-Ok-write_collection-clause-ok g c =
+    rw c.reuse.ensures (λ config store stands.
+    room_made _ _ config store stands _ _ _ _ _ _ c.in-Ok-collect.ensures.ok.collects (collected_apart 0 _ _ _ _ _ stands.made c.in-Ok-collect.ensures.ok) c.in-Ok-write_collection.ensures.bytes)
 
 pub returns-in-Err-HeapFull-clause-err : goal.returns-in-Err-HeapFull-clause-err
 returns-in-Err-HeapFull-clause-err g c = (

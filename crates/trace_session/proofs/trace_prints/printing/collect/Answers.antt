@@ -5,11 +5,12 @@ use Rattle.trace_session.proofs.PrintedSteps.{steps_collect, collect_full, colle
 use Rattle.trace_session.proofs.trace_prints.printing.collect.Goals as goal
 
 pub returns-in-Ok-write_collection-clause-ok : goal.returns-in-Ok-write_collection-clause-ok
-returns-in-Ok-write_collection-clause-ok g c = λ config store stands.
+returns-in-Ok-write_collection-clause-ok g c =
+    rw c.reuse.ensures (λ config store stands.
     steps_collect _ _ config store stands c.args.generation _ _ _ _ _ _ c.in-Ok-collect_one.ensures.ok
     (collected c.args.generation _ _ _ _ stands.made (record { collects = c.in-Ok-collect_one.ensures.ok; scans = c.in-Ok-collect_one.ensures.alone }))
     (omega (arith, c.if-generation-generations.false, c.generations.ensures.value, ap (λ x. x.shape.generations) c.config.ensures))
-    c.in-Ok-write_collection.ensures.bytes
+    c.in-Ok-write_collection.ensures.bytes)
 
 pub returns-then-generation-generations-clause-err : goal.returns-then-generation-generations-clause-err
 returns-then-generation-generations-clause-err g c = (

@@ -4,8 +4,9 @@ use Rattle.trace_session.proofs.PrintedSteps.{room_made}
 use Rattle.trace_session.proofs.trace_prints.printing.make_room.Goals as goal
 
 pub returns-in-Ok-write_collection-clause-ok : goal.returns-in-Ok-write_collection-clause-ok
-returns-in-Ok-write_collection-clause-ok g c = λ config store stands.
-    room_made _ _ config store stands _ _ _ _ _ _ c.in-Ok-collect_one.ensures.ok (collected 0 _ _ _ _ stands.made (record { collects = c.in-Ok-collect_one.ensures.ok; scans = c.in-Ok-collect_one.ensures.alone })) c.in-Ok-write_collection.ensures.bytes
+returns-in-Ok-write_collection-clause-ok g c =
+    rw c.reuse.ensures (λ config store stands.
+    room_made _ _ config store stands _ _ _ _ _ _ c.in-Ok-collect_one.ensures.ok (collected 0 _ _ _ _ stands.made (record { collects = c.in-Ok-collect_one.ensures.ok; scans = c.in-Ok-collect_one.ensures.alone })) c.in-Ok-write_collection.ensures.bytes)
 
 pub returns-in-Err-HeapFull-clause-err : goal.returns-in-Err-HeapFull-clause-err
 returns-in-Err-HeapFull-clause-err g c = (
