@@ -218,16 +218,6 @@ impl<A: Allocator> Block<A> {
         self.words[offset + 1 + i]
     }
 
-    /// The ordinal of the object that begins at an offset in words, where one begins there. It reads the header alone.
-    pub fn ordinal_at(&self, offset: usize) -> usize
-        ensures { (k : ℕ) → k < length self.now.objects → offset_of self.now.objects k ≡ offset → result ≡ k }
-    {
-        if offset >= self.words.len() {
-            return 0;
-        }
-        (self.words[offset] / ORDINAL_UNIT) as usize
-    }
-
     /// Changes pointer `i` of the object with the ordinal `k`.
     pub fn set_pointer(&mut self, k: usize, i: usize, word: u64)
         requires object { k < length self.old.objects }

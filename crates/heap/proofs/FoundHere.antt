@@ -1,9 +1,9 @@
 -- What a look-up tells of an object.
-use Rattle.std.proofs.Common.{◌≡◌, ℕ, List, Option, Some, None, refl, arith}
+use Rattle.std.proofs.Common.{◌≡◌, ℕ, false, List, Option, Some, None, refl, arith}
 use Rattle.std.specs.Prelude.{IsSomeAnd, MatchOption}
 use Rattle.std.specs.Option.{option_map}
 use Rattle.std.specs.FinMap.{get}
-use Rattle.model.specs.Graph.{Object}
+use Rattle.model.specs.Graph.{Object, is_large}
 use Rattle.model.specs.Live.{IsYoung}
 use Rattle.model.proofs.Options.{some_is}
 use Rattle.layout.specs.declared.place.Place.{Place}
@@ -27,14 +27,14 @@ module _ (objects : ObjectsValue) (slots : List (Option Place)) (sets : List (Li
   number_is (Some n) is = (young_of objects slots sets c.generation name is.0, record { in_range = omega (arith, is.1.in_range, opened.cells); is = is.1.is })
 
 pub found_in_here : (objects : ObjectsValue) (slots : List (Option Place)) (sets : List (List ℕ)) (c : CollectionValue) (name offset : ℕ) (block : BlockValue) (at : ℕ × ℕ) (number : Option ℕ) → IsOpened (heap_with objects slots sets) c.generation c
-    → IsSomeAnd (get objects.objects name) (λ o. LiesIn o offset block) → Some at ≡ option_map stands_at (get objects.objects name)
+    → IsSomeAnd (get objects.objects name) (λ o. is_large objects.config.block_words o ≡ false) → IsSomeAnd (get objects.objects name) (λ o. LiesIn o offset block) → Some at ≡ option_map stands_at (get objects.objects name)
     → MatchOption number (IsYoung (graph_in objects) c.generation name → ⊥) (λ n. IsYoung (graph_in objects) c.generation name × IsNumbered objects c.generation name n)
     → IsFoundIn (heap_with objects slots sets) c name offset block at number
-found_in_here objects slots sets c name offset block at number opened lies stands numbered = go (get objects.objects name) refl lies stands
+found_in_here objects slots sets c name offset block at number opened small lies stands numbered = go (get objects.objects name) refl small lies stands
   where
-    go : (o : Option Object) → get objects.objects name ≡ o → IsSomeAnd o (λ x. LiesIn x offset block) → Some at ≡ option_map stands_at o → IsFoundIn (heap_with objects slots sets) c name offset block at number
-    go None is h e = absurd h
-    go (Some x) is h e = record { object = x; there = is; lies = h; stands = some_is e; number = number_is objects slots sets c opened name number numbered }
+    go : (o : Option Object) → get objects.objects name ≡ o → IsSomeAnd o (λ x. is_large objects.config.block_words x ≡ false) → IsSomeAnd o (λ x. LiesIn x offset block) → Some at ≡ option_map stands_at o → IsFoundIn (heap_with objects slots sets) c name offset block at number
+    go None is s h e = absurd h
+    go (Some x) is s h e = record { object = x; there = is; small = s; lies = h; stands = some_is e; number = number_is objects slots sets c opened name number numbered }
 
 pub found_here : (objects : ObjectsValue) (slots : List (Option Place)) (sets : List (List ℕ)) (c : CollectionValue) (name : ℕ) (object : ObjectRef) (at : StepId) (number : Option ℕ) → IsOpened (heap_with objects slots sets) c.generation c
     → IsSomeAnd (get objects.objects name) (λ o. IsShownAs o (raw_of object)) → Some (step_pair at) ≡ option_map stands_at (get objects.objects name)

@@ -1,6 +1,6 @@
 -- What a look-up tells of an object.
-use Rattle.std.specs.Prelude.{◌≡◌, ℕ, ◌<◌, MatchOption, Option, Some, slice_index}
-use Rattle.model.specs.Graph.{Object, object_at}
+use Rattle.std.specs.Prelude.{◌≡◌, ℕ, ◌<◌, false, MatchOption, Option, Some, slice_index}
+use Rattle.model.specs.Graph.{Object, object_at, is_large}
 use Rattle.model.specs.Live.{IsYoung}
 use Rattle.layout.specs.ObjectRef.{raw_of}
 use Rattle.steps.specs.StepPairs.{step_pair, stands_at}
@@ -19,6 +19,7 @@ pub record HasNumber (heap : HeapValue) (c : CollectionValue) (name number : ℕ
 pub record IsFoundIn (heap : HeapValue) (c : CollectionValue) (name offset : ℕ) (block : BlockValue) (at : ℕ × ℕ) (found : Option ℕ) : Type 0 where
   pub object : Object
   pub there : object_at heap.graph name ≡ Some object
+  pub small : is_large heap.config.block_words object ≡ false
   pub lies : LiesIn object offset block
   pub stands : at ≡ stands_at object
   pub number : MatchOption found (IsYoung heap.graph c.generation name → ⊥) (λ n. IsYoung heap.graph c.generation name × HasNumber heap c name n)

@@ -1,9 +1,9 @@
 -- What holds of the objects of every heap.
-use Rattle.std.proofs.Common.{◌≡◌, ◌≢◌, ℕ, ◌+◌, ◌/◌, ◌<◌, ◌≤◌, true, false, true≢false, length, Option, Some, None, refl, sym, ap, subst, ◌∙◌, arith, ⊎_elim}
+use Rattle.std.proofs.Common.{◌≡◌, ◌≢◌, ℕ, ◌+◌, ◌/◌, ◌<◌, ◌≤◌, Bool, true, false, true≢false, length, Option, Some, None, refl, sym, ap, subst, ◌∙◌, arith, ⊎_elim}
 use Rattle.std.proofs.lemmas.Bool.{cases_Bool}
 use Rattle.std.proofs.lemmas.Bool.Decides.{nat_tests}
 use Rattle.std.proofs.lemmas.List.{length-map}
-use Rattle.std.specs.Prelude.{IsSome, nat_eq}
+use Rattle.std.specs.Prelude.{IsSome, IsSomeAnd, nat_eq}
 use Rattle.std.specs.List.{IsDistinct}
 use Rattle.std.specs.Option.{option_map}
 use Rattle.std.specs.FinMap.{get}
@@ -18,7 +18,7 @@ use Rattle.large_objects.specs.PoolBlocks.{blocks_of, blocks_at}
 use Rattle.heap_objects.specs.WithLarge.{large_object}
 use Rattle.heap_objects.specs.Space.{SpaceValue, EndsInBlock}
 use Rattle.heap_objects.specs.HeapSpaceCollecting.{HoldsNone}
-use Rattle.heap_objects.specs.Objects.{objects_of, graph_in, heap_in}
+use Rattle.heap_objects.specs.Objects.{ObjectsValue, objects_of, graph_in, heap_in}
 use Rattle.heap_objects.specs.Blocks.{HaveBlocks}
 use Rattle.heap_objects.specs.Sound.{IsHeapObject, IsWellPlaced, AreObjects}
 use Rattle.heap_objects.specs.Inside.{AreApart}
@@ -162,3 +162,15 @@ module _ (space : SpaceValue) (large : LargeValue) (apart : AreApart space large
     rising = apart.small.rising;
     large = own_blocks;
   }
+
+-- what stands at the word of a place in a block is small
+pub small_here : (objects : ObjectsValue) → AreObjects (heap_in objects) → (name : ℕ) → name < large_word 0 → IsSome (get objects.objects name) → IsSomeAnd (get objects.objects name) (λ o. is_large objects.config.block_words o ≡ false)
+small_here objects sound name below there = go (get objects.objects name) refl there
+  where
+    go : (o : Option Object) → get objects.objects name ≡ o → IsSome o → IsSomeAnd o (λ x. is_large objects.config.block_words x ≡ false)
+    go None is some = absurd (true≢false (sym some))
+    go (Some x) is some = by_size (is_large objects.config.block_words x) refl
+      where
+        by_size : (b : Bool) → is_large objects.config.block_words x ≡ b → b ≡ false
+        by_size false size = refl
+        by_size true size = let at = (sound.places name x is).large size in absurd (omega (arith, at.is, below))

@@ -1,5 +1,5 @@
 //! The objects of a heap, small and large, and its blocks.
-ghost use Rattle.std.specs.Prelude.{◌≡◌, ℕ, ◌+◌, ◌/◌, ◌<◌, ◌≤◌, ◌↔◌, ◌++◌, Some, None, Err, map, length, count_by, filter, sum_by, IsTrue, IsSome, IsSomeAnd, IfOk, IfSome, IfNone, OnOk, OnErr, MatchOption, slice_set};
+ghost use Rattle.std.specs.Prelude.{◌≡◌, ℕ, ◌+◌, ◌/◌, ◌<◌, ◌≤◌, ◌↔◌, ◌++◌, false, Some, None, Err, map, length, count_by, filter, sum_by, IsTrue, IsSome, IsSomeAnd, IfOk, IfSome, IfNone, OnOk, OnErr, MatchOption, slice_set};
 ghost use Rattle.std.specs.FinMap.{values, get, insert};
 ghost use Rattle.std.specs.Option.{option_map};
 ghost use Rattle.model.specs.Graph.{Object, IsClosed, with_pointer, size_of, is_large};
@@ -295,7 +295,7 @@ impl<A: Allocator + Clone> HeapObjects<A> {
         ensures { IsNumbered self.now generation (place_word place) result }
     {
         match place {
-            Place::Small(_) => self.space.number_of(numbering.blocks(), generation, place),
+            Place::Small(at) => self.space.number_of(numbering.blocks(), generation, at),
             Place::Large(number) => numbering.large()[number.number as usize],
         }
     }
@@ -349,6 +349,8 @@ impl<A: Allocator + Clone> HeapObjects<A> {
             (IsYoung (graph_in self.now) generation (small_word at.block at.offset) → ⊥)
             (λ n. IsYoung (graph_in self.now) generation (small_word at.block at.offset) ×
             IsNumbered self.now generation (small_word at.block at.offset) n) }
+        ensures small { IsSomeAnd (get self.now.objects (small_word at.block at.offset))
+            (λ o. is_large self.now.config.block_words o ≡ false) }
     {
         self.space.find_small(numbering.blocks(), generation, at)
     }

@@ -6,7 +6,6 @@ mod filling;
 
 pub use block_table::{
     AreaFlags, Table, add_blocks, areas_of, bases, block_object, block_of, count_step, end_of,
-    exchange, grow, object_from, ordinal_at, remove_blocks, set_plain, set_pointer, step_at,
-    young_blocks,
+    exchange, grow, object_from, remove_blocks, set_plain, set_pointer, step_at, young_blocks,
 };
 pub use filling::{Nursery, NurseryFull};

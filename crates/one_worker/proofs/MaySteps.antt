@@ -3,8 +3,7 @@ use Rattle.std.proofs.Common.{◌≡◌, None, sym, ap, subst, ◌∙◌}
 use Rattle.std.specs.Prelude.{IsSome}
 use Rattle.steps.specs.HeapValue.{HeapValue}
 use Rattle.steps.specs.CollectionValue.{CollectionValue, IsOpened}
-use Rattle.scavenge.specs.MayStep.{IsOpenFor, AreSmallInBlocks, MayLook, MayRace}
-use Rattle.scavenge.proofs.SmallNames.{small_in_blocks}
+use Rattle.scavenge.specs.MayStep.{IsOpenFor, MayLook, MayRace}
 use Rattle.one_worker.specs.SerialValue.{SerialValue}
 use Rattle.one_worker.specs.IsSerial.{IsSerial}
 use Rattle.one_worker.proofs.Looked.{closed_of, places_of, untouched_of, can_look}
@@ -23,7 +22,6 @@ module _ (v : SerialValue) (k : IsSerial v) where
           (subst (λ (d : CollectionValue). IsOpened v.heap d.generation d) (sym same_collection) k.ready.opened);
       closed = closed_of v k heap c same_heap same_collection;
       places = places_of v k heap c same_heap same_collection;
-      small = subst AreSmallInBlocks (sym same_heap) (small_in_blocks v.heap k.ready.sound);
       config = k.config ∙ ap (λ (h : HeapValue). h.config) (sym same_heap);
     }
 

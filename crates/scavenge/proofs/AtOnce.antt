@@ -4,7 +4,7 @@ use Rattle.std.proofs.lemmas.Bool.Decides.{leb_tells}
 use Rattle.std.specs.Prelude.{MatchOption, IsSomeAnd}
 use Rattle.std.specs.Option.{option_map, option_map_or}
 use Rattle.model.specs.Config.{Config}
-use Rattle.model.specs.Graph.{Object, object_at}
+use Rattle.model.specs.Graph.{Object, object_at, is_large}
 use Rattle.model.specs.Live.{IsYoung}
 use Rattle.layout.specs.declared.place.Place.{Place}
 use Rattle.layout.specs.Object.{Raw, raw_size}
@@ -52,6 +52,10 @@ old_object heap c name object there not_young =
   where
     no_le : {m n : ℕ} → (m ≤ n → ⊥) → nat_le m n ≡ false
     no_le {m = m} {n = n} h = ⊎_elim (λ y. absurd (h y.1)) (λ f. f.0) (leb_tells m n)
+
+-- what a look-up finds by a place in a block is small
+pub small_there : (heap : HeapValue) (c : CollectionValue) (name offset : ℕ) (block : BlockValue) (at : ℕ × ℕ) (number : Option ℕ) → IsFoundIn heap c name offset block at number → is_large_name (objects_of heap) name ≡ false
+small_there heap c name offset block at number f = ap (λ o. option_map_or (is_large heap.config.block_words) o false) f.there ∙ f.small
 
 -- what has no number isn't collected
 pub is_old : (heap : HeapValue) (c : CollectionValue) (name : ℕ) (found : Found) → found.number ≡ None → IsFound heap c name found → is_collected (seen heap c) name ≡ false

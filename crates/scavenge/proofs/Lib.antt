@@ -8,7 +8,6 @@ pub mod Unchanged
 pub mod Drawn
 pub mod AllDrawn
 pub mod PutBack
-pub mod SmallNames
 -- Lemmas on the blocks and slots of a worker.
 pub mod Fields
 mod Winning

@@ -1,31 +1,24 @@
 -- When a worker of an opened collection may look at a slot, race, and draw a block, and what a step leaves as it was.
-use Rattle.std.specs.Prelude.{◌≡◌, ◌<◌, ℕ, List, [], ◌∷◌, ◌++◌, Option, None, IsSome, true, false}
+use Rattle.std.specs.Prelude.{◌≡◌, ◌<◌, ℕ, List, [], ◌∷◌, ◌++◌, Option, None, IsSome, true}
 use Rattle.std.specs.List.{All, Contains}
 use Rattle.model.specs.Graph.{IsClosed}
 use Rattle.layout.specs.declared.place.Place.{Place}
-use Rattle.layout.specs.Place.{large_word}
 use Rattle.block_pool.specs.ClaimsValue.{Source, SeatValue, IsSeatOf}
 use Rattle.block_pool.specs.Drawn.{times_in}
 use Rattle.heap.specs.HeapValue.{HeapValue}
 use Rattle.heap.specs.CollectionValue.{CollectionValue, IsOpened}
 use Rattle.heap.specs.NamesArePlaces.{NamesArePlaces}
-use Rattle.workers.specs.Setting.{is_large_name}
 use Rattle.workers.specs.WorkerSteps.{current_slot}
 use Rattle.workers.specs.Ready.{CanFinish, IsUntouched}
 use Rattle.scavenge.specs.Shown.{WorkspaceValue}
-use Rattle.scavenge.specs.Slots.{seen, objects_of}
+use Rattle.scavenge.specs.Slots.{seen}
 use Rattle.scavenge.specs.Told.{StillKnows}
-
--- no object is large whose name is the word of a place in a block
-abbrev pub AreSmallInBlocks : HeapValue → Type 0
-AreSmallInBlocks heap = (name : ℕ) → name < large_word 0 → is_large_name (objects_of heap) name ≡ false
 
 -- the collection is open, each pointer of the heap leads to an object, and the workspace is one of its workers
 pub record IsOpenFor (heap : HeapValue) (c : CollectionValue) (v : WorkspaceValue) : Type 0 where
   pub opened : IsOpened heap c.generation c
   pub closed : IsClosed heap.graph
   pub places : NamesArePlaces heap.graph
-  pub small : AreSmallInBlocks heap
   pub config : v.config ≡ heap.config
 
 -- nothing is proposed, and the current slot, where there is one, is as it was in the original and can be finished

@@ -32,7 +32,6 @@ use Rattle.scavenge.specs.ReadyToCollect.{IsReadyToCollect}
 use Rattle.scavenge.specs.MayStep.{IsOpenFor, MayLook, MayRace}
 use Rattle.scavenge.proofs.Destinations.{destination_below, numbers_below}
 use Rattle.scavenge.proofs.Unchanged.{some_there}
-use Rattle.scavenge.proofs.SmallNames.{small_in_blocks}
 use Rattle.scavenge.proofs.Starts.{targets_live}
 use Rattle.workers_in_threads.specs.SharingValue.{SharingValue, setting_for, setting_in, worker_of, begins}
 use Rattle.workers_in_threads.specs.IsSharing.{IsSharing, HasWorked}
@@ -113,7 +112,7 @@ module _ {C P A : Type 0} {fits : C → P → Type 0} {limit : C → ℕ} {known
 
   -- what a look and a race ask of it
   pub open_in : IsOpenFor v.heap v.collection v.workspace
-  open_in = record { opened = k.ready.opened; closed = heap_closed v.heap k.ready.sound; places = places_in; small = small_in_blocks v.heap k.ready.sound; config = k.config }
+  open_in = record { opened = k.ready.opened; closed = heap_closed v.heap k.ready.sound; places = places_in; config = k.config }
 
   pub may_look_in : v.workspace.worker.proposal ≡ None → MayLook v.heap v.collection v.workspace
   may_look_in none = record { proposal = none; slot = slot_in none; few = few_in; untouched = untouched_in }

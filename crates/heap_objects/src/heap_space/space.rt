@@ -28,8 +28,8 @@ use large_objects::LargeTable;
 use layout::{LargeNumber, ObjectRef, Place, SmallPlace, word_of};
 use nursery::{
     AreaFlags, Nursery, Table, add_blocks, areas_of, bases, block_object, block_of, count_step,
-    end_of, exchange, grow, object_from, ordinal_at, remove_blocks, set_plain, set_pointer,
-    step_at, young_blocks,
+    end_of, exchange, grow, object_from, remove_blocks, set_plain, set_pointer, step_at,
+    young_blocks,
 };
 use std::alloc::{AllocError, Allocator, Global};
 use std::marker::Model;
@@ -268,17 +268,15 @@ impl<A: Allocator + Clone> Space<A> {
     }
 
     /// The number of an object of generation at most `generation`.
-    pub fn number_of(&self, bases: &[u32], generation: u8, place: Place) -> u32
+    pub fn number_of(&self, bases: &[u32], generation: u8, at: SmallPlace) -> u32
         requires bases { AreBases self.now generation bases.now }
-        requires young { IsYoung (graph_in self.now) generation (place_word place) }
-        ensures { IsNumbered self.now generation (place_word place) result }
+        requires young { IsYoung (graph_in self.now) generation (small_word at.block at.offset) }
+        ensures { IsNumbered self.now generation (small_word at.block at.offset) result }
     {
-        let table = &self.table;
-        let Place::Small(at) = place else {
-            return 0;
+        let (_, _, Some(number)) = self.find_small(bases, generation, at) else {
+            unreachable!();
         };
-        let number = at.block as usize;
-        bases[number] + ordinal_at(table, number, at.offset as usize) as u32
+        number
     }
 
     /// The block in which the object at a place lies where there is one, its generation and step, and its number where its

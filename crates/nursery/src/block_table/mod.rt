@@ -9,6 +9,4 @@ pub use area_flags::AreaFlags;
 pub use counts::{bases, count_step, young_blocks};
 pub use exchanging::{end_of, exchange, grow};
 pub use flagging::{add_blocks, areas_of, remove_blocks};
-pub use table::{
-    Table, block_object, block_of, object_from, ordinal_at, set_plain, set_pointer, step_at,
-};
+pub use table::{Table, block_object, block_of, object_from, set_plain, set_pointer, step_at};

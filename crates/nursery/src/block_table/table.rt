@@ -116,18 +116,6 @@ pub fn set_plain<A: Allocator>(
     }
 }
 
-/// The ordinal of the object that begins at an offset of a block, where one begins there.
-pub fn ordinal_at<A: Allocator>(table: &[Option<Block<A>>], number: usize, offset: usize) -> usize
-    requires { number < length table.now }
-    ensures { (block : BlockValue) (k : ℕ) → slice_index_or table.now number None ≡ Some block
-        → k < length block.objects → offset_of block.objects k ≡ offset → result ≡ k }
-{
-    match &table[number] {
-        Some(block) => block.ordinal_at(offset),
-        None => 0,
-    }
-}
-
 /// The generation and step of a block.
 pub fn step_at<A: Allocator>(table: &[Option<Block<A>>], number: usize) -> StepId
     requires in_range { number < length table.now }

@@ -44,14 +44,14 @@ impl<A: Allocator> WorkerReport<A> {
     }
 
     /// Whether either list has room for no more than twice what it holds and so many entries.
-    pub fn is_tight(&self, few: usize) -> bool {
+    pub(crate) fn is_tight(&self, few: usize) -> bool {
         let most_won = self.won.len().saturating_mul(2).saturating_add(few);
         let most_scanned = self.scanned.len().saturating_mul(2).saturating_add(few);
         self.won.capacity() <= most_won && self.scanned.capacity() <= most_scanned
     }
 
     /// The lists themselves.
-    pub fn into_lists(self) -> (Vec<Won, A>, Vec<Place, A>)
+    pub(crate) fn into_lists(self) -> (Vec<Won, A>, Vec<Place, A>)
         ensures won { map won_value result.0.items ≡ self.won }
         ensures scanned { map place_word result.1.items ≡ self.scanned }
     {

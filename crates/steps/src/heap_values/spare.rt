@@ -12,8 +12,8 @@ use std::mem;
 /// Lists are kept that have room for no more than twice what they hold and so many entries.
 const FEW_ENTRIES: usize = 1024;
 
-/// Blocks without an object, and words and lists without a meaning, of which a collection makes use before it asks for new memory. It is
-/// memory alone: no contract sees what it has, and a collection does the same without it.
+/// Blocks without an object, and words and lists without a meaning, of which a collection makes use before it asks for new
+/// memory. It is memory alone: no contract sees what it has, and a collection does the same without it.
 #[derive(Drop)]
 pub struct Spare<A: Allocator = Global> {
     // The block that is given out first stands in front.

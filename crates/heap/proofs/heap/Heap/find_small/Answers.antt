@@ -12,4 +12,4 @@ pub returns : goal.returns
 returns g c =
     let opened = rw (← c.self.view_is) at c.requires.opened in
     let number = rw c.generation.ensures at c.find_small-number.ensures.number in
-    rw (← c.self.view_is) (found_in_here c.self.inside.objects c.self.inside.roots.slots c.self.inside.remembered c.args.collection.now (small_word c.args.at.block c.args.at.offset) c.args.at.offset _ _ _ opened c.find_small-number.ensures.block c.find_small-number.ensures.step number)
+    rw (← c.self.view_is) (found_in_here c.self.inside.objects c.self.inside.roots.slots c.self.inside.remembered c.args.collection.now (small_word c.args.at.block c.args.at.offset) c.args.at.offset _ _ _ opened c.find_small-number.ensures.small c.find_small-number.ensures.block c.find_small-number.ensures.step number)

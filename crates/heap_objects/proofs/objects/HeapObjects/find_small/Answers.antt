@@ -4,6 +4,7 @@ use Rattle.layout.specs.Place.{small_word, large_word}
 use Rattle.heap_objects.proofs.WithLarge.{get-small}
 use Rattle.heap_objects.proofs.Numbers.{bases_of}
 use Rattle.heap_objects.proofs.Finds.{number_found}
+use Rattle.heap_objects.proofs.SoundObjects.{are_objects, small_here}
 use Rattle.heap_objects.proofs.objects.HeapObjects.find_small.Goals as goal
 
 pub find_small-requires-clause-bases : goal.find_small-requires-clause-bases
@@ -35,3 +36,10 @@ returns-clause-number g c =
     let at = c.args.at in
     let lt : small_word at.block at.offset < large_word 0 = omega (arith, at.block_in_range, at.offset_in_range) in
     rw (← c.self.view_is) (number_found _ _ c.self.invariant c.args.generation (small_word at.block at.offset) lt _ c.find_small.ensures.number)
+
+pub returns-clause-small : goal.returns-clause-small
+returns-clause-small g c =
+    let at = c.args.at in
+    let lt : small_word at.block at.offset < large_word 0 = omega (arith, at.block_in_range, at.offset_in_range) in
+    let there = rw (← c.self.view_is) at c.requires.there in
+    rw (← c.self.view_is) (small_here _ (are_objects c.self.inside.space c.self.inside.large c.self.invariant) (small_word at.block at.offset) lt there)

@@ -1,5 +1,5 @@
 use Rattle.std.proofs.Common.{◌<◌, arith}
-use Rattle.layout.specs.Place.{place_word, large_word}
+use Rattle.layout.specs.Place.{small_word, large_word}
 use Rattle.heap_objects.proofs.Numbers.{bases_of, small_of_young, numbered_small, numbered_large, large_of_young}
 use Rattle.heap_objects.proofs.objects.HeapObjects.number_of.Goals as goal
 
@@ -10,10 +10,10 @@ number_of-requires-clause-bases g c =
 
 pub number_of-requires-clause-young : goal.number_of-requires-clause-young
 number_of-requires-clause-young g c =
-    let young = rw (← c.self.view_is) at c.requires.young in
-    let at = c.in-Small.field-0 in
-    let lt : place_word c.args.place < large_word 0 = rw c.in-Small.is (omega (arith, at.block_in_range, at.offset_in_range)) in
-    small_of_young _ _ c.self.invariant c.args.generation (place_word c.args.place) lt young
+    let young = rw (← c.self.view_is, c.in-Small.is) at c.requires.young in
+    let at = c.in-Small.at in
+    let lt : small_word at.block at.offset < large_word 0 = omega (arith, at.block_in_range, at.offset_in_range) in
+    small_of_young _ _ c.self.invariant c.args.generation (small_word at.block at.offset) lt young
 
 pub bounds-large-number : goal.bounds-large-number
 bounds-large-number g c =
@@ -22,7 +22,7 @@ bounds-large-number g c =
     rw c.large.ensures (numbering.covers_large c.in-Large.number.number young)
 
 pub returns-in-Small : goal.returns-in-Small
-returns-in-Small g c = rw (← c.self.view_is) (numbered_small _ _ c.self.invariant c.args.generation (place_word c.args.place) c.number_of.result c.number_of.ensures)
+returns-in-Small g c = rw (← c.self.view_is, c.in-Small.is) (numbered_small _ _ c.self.invariant c.args.generation (small_word c.in-Small.at.block c.in-Small.at.offset) c.number_of.result c.number_of.ensures)
 
 pub returns-in-Large : goal.returns-in-Large
 returns-in-Large g c =

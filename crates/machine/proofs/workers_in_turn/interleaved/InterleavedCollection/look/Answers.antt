@@ -1,8 +1,6 @@
 use Rattle.std.proofs.Common.{◌≡◌, false, Ok, Err, sym, ap, subst, ◌∙◌, rules}
 use Rattle.block_pool.specs.ClaimsValue.{SeatValue}
 use Rattle.scavenge.specs.Slots.{seen}
-use Rattle.scavenge.specs.MayStep.{AreSmallInBlocks}
-use Rattle.scavenge.proofs.SmallNames.{small_in_blocks}
 use Rattle.workers.specs.System.{Look}
 use Rattle.workers.specs.Lawful.{IsRefused}
 use Rattle.scavenge.proofs.AllDrawn.{none_left}
@@ -21,7 +19,6 @@ look-requires-clause-open g c =
       opened = search rules;
       closed = closed_of v c.self.invariant c.args.t _ i.there c.args.heap.now c.args.collection.now (c.requires.heap ∙ ap (λ (x : InterleavedValue). x.heap) (sym c.self.view_is)) (c.requires.collection ∙ ap (λ (x : InterleavedValue). x.collection) (sym c.self.view_is));
       places = places_of v c.self.invariant c.args.t _ i.there c.args.heap.now c.args.collection.now (c.requires.heap ∙ ap (λ (x : InterleavedValue). x.heap) (sym c.self.view_is)) (c.requires.collection ∙ ap (λ (x : InterleavedValue). x.collection) (sym c.self.view_is));
-      small = subst AreSmallInBlocks (sym (c.requires.heap ∙ ap (λ (x : InterleavedValue). x.heap) (sym c.self.view_is))) (small_in_blocks v.heap c.self.invariant.ready.sound);
       config = config_of v c.self.invariant c.args.t _ i.there c.args.heap.now c.args.collection.now (c.requires.heap ∙ ap (λ (x : InterleavedValue). x.heap) (sym c.self.view_is)) (c.requires.collection ∙ ap (λ (x : InterleavedValue). x.collection) (sym c.self.view_is));
     }
 

@@ -13,8 +13,7 @@ use Rattle.scavenge.specs.Told.{Tells, lost_of}
 use Rattle.scavenge.specs.Slots.{seen, objects_of}
 use Rattle.scavenge.specs.Evacuates.{ProposesThere}
 use Rattle.scavenge.proofs.Empty.{numbered_in, collected, looks_none}
-use Rattle.scavenge.proofs.AtOnce.{lies, lies_there, proposes_there}
-use Rattle.scavenge.proofs.SmallNames.{small_place_below}
+use Rattle.scavenge.proofs.AtOnce.{lies, lies_there, small_there, proposes_there}
 use Rattle.scavenge.proofs.sweep.sweep.Sweep.evacuate.Goals as goal
 
 pub returns-clause-raced : goal.returns-clause-raced
@@ -23,6 +22,7 @@ returns-clause-raced g c = λ _.
     let there = c.find_small-number.ensures in
     let d = c.goes_to-d.result in
     let found = numbered_in c.args.heap.now c.args.collection.now word c.in-Small.at.offset c.find_small-number.result.block.now (step_pair c.find_small-number.result.at) c.find_small-number.result.number c.in-Some-number.number c.in-Some-number.is there in
+    let small = small_there c.args.heap.now c.args.collection.now word c.in-Small.at.offset c.find_small-number.result.block.now (step_pair c.find_small-number.result.at) c.find_small-number.result.number there in
     let young : is_collected (seen c.args.heap.now c.args.collection.now) word ≡ true = collected c.args.heap.now c.args.collection.now word found.0 in
     let current : current_slot (seen c.args.heap.now c.args.collection.now) c.args.self.now.worker ≡ Some (Some word) =
     sym c.slot_in.ensures.slot ∙ ap (option_map (option_map place_word)) c.in-Some.is ∙ ap (λ t. Some (option_map place_word t)) c.in-Some-target.is ∙ ap (λ p. Some (Some (place_word p))) c.in-Small.is in
@@ -35,7 +35,7 @@ returns-clause-raced g c = λ _.
     let r = c.race.ensures.raced c.if-not-race.false l.0 l.1.0 in
     let proposing : WorkspaceValue = record c.args.self.now { worker = with_copy_proposed c.args.self.now.worker word l.0 d } in
     let p : ProposesThere (objects_of c.args.heap.now) word c.args.self.now proposing =
-    proposes_there c.args.heap.now c.args.self.now word d l.0 c.requires.open.config l.1.1 (c.requires.open.small word (small_place_below c.in-Small.at)) c.goes_to-d.ensures.goes fits in
+    proposes_there c.args.heap.now c.args.self.now word d l.0 c.requires.open.config l.1.1 small c.goes_to-d.ensures.goes fits in
     record {
       between = c.look.new.pass;
       proposing = proposing;
