@@ -394,7 +394,12 @@ impl<A: Allocator + Clone> Heap<A> {
             (λ found. IsFound self.now collection.now (place_word place) found) }
     {
         match self.objects.object(place) {
-            Some(_) => Some(self.find_there(collection, place)),
+            Some(object) => {
+                let (at, number) = self
+                    .objects
+                    .step_and_number(collection.numbering(), collection.generation(), place);
+                Some(Found { object, at, number })
+            }
             None => None,
         }
     }

@@ -378,6 +378,34 @@ impl<A: Allocator + Clone> HeapObjects<A> {
         }
     }
 
+    /// The generation and step of the object at a place where there is one, and its number where its generation is at most
+    /// `generation`: what `find` tells, without the object.
+    #[inline(always)]
+    pub fn step_and_number(
+        &self,
+        numbering: &Numbering<A>,
+        generation: u8,
+        place: Place,
+    ) -> (StepId, Option<u32>)
+        requires numbering { IsNumbering (graph_in self.now) generation numbering.now }
+        requires there { IsSome (get self.now.objects (place_word place)) }
+        ensures step { Some (step_pair result.0) ≡ option_map stands_at (get self.now.objects (place_word place)) }
+        ensures number { MatchOption result.1 (IsYoung (graph_in self.now) generation (place_word place) → ⊥)
+            (λ n. IsYoung (graph_in self.now) generation (place_word place) ×
+            IsNumbered self.now generation (place_word place) n) }
+    {
+        match place {
+            Place::Small(small) => {
+                let (_block, at, number) = self.find_small(numbering, generation, small);
+                (at, number)
+            }
+            Place::Large(large) => {
+                let (_object, at, number) = self.find_large(numbering, generation, large);
+                (at, number)
+            }
+        }
+    }
+
     /// How many blocks are free.
     pub fn free_count(&self) -> usize
         ensures value { result ≡ length self.now.free }

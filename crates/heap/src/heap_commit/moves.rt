@@ -48,7 +48,7 @@ fn place_after<A: Allocator + Clone>(
         IsSome (slice_index_or places.now number None) }
     ensures { (f : ℕ → ℕ) → Moves objects.now g places.now f → place_word result ≡ f (place_word place) }
 {
-    let (_object, _step, number) = objects.find(numbering, g, place);
+    let (_step, number) = objects.step_and_number(numbering, g, place);
     match number {
         Some(number) => places.place(number).unwrap_or(place),
         None => place,
