@@ -40,11 +40,13 @@ impl<'a, S: SharedCells, G: Gate> Cells for Lent<'a, S, G> {
         self.cells.cell_count()
     }
 
+    #[inline(always)]
     fn look(&mut self, pass: &mut S::Pass, name: u32) -> Option<Place> {
         self.gate.before(self.worker, StepKind::Look);
         self.cells.look_at(pass, name)
     }
 
+    #[inline(always)]
     fn race(&mut self, pass: &mut S::Pass, name: u32, place: Place) -> Result<Outcome, AllocError> {
         self.gate.before(self.worker, StepKind::Race);
         self.cells.race_for(pass, name, place)

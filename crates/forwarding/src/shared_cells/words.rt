@@ -23,10 +23,12 @@ impl<A: Allocator> SharedCells for WordCells<A> {
         self.count()
     }
 
+    #[inline(always)]
     fn look_at(&self, pass: &mut WordPass, name: u32) -> Option<Place> {
         self.look(pass, name)
     }
 
+    #[inline(always)]
     fn race_for(
         &self,
         pass: &mut WordPass,

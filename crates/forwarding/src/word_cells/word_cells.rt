@@ -61,6 +61,7 @@ impl WordPass {
 }
 
 /// The place that the word of a cell shows.
+#[inline(always)]
 pub(crate) fn place_in(word: u64) -> Option<Place>
     ensures { (pointer : Option At) → pointer_word pointer ≡ word → result ≡ pointer }
 {
@@ -68,10 +69,14 @@ pub(crate) fn place_in(word: u64) -> Option<Place>
 }
 
 /// How a race ended whose exchange found that word.
+#[inline(always)]
 fn outcome_of(found: u64) -> Outcome
     ensures won { found ≡ 0 → result ≡ Outcome.Won }
     ensures lost { (first : At) → place_word first ≡ found → result ≡ Outcome.Lost first }
 {
+    if found == 0 {
+        return Outcome::Won;
+    }
     match place_in(found) {
         None => Outcome::Won,
         Some(first) => Outcome::Lost(first),
@@ -87,6 +92,7 @@ impl<A: Allocator> WordCells<A> {
     }
 
     /// The place that the name's word shows, which the pass then knows.
+    #[inline(always)]
     pub fn look(&self, pass: &mut WordPass, name: u32) -> Option<Place>
         requires pass { pass.old.id ≡ self.now.id }
         requires name { name < self.now.count }
@@ -103,6 +109,7 @@ impl<A: Allocator> WordCells<A> {
 
     /// Exchanges the name's word from 0 to that of the place. Won: the pass has won the pair; Lost: it knows the place
     /// that the word shows.
+    #[inline(always)]
     pub fn race(&self, pass: &mut WordPass, name: u32, place: Place) -> Outcome
         requires pass { pass.old.id ≡ self.now.id }
         requires name { name < self.now.count }
