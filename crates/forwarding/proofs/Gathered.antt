@@ -2,8 +2,6 @@
 use Rattle.std.proofs.Common.{◌≡◌, ℕ, zero, suc, ◌+◌, List, [], ◌∷◌, ◌++◌, All, replicate, get_or, length, Some, refl, sym, ap, ◌∙◌, append_assoc, arith, length-append}
 use Rattle.std.proofs.lemmas.List.{append-nil}
 use Rattle.std.proofs.lemmas.List.Elements.{All-pop, All-nil, All-cons, All-head, All-tail}
-use mathlib.Core.Option.{some, some-injective, some-ne-none}
-use lib.ListN.{get_elem?}
 use Rattle.forwarding.specs.Settled.{Pairs, all_pairs}
 
 pub All-front : {X : Type 0} (P : X → Type 0) (xs ys : List X) → All P (xs ++ ys) → All P xs
@@ -35,8 +33,3 @@ pub zeros : (n k : ℕ) → get_or {A = ℕ} (replicate n 0) k 0 ≡ 0
 zeros zero k = refl
 zeros (suc n) zero = refl
 zeros (suc n) (suc k) = zeros n k
-
-pub found : (words : List ℕ) (n w : ℕ) → get_elem? words n ≡ some w → get_or words n 0 ≡ w
-found [] n w e = absurd (some-ne-none w (sym e))
-found (x ∷ xs) zero w e = some-injective x w e
-found (x ∷ xs) (suc n) w e = found xs n w e

@@ -1,8 +1,7 @@
 -- The places that are read from the words, and what they say of the passes.
-use Rattle.std.proofs.Common.{◌≡◌, ℕ, suc, ◌+◌, ◌<◌, ◌≤◌, List, [], ◌∷◌, ◌++◌, All, map, get_or, length, Some, None, sym, ap, ◌∙◌, subst, arith}
+use Rattle.std.proofs.Common.{◌≡◌, ℕ, suc, ◌<◌, ◌≤◌, List, [], ◌∷◌, All, map, get_or, length, take, Some, None, sym, ap, ◌∙◌, subst, arith}
 use Rattle.std.specs.Prelude.{Option}
-use Rattle.std.proofs.lemmas.Grind.{common_steps}
-use Rattle.std.proofs.lemmas.List.{get_or_past, length-map}
+use Rattle.std.proofs.lemmas.List.{get_or_past, get_or-take, length-map, length-take-le}
 use Rattle.std.proofs.lemmas.List.Elements.{All-nil, All-cons, All-weaker}
 use mathlib.Core.Logic.{dite}
 use mathlib.Core.Option.{some}
@@ -23,15 +22,7 @@ use Rattle.forwarding.proofs.ShownPlace.{shown_at}
 use Rattle.forwarding.specs.Words.{WordPassValue}
 use Rattle.forwarding.proofs.PairLemmas.{known_all}
 use Rattle.forwarding.proofs.Keeps.{St, pointer_at, set_count-pointer}
-use Rattle.forwarding.proofs.Gathered.{found, All-front, All-back}
-
--- one more word was read
-pub one_more : (made words : List ℕ) (n w : ℕ) → length made ≡ n → ((k : ℕ) → k < n → get_or made k 0 ≡ get_or words k 0) → get_elem? words n ≡ some w
-    → (k : ℕ) → k < n + 1 → get_or (made ++ w ∷ []) k 0 ≡ get_or words k 0
-one_more made words n w many same at k below = dite (ℕ_discrete k n)
-    (λ here. let last : get_or (made ++ w ∷ []) k 0 ≡ w = grind (arith, common_steps) in
-    last ∙ sym (ap (λ (m : ℕ). get_or words m 0) here ∙ found words n w at))
-    (λ other. let l : k < n = omega arith in let front : get_or (made ++ w ∷ []) k 0 ≡ get_or made k 0 = grind (arith, common_steps) in front ∙ same k l)
+use Rattle.forwarding.proofs.Gathered.{All-front, All-back}
 
 past : (plan : Plan) (s : St) → IsKeptWords plan s → (name : ℕ) → plan.count ≤ name → get_or s.words name 0 ≡ 0
 past plan s r name high = dite (ℕ_discrete name plan.count)
@@ -43,11 +34,11 @@ pub record IsRead (plan : Plan) (words : List ℕ) (places : List (Option Place)
   pub many : length places ≡ plan.count
   pub shown : (name : ℕ) → name < plan.count → (o : Option Place) → pointer_word o ≡ get_or words name 0 → get_or places name None ≡ o
 
--- the words that were read show the places
-pub is_read : (plan : Plan) (words made : List ℕ) → length made ≡ plan.count → ((name : ℕ) → name < plan.count → get_or made name 0 ≡ get_or words name 0) → IsRead plan words (map shown_place made)
-is_read plan words made many same = record {
-  many = length-map made shown_place ∙ many;
-  shown = λ name below o shows. shown_at made name o (omega (arith, many, below)) (shows ∙ sym (same name below));
+-- the first words show the places
+pub is_first : (plan : Plan) (words : List ℕ) → plan.count ≤ length words → IsRead plan words (map shown_place (take plan.count words))
+is_first plan words wide = record {
+  many = length-map (take plan.count words) shown_place ∙ length-take-le plan.count words wide;
+  shown = λ name below o shows. shown_at (take plan.count words) name o (omega (arith, below, length-take-le plan.count words wide)) (shows ∙ sym (get_or-take plan.count words name 0 below));
 }
 
 reads : (plan : Plan) (s : St) (places : List (Option Place)) → IsKeptWords plan s → IsRead plan s.words places → (name : ℕ) (o : Option Place) → pointer_word o ≡ get_or s.words name 0 → get_or places name None ≡ o

@@ -476,7 +476,7 @@ impl<A: Allocator + Clone> HeapObjects<A> {
             numbering.large(),
             &places,
         );
-        self.space.keep_spare(places.into_words());
+        self.space.keep_spare(places.into_memory());
         Ok(())
     }
 }

@@ -1,7 +1,9 @@
 //! What settling answers.
-ghost use Rattle.std.specs.Prelude.{◌≡◌, ◌<◌, Some, None, length, map, slice_index_or, slice_set};
+ghost use Rattle.std.specs.Prelude.{◌≡◌, ◌<◌, Some, None, length, map, slice_get, slice_index_or, slice_set};
 ghost use Rattle.forwarding.specs.Forwards.{shown_place};
+ghost use Rattle.forwarding.specs.ShownWords.{words_in};
 
+use crate::word_cells::ClosedWords;
 use layout::Place;
 use std::alloc::{Allocator, Global};
 use std::marker::Model;
@@ -18,10 +20,18 @@ pub enum SettleError {
     NoMemory,
 }
 
+/// Where the words of the names lie.
+#[derive(Drop)]
+pub(crate) enum Words<A: Allocator> {
+    Listed(Vec<u64, A>),
+    /// Where threads shared them, with memory for cells to come.
+    Closed(ClosedWords<A>, Vec<u64, A>),
+}
+
 /// The place of each name that was won: its word by number, and 0 for each other name.
 #[derive(Drop)]
 pub struct Forwards<A: Allocator = Global> {
-    words: Vec<u64, A>,
+    words: Words<A>,
 }
 
 impl<A: Allocator> Model for Forwards<A> {
@@ -31,7 +41,43 @@ impl<A: Allocator> Model for Forwards<A> {
 
     ghost Value = { List (Option At) };
 
-    ghost view = { λ f. map shown_place f.words.items };
+    ghost use Rattle.forwarding.specs.ShownWords.{words_in};
+
+    ghost view = { λ f. map shown_place (words_in f.words) };
+}
+
+impl<A: Allocator> Words<A> {
+    /// How many words there are.
+    fn len(&self) -> usize
+        ensures { result ≡ length (words_in self.now) }
+    {
+        match self {
+            Words::Listed(words) => words.len(),
+            Words::Closed(words, _) => words.len(),
+        }
+    }
+
+    /// The word of the name.
+    fn get(&self, name: u32) -> u64
+        requires { name < length (words_in self.now) }
+        ensures { slice_get (words_in self.now) name ≡ Some result }
+    {
+        match self {
+            Words::Listed(words) => words[name as usize],
+            Words::Closed(words, _) => words.word(name),
+        }
+    }
+
+    /// Changes the word of the name.
+    fn set(&mut self, name: u32, word: u64)
+        requires { name < length (words_in self.old) }
+        ensures { words_in self.new ≡ slice_set (words_in self.old) name word }
+    {
+        match self {
+            Words::Listed(words) => words[name as usize] = word,
+            Words::Closed(words, _) => words.set(name, word),
+        }
+    }
 }
 
 impl<A: Allocator> Forwards<A> {
@@ -39,7 +85,18 @@ impl<A: Allocator> Forwards<A> {
     pub fn of(words: Vec<u64, A>) -> Self
         ensures { result ≡ map shown_place words.items }
     {
-        Forwards { words }
+        Forwards {
+            words: Words::Listed(words),
+        }
+    }
+
+    /// The same of the words that threads shared. It keeps memory for cells to come.
+    pub(crate) fn of_closed(words: ClosedWords<A>, memory: Vec<u64, A>) -> Self
+        ensures { result ≡ map shown_place words }
+    {
+        Forwards {
+            words: Words::Closed(words, memory),
+        }
     }
 
     /// How many names there are.
@@ -53,8 +110,10 @@ impl<A: Allocator> Forwards<A> {
     pub fn place(&self, name: u32) -> Option<Place>
         ensures { result ≡ slice_index_or self.now name None }
     {
-        let word = *self.words.get(name as usize)?;
-        Place::from_word(word).flatten()
+        if name as usize >= self.words.len() {
+            return None;
+        }
+        Place::from_word(self.words.get(name)).flatten()
     }
 
     /// Gives the name this place.
@@ -62,13 +121,14 @@ impl<A: Allocator> Forwards<A> {
         requires { name < length self.old }
         ensures { self.new ≡ slice_set self.old name (Some place) }
     {
-        self.words[name as usize] = place.to_word();
+        self.words.set(name, place.to_word());
     }
 
-    /// The memory of the words, for cells or answers to come.
-    pub fn into_words(self) -> Vec<u64, A>
-        ensures { map shown_place result.items ≡ self }
-    {
-        self.words
+    /// The memory of words, for cells or answers to come.
+    pub fn into_memory(self) -> Vec<u64, A> {
+        match self.words {
+            Words::Listed(words) => words,
+            Words::Closed(_, memory) => memory,
+        }
     }
 }

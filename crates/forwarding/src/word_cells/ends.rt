@@ -1,14 +1,14 @@
 //! Word cells as they are made, and what they answer in the end.
-ghost use Rattle.std.specs.Prelude.{◌≡◌, ◌≢◌, ◌<◌, ◌≤◌, ℕ, [], All, None, Err, length, slice_index, slice_index_or, IfOk, OnOk, vec_len, vec_capacity};
-ghost use Rattle.std.specs.Slots.{slots_items, slots_len, IsFull};
+ghost use Rattle.std.specs.Prelude.{◌≡◌, ◌≢◌, ◌<◌, ◌≤◌, [], All, None, Err, length, slice_index_or, IfOk, IsOk, OnOk, vec_len, vec_capacity};
 ghost use Rattle.forwarding.specs.Known.{known_in};
 ghost use Rattle.forwarding.specs.Settled.{all_pairs, Agree, IsSettled};
 ghost use Rattle.forwarding.specs.Words.{fresh_pass};
 
 use crate::cells::{Forwards, SettleError};
+use crate::word_cells::closed::ClosedWords;
 use crate::word_cells::plays::{Deal, Gather, Mind, Plan, Rule};
 use crate::word_cells::word_cells::{WordCells, WordPass};
-use atomic_table::{Closed, Seat, Table};
+use atomic_table::{Seat, Table};
 use std::alloc::{AllocError, Allocator};
 
 /// One pass after another, until the seat has one part.
@@ -57,25 +57,6 @@ fn gather<A: Allocator, B: Allocator>(
     seat
 }
 
-/// The first words, in the list that has room for them.
-fn read_words<A: Allocator, B: Allocator>(
-    closed: &Closed<(), A>,
-    count: u32,
-    mut words: Vec<u64, B>,
-) -> Vec<u64, B>
-    requires words { (count ≤ slots_len closed.now.words) ×
-        (length (slots_items closed.now.words) ≡ slots_len closed.now.words) × IsFull closed.now.words }
-    requires room { (words.items ≡ []) × (count ≤ vec_capacity words) }
-    ensures many { length result.items ≡ count }
-    ensures shown { (name : ℕ) → name < count →
-        slice_index result.items name ≡ slice_index (slots_items closed.now.words) name }
-{
-    for name in 0..count {
-        words.push_reserved(closed.word(name as usize));
-    }
-    words
-}
-
 impl<A: Allocator> WordCells<A> {
     /// Cells with no place, and as many passes as are asked for. An error says that memory ran out.
     pub fn new(
@@ -94,8 +75,8 @@ impl<A: Allocator> WordCells<A> {
         WordCells::within(alloc, memory, count, passes)
     }
 
-    /// The same, which answer in the end in the memory that is given, whatever stands in it, and ask for more where it is
-    /// too little.
+    /// The same, laid out from the memory that is given, whatever stands in it; `Forwards::into_memory` gives it back. They
+    /// ask for more where it is too little.
     pub fn within(
         alloc: A,
         mut memory: Vec<u64, A>,
@@ -123,12 +104,13 @@ impl<A: Allocator> WordCells<A> {
         Ok((cells, made))
     }
 
-    /// The place of each name that was won. It takes the passes that `new` gave with these cells, each once: each name
-    /// that has a place was won once, by one pass, and what the passes know is what they won. `NoMemory` says that
-    /// memory ran out; `Unsettled` never comes.
+    /// The place of each name that was won, as the words show it where threads shared them. It takes the passes that `new`
+    /// gave with these cells, each once: each name that has a place was won once, by one pass, and what the passes know is
+    /// what they won. No error comes.
     pub fn settle<B: Allocator>(self, passes: Vec<WordPass, B>) -> Result<Forwards<A>, SettleError>
         requires passes { All (λ p. p.id ≡ self.id) passes.items }
         requires all { length passes.items ≡ self.passes }
+        ensures ok { IsOk result }
         ensures settled { IfOk result
             (λ f. IsSettled (λ p. known_in p.known) (λ p. p.won) passes.items self.count
             (λ name. slice_index_or f name None)) }
@@ -139,16 +121,10 @@ impl<A: Allocator> WordCells<A> {
         let WordCells {
             table,
             plan,
-            memory: mut words,
+            memory,
         } = self;
-        words.clear();
-        if words.reserve(plan.count as usize).is_err() {
-            return Err(SettleError::NoMemory);
-        }
         let seat = gather(&table, passes);
-        let closed = table.close_with(seat);
-        let words = read_words(&closed, plan.count, words);
-        closed.free();
-        Ok(Forwards::of(words))
+        let words = ClosedWords::of(table.close_with(seat), plan.count);
+        Ok(Forwards::of_closed(words, memory))
     }
 }

@@ -18,7 +18,7 @@ use std::marker::Model;
 pub struct WordCells<A: Allocator = Global> {
     pub(crate) table: Table<(), Mind, Plan, Rule, A>,
     pub(crate) plan: Plan,
-    /// Where they answer in the end.
+    /// What the table was laid out from, kept for cells to come.
     pub(crate) memory: Vec<u64, A>,
 }
 

@@ -1,11 +1,12 @@
 use Rattle.std.proofs.Common.{◌∙◌, ◌<◌, sym, length, arith}
+use Rattle.std.proofs.lemmas.Option.{get_or_from_slice_get}
+use Rattle.forwarding.specs.ShownWords.{words_in}
 use Rattle.forwarding.proofs.ShownPlace.{shown_read, flat_shown}
 use Rattle.forwarding.proofs.cells.forwards.Forwards.place.Goals as goal
 
 pub returns : goal.returns
 returns g c =
-    let found = c.in_ok-word.ensures.lookup in
-    let below : c.args.name < length c.deref.result.now = omega (arith, found.0) in
+    let below : c.args.name < length (words_in c.self.inside.words) = omega (arith, c.if-name-len.false, c.len.ensures) in
     c.flatten.ensures
-    ∙ (sym (flat_shown c.in_ok-word.field-0.now c.from_word.result c.from_word.ensures.reads c.from_word.ensures.none)
-    ∙ rw (← c.self.view_is, ← c.deref.ensures.value) (shown_read c.deref.result.now c.args.name c.in_ok-word.field-0.now _ below found.1))
+    ∙ (sym (flat_shown c.get.result c.from_word.result c.from_word.ensures.reads c.from_word.ensures.none)
+    ∙ rw (← c.self.view_is) (shown_read (words_in c.self.inside.words) c.args.name c.get.result c.get.result below (sym (get_or_from_slice_get (words_in c.self.inside.words) c.args.name c.get.result c.get.result c.get.ensures))))
