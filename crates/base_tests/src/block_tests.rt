@@ -1,5 +1,5 @@
 //! Objects in a block, and grants of blocks.
-use block_pool::{Block, GrantError, Pool};
+use block_pool::{Block, GrantError, Pool, order_by_memory};
 use layout::ObjectRef;
 use std::alloc::{AllocError, Global};
 use std::process::Abort;
@@ -136,6 +136,34 @@ fn an_object_is_taken_back(rt: HostRuntime) -> Result<(), Fail> {
     let mut block = Block::new(rt.alloc(), 16)?;
     assert_taken_back(&rt, &mut block);
     assert_sent_and_cleared(&rt, &mut block);
+    Ok(())
+}
+
+/// A block that got two numbers, one after the other.
+fn renumbered(alloc: Global, first: u8, second: u8) -> Result<Block, AllocError> {
+    let mut block = Block::new(alloc, 16)?;
+    block.label(first as u32, 0, 0);
+    block.label(second as u32, 1, 0);
+    Ok(block)
+}
+
+/// Whether blocks have these numbers, in this order.
+fn are_numbered(blocks: &[Block], numbers: &[u32]) -> bool {
+    blocks
+        .iter()
+        .map(|block| block.number())
+        .eq(numbers.iter().copied())
+}
+
+#[test]
+fn blocks_stand_in_the_order_of_their_first_numbers(rt: HostRuntime) -> Result<(), Fail> {
+    let mut blocks = vec![in rt.alloc();
+        renumbered(rt.alloc(), 3, 0)?,
+        renumbered(rt.alloc(), 0, 9)?,
+        renumbered(rt.alloc(), 2, 1)?,
+    ]?;
+    order_by_memory(&mut blocks);
+    assert!(rt; are_numbered(&blocks, &[9, 1, 0]));
     Ok(())
 }
 

@@ -20,11 +20,19 @@ pub struct Block<A: Allocator = Global> {
     // Between the two that a copy changes, so that these stay in registers of their own.
     front: usize,
     pub(crate) used: usize,
+    pub(crate) label: Label,
+    sent: Option<(u32, u64)>,
+    origins: Tag,
+}
+
+/// What a block is called, where it belongs, and its rank in memory.
+#[derive(Clone, Copy)]
+pub(crate) struct Label {
     number: u32,
     generation: u8,
     step: u8,
-    sent: Option<(u32, u64)>,
-    origins: Tag,
+    // One more than the number that the block had first, and 0 until it has one.
+    pub(crate) rank: u16,
 }
 
 /// The origins that a block has, and the next one.
@@ -45,9 +53,9 @@ impl<A: Allocator> Model for Block<A> {
     ghost use Rattle.block_pool.specs.Words.{raw_at, IsSoundBlock};
 
     ghost view = { λ b. record {
-      number = b.number;
-      generation = b.generation;
-      step = b.step;
+      number = b.label.number;
+      generation = b.label.generation;
+      step = b.label.step;
       words = length b.words.items;
       objects = map (raw_at b.words.items) (take b.len b.offsets.items);
       front = b.front;
@@ -55,7 +63,17 @@ impl<A: Allocator> Model for Block<A> {
       origins = b.origins.numbers;
     } };
 
-    ghost invariant = { λ b. IsSoundBlock b.words.items b.offsets.items b.len b.used b.front b.number };
+    ghost invariant = { λ b. IsSoundBlock b.words.items b.offsets.items b.len b.used b.front b.label.number };
+}
+
+/// The rank of a block that gets a number: that of its first number.
+fn rank_after(rank: u16, number: u32) -> u16
+    requires { number < 65535 }
+{
+    if rank == 0 {
+        return number as u16 + 1;
+    }
+    rank
 }
 
 impl<A: Allocator + Clone> Block<A> {
@@ -74,9 +92,12 @@ impl<A: Allocator + Clone> Block<A> {
             len: 0,
             front: 0,
             used: 0,
-            number: 0,
-            generation: 0,
-            step: 0,
+            label: Label {
+                number: 0,
+                generation: 0,
+                step: 0,
+                rank: 0,
+            },
             sent: None,
             origins: Tag::empty(),
         })
@@ -89,9 +110,13 @@ impl<A: Allocator> Block<A> {
         requires { number < 65535 }
         ensures { self.new ≡ record self.old { number = number; generation = generation; step = step } }
     {
-        self.number = number;
-        self.generation = generation;
-        self.step = step;
+        let rank = rank_after(self.label.rank, number);
+        self.label = Label {
+            number,
+            generation,
+            step,
+            rank,
+        };
     }
 
     /// Takes out all objects.
@@ -284,19 +309,19 @@ impl<A: Allocator> Block<A> {
         ensures value { result ≡ self.now.number }
         ensures in_range { result < 65535 }
     {
-        self.number
+        self.label.number
     }
 
     pub fn generation(&self) -> u8
         ensures { result ≡ self.now.generation }
     {
-        self.generation
+        self.label.generation
     }
 
     pub fn step(&self) -> u8
         ensures { result ≡ self.now.step }
     {
-        self.step
+        self.label.step
     }
 
     /// How many words the block has.

@@ -5,10 +5,12 @@ mod begun;
 mod block;
 mod claims;
 mod number_sets;
+mod ordering;
 mod pool;
 mod words;
 
 pub use block::Block;
 pub use claims::{ClaimSeat, Claims, RankedSet};
 pub use number_sets::{Flags, NumberSet};
+pub use ordering::order_by_memory;
 pub use pool::{GrantError, Pool};

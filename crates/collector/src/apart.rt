@@ -331,9 +331,10 @@ fn alone<A: Allocator + Clone>(
     }
 }
 
-/// Collects the generations 0 to `generation` with `n` workers, 1 to 16, each on a thread of its own; one alone collects as
-/// `collect_one` does, and no thread is started. The gate is called before each step that workers share. Where some worker
-/// leaves early, though none was refused anything, what all brought is dropped, and one worker collects alone.
+/// Collects the generations 0 to `generation` with `n` workers, 1 to 16, the first on the caller's thread and each other on
+/// one of its own; one alone collects as `collect_one` does, and no thread is started. The gate is called before each step
+/// that workers share. Where some worker leaves early, though none was refused anything, what all brought is dropped, and
+/// one worker collects alone.
 pub fn collect<
     R: Threads + Wait + Sync + AllocGlobal,
     A: Allocator + Clone + Send + Sync,

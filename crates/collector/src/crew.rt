@@ -32,7 +32,7 @@ impl<'a, R, G> Model for Crew<'a, R, G> {
 }
 
 impl<'a, R: Threads + Wait + Sync + AllocGlobal, G: Gate + Sync> Crew<'a, R, G> {
-    /// So many workers, 1 to 16, each on a thread of its own.
+    /// So many workers, 1 to 16, the first on the caller's thread and each other on one of its own.
     pub fn new(rt: &'a R, workers: u32, kind: CellKind, gate: &'a G) -> Self
         requires some { 0 < workers }
         requires most { workers ≤ 16 }

@@ -1,5 +1,5 @@
 -- What joined threads promised is what each worker brings.
-use Rattle.std.proofs.Common.{◌≡◌, ℕ, ◌<◌, List, length, Option, subst, arith}
+use Rattle.std.proofs.Common.{◌≡◌, ℕ, ◌+◌, ◌<◌, List, length, Option, subst, arith}
 use Rattle.std.specs.Prelude.{slice_index_or}
 use Rattle.std.proofs.lemmas.Option.{slice_get_within, slice_get_read, get_or_from_slice_get}
 use Rattle.layout.specs.declared.place.Place.{Place}
@@ -11,7 +11,7 @@ use Rattle.scavenge.specs.Handed.{CopiesKeyValue}
 use Rattle.workers_in_threads.specs.declared.kit.Brought.{Brought}
 use Rattle.workers_in_threads.specs.declared.threads.OfShared.{OfShared}
 use Rattle.forwarding.specs.Passes.{AtEach}
-use Rattle.workers_in_threads.specs.Kits.{IsBroughtBack, AreBroughtBack}
+use Rattle.workers_in_threads.specs.Kits.{IsBroughtBack}
 
 -- what a handle's promise is of
 abbrev pub Row : Type 0 → Type 0 → Type 0
@@ -24,12 +24,13 @@ module _ {P A C H : Type 0} (is_pass : C → ℕ → P → Type 0) (known : P �
   abbrev pub Kept : Row C A → Brought P A → Type 0
   Kept p r = IsBroughtBack (is_pass p.2) known won p.0 p.1 p.3 p.4 p.5 p.6 r
 
-  pub are_kept : (heap : HeapValue) (c : CollectionValue) (cells : C) (claims : ClaimsValue) (queues : Source A CopiesKeyValue) (n : ℕ) (hs : List H) (rs : List (Brought P A))
-      → n ≡ length hs → n ≡ length rs → AtEach (λ i h. ◌≡◌ {A = Row C A} (row_of h) (heap, c, cells, claims, queues, n, i)) hs
-      → ((i : ℕ) (r : Brought P A) → i < n → (h : H) × (h ≡ slice_index_or hs i h) × Kept (row_of h) (slice_index_or rs i r))
-      → AreBroughtBack (is_pass cells) known won heap c claims queues n rs
-  are_kept heap c cells claims queues n hs rs handles results made each i r e =
-      let within : i < n = let z = slice_get_within rs i r e in omega (arith, z, results) in
+  -- of the workers but the first
+  pub are_kept : (heap : HeapValue) (c : CollectionValue) (cells : C) (claims : ClaimsValue) (queues : Source A CopiesKeyValue) (n m : ℕ) (hs : List H) (rs : List (Brought P A))
+      → m ≡ length hs → m ≡ length rs → AtEach (λ i h. ◌≡◌ {A = Row C A} (row_of h) (heap, c, cells, claims, queues, n, 1 + i)) hs
+      → ((i : ℕ) (r : Brought P A) → i < m → (h : H) × (h ≡ slice_index_or hs i h) × Kept (row_of h) (slice_index_or rs i r))
+      → AtEach (λ i. IsBroughtBack (is_pass cells) known won heap c claims queues n (1 + i)) rs
+  are_kept heap c cells claims queues n m hs rs handles results made each i r e =
+      let within : i < m = let z = slice_get_within rs i r e in omega (arith, z, results) in
       let k = each i r within in
-      let at = made i k.0 (slice_get_read hs n i k.0 handles within k.1) in
-      subst (λ x. Kept (heap, c, cells, claims, queues, n, i) x) (get_or_from_slice_get rs i r r e) (subst (λ p. Kept p (slice_index_or rs i r)) at k.2)
+      let at = made i k.0 (slice_get_read hs m i k.0 handles within k.1) in
+      subst (λ x. Kept (heap, c, cells, claims, queues, n, 1 + i) x) (get_or_from_slice_get rs i r r e) (subst (λ p. Kept p (slice_index_or rs i r)) at k.2)

@@ -20,8 +20,9 @@ use std::thread::Threads;
 /// The most workers that share a collection.
 pub const MOST_WORKERS: u32 = 16;
 
-/// A worker on a thread of its own for each pass of the cells, among which the spare memory is divided; all are joined. An error
-/// says that a thread could not be started, or that memory ran out before they were or once all had come back.
+/// A worker for each pass of the cells, the first on the caller's thread and each other on one of its own, among whom the spare
+/// memory is divided; all are joined. An error says that a thread could not be started, or that memory ran out before they
+/// were or once all had come back.
 pub fn scavenged_apart<
     R: Threads + Wait + Sync + AllocGlobal,
     S: SharedCells + Sync,

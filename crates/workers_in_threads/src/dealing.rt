@@ -51,6 +51,7 @@ pub fn dealt<S: SharedCells, A: Allocator + Clone>(
         (S.is_pass cells.now) S.won heap.now collection.now claims.now queues.now idle.now verdict.now workers
         ks.items) }
 {
+    spare.order_by_memory();
     let share = (spare.block_count() / (workers as usize).max(1)).saturating_add(1);
     let mut kits = Vec::with_capacity(alloc.clone()?, workers as usize)?;
     let mut places = seats.into_iter();

@@ -1,6 +1,7 @@
-//! Each worker in a thread of its own.
-ghost use Rattle.std.specs.Prelude.{◌≡◌, ◌<◌, IfOk, length};
+//! The first worker on the thread of the caller, each other in a thread of its own.
+ghost use Rattle.std.specs.Prelude.{◌≡◌, ◌+◌, ◌<◌, IfOk, length};
 ghost use denote.Param.Send.{IsSend, IsSync, Frees};
+ghost use Rattle.forwarding.specs.Passes.{AtEach};
 ghost use Rattle.workers_in_threads.specs.Kits.{AreKits, AreBroughtBack, IsBroughtBack, IsKit};
 
 use crate::kit::{Brought, Kit};
@@ -14,7 +15,7 @@ use scavenge::Copies;
 use std::alloc::{AllocError, Allocator};
 use std::sync::Wait;
 use std::thread;
-use std::thread::{Promise, Threads};
+use std::thread::{Promise, PromisedHandle, Threads};
 
 /// What a thread brings back is what worker `.6` of `.5` brings.
 #[derive(Drop)]
@@ -32,7 +33,18 @@ impl<'a, S: SharedCells, A: Allocator> Promise<Brought<S::Pass, A>> for OfShared
     ghost kept_by = { λ p r. IsBroughtBack (S.is_pass p.2.now) S.known S.won p.0.now p.1.now p.3.now p.4.now p.5 p.6 r };
 }
 
-/// Each kit in a thread of its own. An error says that a thread could not be started, or that memory ran out.
+/// Waits for threads whose results are not wanted.
+fn dismissed<R: Threads, T: Drop, P: Promise<T>, A: Allocator>(
+    rt: &R,
+    handles: Vec<PromisedHandle<T, P>, A>,
+) {
+    for handle in handles {
+        let _ = handle.join(rt);
+    }
+}
+
+/// The work of the first kit on the caller's thread, and that of each other in a thread of its own. An error says that a
+/// thread could not be started, or that memory ran out.
 pub fn work_in_threads<
     R: Threads + Wait + Sync,
     S: SharedCells + Sync,
@@ -49,7 +61,7 @@ pub fn work_in_threads<
     idle: &Idle<A>,
     verdict: &Verdict,
     gate: &G,
-    kits: Vec<Kit<S::Pass, A>, A>,
+    mut kits: Vec<Kit<S::Pass, A>, A>,
     mut voice: VerdictSeat,
 ) -> Result<Vec<Brought<S::Pass, A>, A>, AllocError>
     requires kits { AreKits (S.limit cells.now)
@@ -61,24 +73,32 @@ pub fn work_in_threads<
         AreBroughtBack (S.is_pass cells.now) S.known S.won heap.now collection.now claims.now queues.now
         (length kits.items) v.items) }
 {
+    if kits.is_empty() {
+        return Ok(Vec::new(alloc));
+    }
+    let workers = kits.len() as u32;
+    let own = kits.remove(0);
     thread::scope(
         thread::scope_env(),
         rt,
         |scope| -> Result<Vec<Brought<S::Pass, A>, A>, AllocError>
-            requires kits { AreKits (S.limit cells.now)
+            requires kits { AtEach (λ i. IsKit (S.limit cells.now)
                 (S.is_pass cells.now) S.won heap.now collection.now claims.now queues.now idle.now verdict.now
-                (length kits.items) kits.items }
-            requires few { length kits.items < 65536 }
+                workers (1 + i)) kits.items }
+            requires many { workers ≡ 1 + length kits.items }
+            requires own { IsKit (S.limit cells.now)
+                (S.is_pass cells.now) S.won heap.now collection.now claims.now queues.now idle.now verdict.now
+                workers own.seat.index own }
+            requires first { own.seat.index ≡ 0 }
             requires voice { voice.name ≡ verdict.now.name }
             requires bounds { IsSync R.row × IsSync S.row × IsSync G.row × IsSync A.row × IsSend A.row ×
                 IsSend S.Pass.row × Frees A.Allocator A.dealloc_token }
-            ensures { IfOk result (λ v. (length v.items ≡ length kits.items) ×
+            ensures { IfOk result (λ v. (length v.items ≡ workers) ×
                 AreBroughtBack (S.is_pass cells.entry.now) S.known S.won heap.entry.now collection.entry.now
-                claims.entry.now queues.entry.now (length kits.items) v.items) }
+                claims.entry.now queues.entry.now workers v.items) }
         {
-            let count = kits.len();
-            let workers = count as u32;
-            let mut handles = Vec::with_capacity(alloc.clone()?, count)?;
+            let others = kits.len();
+            let mut handles = Vec::with_capacity(alloc.clone()?, others)?;
             for kit in kits {
                 let number = kit.seat.index();
                 let started = scope.spawn_with(
@@ -102,21 +122,21 @@ pub fn work_in_threads<
                 };
                 handles.push_reserved(handle);
             }
-            if handles.len() < count {
+            if handles.len() < others {
                 verdict.raise(&mut voice, Cause::Refused);
+                dismissed(rt, handles);
+                return Err(AllocError);
             }
-            let started = handles.len();
+            let first = work_apart(
+                rt, heap, collection, cells, claims, queues, idle, verdict, gate, workers, own,
+            );
             match thread::join_promised(rt, handles) {
-                Ok(brought) => {
-                    if started < count {
-                        return Err(AllocError);
-                    }
+                Ok(mut brought) => {
+                    brought.insert(0, first)?;
                     Ok(brought)
                 }
                 Err(failed) => {
-                    for handle in failed.value {
-                        let _ = handle.join(rt);
-                    }
+                    dismissed(rt, failed.value);
                     Err(AllocError)
                 }
             }

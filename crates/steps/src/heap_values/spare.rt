@@ -3,7 +3,7 @@ ghost use Rattle.std.specs.Prelude.{◌≡◌, ◌≤◌, ◌↔◌, [], IsTrue,
 ghost use Rattle.block_pool.specs.BlockValue.{empty_block};
 
 use crate::heap_values::report::{Won, WorkerReport};
-use block_pool::Block;
+use block_pool::{Block, order_by_memory};
 use layout::Place;
 use std::alloc::{AllocError, Allocator, Global};
 use std::collections::VecDeque;
@@ -68,6 +68,13 @@ impl<A: Allocator> Spare<A> {
     pub fn keep_blocks(&mut self, most: usize) {
         if let Some(blocks) = &mut self.blocks {
             blocks.truncate(most);
+        }
+    }
+
+    /// Puts the blocks in the order in which memory was asked for them, so that each part of them is a stretch of memory.
+    pub fn order_by_memory(&mut self) {
+        if let Some(blocks) = &mut self.blocks {
+            order_by_memory(blocks.make_contiguous());
         }
     }
 

@@ -41,7 +41,7 @@ invariant_of-self g c =
     let fits : c.self.inside.used + c.args.size ≤ length c.self.inside.words.items = omega (arith, c.requires.2, c.requires.3, f.size, o.used_is, words) in
     let stays : length c.copy_object.new.words ≡ length c.self.inside.words.items = c.copy_object.auto.words ∙ ap length c.deref_mut.ensures.value in
     let written : IsWritten c.self.inside.words.items c.copy_object.new.words c.self.inside.used c.self.inside.len object = rw (c.deref_mut.ensures.value, c.deref.ensures.value) at c.copy_object.ensures in
-    let pushed : IsPushed c.self.inside.words.items c.copy_object.new.words c.self.inside.offsets.items c.self.inside.len c.self.inside.used (c.self.inside.used + c.args.size) c.self.inside.front c.self.inside.number object =
+    let pushed : IsPushed c.self.inside.words.items c.copy_object.new.words c.self.inside.offsets.items c.self.inside.len c.self.inside.used (c.self.inside.used + c.args.size) c.self.inside.front c.self.inside.label.number object =
     is_pushed _ _ _ _ _ _ _ _ _ c.self.invariant written stays (omega arith) fits
     in
     let items : (with_items c.self.inside.words c.copy_object.new.words).items ≡ c.copy_object.new.words = with_items_is c.self.inside.words c.copy_object.new.words (omega (arith, c.copy_object.auto.words, c.deref_mut.ensures.len)) in
@@ -68,7 +68,7 @@ returns-clause-pushed g c = λ raw r.
     let fits : c.self.inside.used + c.args.size ≤ length c.self.inside.words.items = omega (arith, c.requires.2, c.requires.3, first.size, o.used_is, words) in
     let stays : length c.copy_object.new.words ≡ length c.self.inside.words.items = c.copy_object.auto.words ∙ ap length c.deref_mut.ensures.value in
     let written : IsWritten c.self.inside.words.items c.copy_object.new.words c.self.inside.used c.self.inside.len object = rw (c.deref_mut.ensures.value, c.deref.ensures.value) at c.copy_object.ensures in
-    let pushed : IsPushed c.self.inside.words.items c.copy_object.new.words c.self.inside.offsets.items c.self.inside.len c.self.inside.used (c.self.inside.used + c.args.size) c.self.inside.front c.self.inside.number object =
+    let pushed : IsPushed c.self.inside.words.items c.copy_object.new.words c.self.inside.offsets.items c.self.inside.len c.self.inside.used (c.self.inside.used + c.args.size) c.self.inside.front c.self.inside.label.number object =
     is_pushed _ _ _ _ _ _ _ _ _ c.self.invariant written stays (omega arith) fits
     in
     let items : (with_items c.self.inside.words c.copy_object.new.words).items ≡ c.copy_object.new.words = with_items_is c.self.inside.words c.copy_object.new.words (omega (arith, c.copy_object.auto.words, c.deref_mut.ensures.len)) in

@@ -34,7 +34,7 @@ invariant_of-self g c =
     let size : raw_size (new_object c.args.pointers c.args.plain_words) ≡ (1 + c.args.pointers + c.args.plain_words) = raw_size-new_object c.args.pointers c.args.plain_words in
     let stays : length c.write_new.new.words ≡ length c.self.inside.words.items = c.write_new.auto.words ∙ ap length c.deref_mut.ensures.value in
     let written : IsWritten c.self.inside.words.items c.write_new.new.words c.self.inside.used c.self.inside.len (new_object c.args.pointers c.args.plain_words) = rw c.deref_mut.ensures.value at c.write_new.ensures in
-    let pushed : IsPushed c.self.inside.words.items c.write_new.new.words c.self.inside.offsets.items c.self.inside.len c.self.inside.used (c.self.inside.used + (1 + c.args.pointers + c.args.plain_words)) c.self.inside.front c.self.inside.number (new_object c.args.pointers c.args.plain_words) =
+    let pushed : IsPushed c.self.inside.words.items c.write_new.new.words c.self.inside.offsets.items c.self.inside.len c.self.inside.used (c.self.inside.used + (1 + c.args.pointers + c.args.plain_words)) c.self.inside.front c.self.inside.label.number (new_object c.args.pointers c.args.plain_words) =
     is_pushed _ _ _ _ _ _ _ _ _ c.self.invariant written stays (omega arith) (omega (arith, c.requires, f.used_is, words))
     in
     let items : (with_items c.self.inside.words c.write_new.new.words).items ≡ c.write_new.new.words = with_items_is c.self.inside.words c.write_new.new.words (omega (arith, c.write_new.auto.words, c.deref_mut.ensures.len)) in
@@ -59,7 +59,7 @@ returns-clause-pushed g c =
     let size : raw_size (new_object c.args.pointers c.args.plain_words) ≡ (1 + c.args.pointers + c.args.plain_words) = raw_size-new_object c.args.pointers c.args.plain_words in
     let stays : length c.write_new.new.words ≡ length c.self.inside.words.items = c.write_new.auto.words ∙ ap length c.deref_mut.ensures.value in
     let written : IsWritten c.self.inside.words.items c.write_new.new.words c.self.inside.used c.self.inside.len (new_object c.args.pointers c.args.plain_words) = rw c.deref_mut.ensures.value at c.write_new.ensures in
-    let pushed : IsPushed c.self.inside.words.items c.write_new.new.words c.self.inside.offsets.items c.self.inside.len c.self.inside.used (c.self.inside.used + (1 + c.args.pointers + c.args.plain_words)) c.self.inside.front c.self.inside.number (new_object c.args.pointers c.args.plain_words) =
+    let pushed : IsPushed c.self.inside.words.items c.write_new.new.words c.self.inside.offsets.items c.self.inside.len c.self.inside.used (c.self.inside.used + (1 + c.args.pointers + c.args.plain_words)) c.self.inside.front c.self.inside.label.number (new_object c.args.pointers c.args.plain_words) =
     is_pushed _ _ _ _ _ _ _ _ _ c.self.invariant written stays (omega arith) (omega (arith, c.requires, f.used_is, words))
     in
     let items : (with_items c.self.inside.words c.write_new.new.words).items ≡ c.write_new.new.words = with_items_is c.self.inside.words c.write_new.new.words (omega (arith, c.write_new.auto.words, c.deref_mut.ensures.len)) in

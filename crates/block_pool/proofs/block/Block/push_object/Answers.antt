@@ -34,7 +34,7 @@ invariant_of-self g c =
     let size : raw_size (raw_of c.args.object) ≡ c.size-size.result = sym c.size-size.ensures in
     let stays : length c.write_object.new.words ≡ length c.self.inside.words.items = c.write_object.auto.words ∙ ap length c.deref_mut.ensures.value in
     let written : IsWritten c.self.inside.words.items c.write_object.new.words c.self.inside.used c.self.inside.len (raw_of c.args.object) = rw c.deref_mut.ensures.value at c.write_object.ensures in
-    let pushed : IsPushed c.self.inside.words.items c.write_object.new.words c.self.inside.offsets.items c.self.inside.len c.self.inside.used (c.self.inside.used + c.size-size.result) c.self.inside.front c.self.inside.number (raw_of c.args.object) =
+    let pushed : IsPushed c.self.inside.words.items c.write_object.new.words c.self.inside.offsets.items c.self.inside.len c.self.inside.used (c.self.inside.used + c.size-size.result) c.self.inside.front c.self.inside.label.number (raw_of c.args.object) =
     is_pushed _ _ _ _ _ _ _ _ _ c.self.invariant written stays (omega arith) (omega (arith, c.requires, f.used_is, words))
     in
     let items : (with_items c.self.inside.words c.write_object.new.words).items ≡ c.write_object.new.words = with_items_is c.self.inside.words c.write_object.new.words (omega (arith, c.write_object.auto.words, c.deref_mut.ensures.len)) in
@@ -59,7 +59,7 @@ returns-clause-pushed g c =
     let size : raw_size (raw_of c.args.object) ≡ c.size-size.result = sym c.size-size.ensures in
     let stays : length c.write_object.new.words ≡ length c.self.inside.words.items = c.write_object.auto.words ∙ ap length c.deref_mut.ensures.value in
     let written : IsWritten c.self.inside.words.items c.write_object.new.words c.self.inside.used c.self.inside.len (raw_of c.args.object) = rw c.deref_mut.ensures.value at c.write_object.ensures in
-    let pushed : IsPushed c.self.inside.words.items c.write_object.new.words c.self.inside.offsets.items c.self.inside.len c.self.inside.used (c.self.inside.used + c.size-size.result) c.self.inside.front c.self.inside.number (raw_of c.args.object) =
+    let pushed : IsPushed c.self.inside.words.items c.write_object.new.words c.self.inside.offsets.items c.self.inside.len c.self.inside.used (c.self.inside.used + c.size-size.result) c.self.inside.front c.self.inside.label.number (raw_of c.args.object) =
     is_pushed _ _ _ _ _ _ _ _ _ c.self.invariant written stays (omega arith) (omega (arith, c.requires, f.used_is, words))
     in
     let items : (with_items c.self.inside.words c.write_object.new.words).items ≡ c.write_object.new.words = with_items_is c.self.inside.words c.write_object.new.words (omega (arith, c.write_object.auto.words, c.deref_mut.ensures.len)) in

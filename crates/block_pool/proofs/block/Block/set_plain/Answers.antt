@@ -11,7 +11,7 @@ index-requires-2 g c =
 
 pub overflow_add-offset-3 : goal.overflow_add-offset-3
 overflow_add-offset-3 g c =
-    let done : IsRewritten c.self.inside.words.items c.self.inside.offsets.items c.self.inside.len c.self.inside.used c.self.inside.front c.self.inside.number c.args.self.now.objects c.args.k (c.index.result.now + 1 + pointers_of c.index-2.result.now + c.args.i) c.args.word (λ raw. with_plain_word raw c.args.i c.args.word) =
+    let done : IsRewritten c.self.inside.words.items c.self.inside.offsets.items c.self.inside.len c.self.inside.used c.self.inside.front c.self.inside.label.number c.args.self.now.objects c.args.k (c.index.result.now + 1 + pointers_of c.index-2.result.now + c.args.i) c.args.word (λ raw. with_plain_word raw c.args.i c.args.word) =
     plain_rewritten _ _ _ _ _ _ _ c.args.k c.index.result.now c.index-2.result.now c.args.i c.args.word c.self.invariant (ap (λ v. v.objects) c.self.view_is) c.requires.object c.index.ensures c.index-2.ensures c.requires.field
     in omega (arith, done.few)
 
@@ -26,7 +26,7 @@ invariant_of-self g c =
 pub returns : goal.returns
 returns g c =
     λ raw is.
-    let done : IsRewritten c.self.inside.words.items c.self.inside.offsets.items c.self.inside.len c.self.inside.used c.self.inside.front c.self.inside.number c.args.self.now.objects c.args.k (c.index.result.now + 1 + pointers_of c.index-2.result.now + c.args.i) c.args.word (λ raw. with_plain_word raw c.args.i c.args.word) =
+    let done : IsRewritten c.self.inside.words.items c.self.inside.offsets.items c.self.inside.len c.self.inside.used c.self.inside.front c.self.inside.label.number c.args.self.now.objects c.args.k (c.index.result.now + 1 + pointers_of c.index-2.result.now + c.args.i) c.args.word (λ raw. with_plain_word raw c.args.i c.args.word) =
     plain_rewritten _ _ _ _ _ _ _ c.args.k c.index.result.now c.index-2.result.now c.args.i c.args.word c.self.invariant (ap (λ v. v.objects) c.self.view_is) c.requires.object c.index.ensures c.index-2.ensures c.requires.field
     in
     rw (length-set c.self.inside.words.items (c.index.result.now + 1 + pointers_of c.index-2.result.now + c.args.i) c.args.word, done.objects_are raw is, ← c.self.view_is) refl

@@ -26,7 +26,7 @@ invariant_of-self g c = (plain_from _ _ _ _ _ _ _ c.requires.object.0 c.args.off
 pub returns : goal.returns
 returns g c =
     λ k raw within begins is.
-    let done : IsRewritten c.self.inside.words.items c.self.inside.offsets.items c.self.inside.len c.self.inside.used c.self.inside.front c.self.inside.number c.args.self.now.objects k (c.args.offset + 1 + pointers_of c.index.result.now + c.args.i) c.args.word (λ raw. with_plain_word raw c.args.i c.args.word) =
+    let done : IsRewritten c.self.inside.words.items c.self.inside.offsets.items c.self.inside.len c.self.inside.used c.self.inside.front c.self.inside.label.number c.args.self.now.objects k (c.args.offset + 1 + pointers_of c.index.result.now + c.args.i) c.args.word (λ raw. with_plain_word raw c.args.i c.args.word) =
     plain_from _ _ _ _ _ _ _ k c.args.offset c.self.invariant (ap (λ v. v.objects) c.self.view_is) within begins c.index.result.now c.args.i c.args.word c.index.ensures (λ raw is. c.requires.field k raw within begins is)
     in
     rw (length-set c.self.inside.words.items (c.args.offset + 1 + pointers_of c.index.result.now + c.args.i) c.args.word, done.objects_are raw is, ← c.self.view_is) refl

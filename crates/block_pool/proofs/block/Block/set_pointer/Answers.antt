@@ -6,7 +6,7 @@ use Rattle.block_pool.proofs.block.Block.set_pointer.Goals as goal
 
 pub overflow_add-offset-2 : goal.overflow_add-offset-2
 overflow_add-offset-2 g c =
-    let done : IsRewritten c.self.inside.words.items c.self.inside.offsets.items c.self.inside.len c.self.inside.used c.self.inside.front c.self.inside.number c.args.self.now.objects c.args.k (c.index.result.now + 1 + c.args.i) c.args.word (λ raw. with_pointer_word raw c.args.i c.args.word) =
+    let done : IsRewritten c.self.inside.words.items c.self.inside.offsets.items c.self.inside.len c.self.inside.used c.self.inside.front c.self.inside.label.number c.args.self.now.objects c.args.k (c.index.result.now + 1 + c.args.i) c.args.word (λ raw. with_pointer_word raw c.args.i c.args.word) =
     pointer_rewritten _ _ _ _ _ _ _ c.args.k c.index.result.now c.args.i c.args.word c.self.invariant (ap (λ v. v.objects) c.self.view_is) c.requires.object c.index.ensures c.requires.field
     in omega (arith, done.few)
 
@@ -21,7 +21,7 @@ invariant_of-self g c =
 pub returns : goal.returns
 returns g c =
     λ raw is.
-    let done : IsRewritten c.self.inside.words.items c.self.inside.offsets.items c.self.inside.len c.self.inside.used c.self.inside.front c.self.inside.number c.args.self.now.objects c.args.k (c.index.result.now + 1 + c.args.i) c.args.word (λ raw. with_pointer_word raw c.args.i c.args.word) =
+    let done : IsRewritten c.self.inside.words.items c.self.inside.offsets.items c.self.inside.len c.self.inside.used c.self.inside.front c.self.inside.label.number c.args.self.now.objects c.args.k (c.index.result.now + 1 + c.args.i) c.args.word (λ raw. with_pointer_word raw c.args.i c.args.word) =
     pointer_rewritten _ _ _ _ _ _ _ c.args.k c.index.result.now c.args.i c.args.word c.self.invariant (ap (λ v. v.objects) c.self.view_is) c.requires.object c.index.ensures c.requires.field
     in
     rw (length-set c.self.inside.words.items (c.index.result.now + 1 + c.args.i) c.args.word, done.objects_are raw is, ← c.self.view_is) refl
