@@ -1,4 +1,4 @@
-use Rattle.std.proofs.Common.{◌≡◌, [], length, refl, sym, ap, subst, ◌∙◌, arith}
+use Rattle.std.proofs.Common.{◌≡◌, [], length, sym, ap, subst, ◌∙◌, arith}
 use Rattle.std.proofs.lemmas.List.{length-map}
 use Rattle.std.proofs.lemmas.List.FromFn.{length-range_with_len}
 use Rattle.std.specs.List.{range_with_len}
@@ -17,10 +17,10 @@ loop-pass-init g c =
     let seats : length c.args.seats.items ≡ c.args.workers = ap length c.requires.seats ∙ length-map (range_with_len 0 c.args.workers) (new_seat c.args.queues.now) ∙ length-range_with_len 0 c.args.workers in record {
       many = omega (arith, c.in_ok-kits.ensures.len, c.into_iter-pass-iterator.ensures.into_iter_gives.1, c.requires.many, c.args.passes.ok.0);
       room = c.in_ok-kits.ensures.capacity;
-      passes = at_begin (λ m i p. g.S.SharedCells.is_pass c.args.cells.now i p × (g.S.SharedCells.won p ≡ [])) 0 0 _ _ _ c.into_iter-pass-iterator.ensures.into_iter_gives.0 refl c.in_ok-kits.ensures.len
+      passes = at_begin (λ i p. g.S.SharedCells.is_pass c.args.cells.now i p × (g.S.SharedCells.won p ≡ [])) _ _ _ c.into_iter-pass-iterator.ensures.into_iter_gives.0 c.in_ok-kits.ensures.len
           (both (g.S.SharedCells.is_pass c.args.cells.now) (λ p. g.S.SharedCells.won p ≡ []) c.args.passes.items c.requires.passes.0 c.requires.passes.1);
       seats_many = omega (arith, c.in_ok-kits.ensures.len, c.into_iter-places.ensures.len, seats, c.args.seats.ok.0);
-      seats = at_begin (λ m i s. s ≡ new_seat c.args.queues.now i) 0 0 _ _ _ c.into_iter-places.ensures.rest refl c.in_ok-kits.ensures.len
+      seats = at_begin (λ i s. s ≡ new_seat c.args.queues.now i) _ _ _ c.into_iter-places.ensures.rest c.in_ok-kits.ensures.len
           (numbered_at (new_seat c.args.queues.now) c.args.workers c.args.seats.items c.requires.seats);
       draws = c.requires.draws.0;
       draws_many = omega (arith, c.into_iter-pass-iterator.ensures.into_iter_gives.1, c.requires.many, c.args.passes.ok.0, c.requires.draws.1);
