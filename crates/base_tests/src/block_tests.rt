@@ -162,7 +162,7 @@ fn blocks_stand_in_the_order_of_their_first_numbers(rt: HostRuntime) -> Result<(
         renumbered(rt.alloc(), 0, 9)?,
         renumbered(rt.alloc(), 2, 1)?,
     ]?;
-    order_by_memory(&mut blocks);
+    order_by_memory(rt.alloc(), &mut blocks)?;
     assert!(rt; are_numbered(&blocks, &[9, 1, 0]));
     Ok(())
 }

@@ -1,5 +1,5 @@
 //! A block of words that holds objects one after the other.
-ghost use Rattle.std.specs.Prelude.{◌≡◌, ℕ, ◌+◌, ◌<◌, ◌≤◌, ◌↔◌, [], ◌∷◌, ◌++◌, length, Some, None, IsTrue, IsSomeAnd, IfOk, IfSome, slice_get, slice_index, slice_set};
+ghost use Rattle.std.specs.Prelude.{◌≡◌, ◌≢◌, ℕ, ◌+◌, ◌<◌, ◌≤◌, ◌↔◌, [], ◌∷◌, ◌++◌, length, Some, None, IsTrue, IsSomeAnd, IfOk, IfSome, slice_get, slice_index, slice_set};
 ghost use Rattle.layout.specs.Object.{Raw, raw_size};
 ghost use Rattle.layout.specs.Header.{size_of};
 ghost use Rattle.layout.specs.ObjectRef.{raw_of};
@@ -69,6 +69,8 @@ impl<A: Allocator> Model for Block<A> {
 /// The rank of a block that gets a number: that of its first number.
 fn rank_after(rank: u16, number: u32) -> u16
     requires { number < 65535 }
+    ensures first { rank ≡ 0 → result ≡ number + 1 }
+    ensures kept { rank ≢ 0 → result ≡ rank }
 {
     if rank == 0 {
         return number as u16 + 1;

@@ -1,13 +1,18 @@
 //! Blocks in the order in which they were first given numbers.
-ghost use Rattle.std.specs.Prelude.{IsPermutation};
+ghost use Rattle.std.specs.Prelude.{◌≡◌, IsPermutation, OnErr};
 
 use crate::block::Block;
-use std::alloc::Allocator;
+use std::alloc::{AllocError, Allocator};
 
 /// Orders blocks by the number that each was given first, those without one before all others. Memory is mostly asked for
-/// in that order, so neighbours are mostly neighbours in memory too, however often they got new numbers since.
-pub fn order_by_memory<A: Allocator>(blocks: &mut [Block<A>])
-    ensures { IsPermutation blocks.old blocks.new }
+/// in that order, so neighbours are mostly neighbours in memory too, however often they got new numbers since. An error says
+/// that memory ran out; they are in their order of before then.
+pub fn order_by_memory<A: Allocator, B: Allocator>(
+    alloc: A,
+    blocks: &mut [Block<B>],
+) -> Result<(), AllocError>
+    ensures permutation { IsPermutation blocks.old blocks.new }
+    ensures err { OnErr result (blocks.new ≡ blocks.old) }
 {
-    blocks.sort_unstable_by_key(|block| block.label.rank);
+    blocks.sort_by_cached_key(alloc, |block| block.label.rank)
 }

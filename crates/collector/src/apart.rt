@@ -204,8 +204,13 @@ fn with_words<
     ensures never_unsettled { result ≢ Err ThreadsError.Unsettled }
     ensures others { (result ≢ Err ThreadsError.NoGeneration) × (result ≢ Err ThreadsError.BadConfig) }
 {
-    let words = spare.words(alloc.clone()?);
-    let (cells, passes) = WordCells::within(alloc.clone()?, words, collection.cells(), n as usize)?;
+    let memory = spare.cells(alloc.clone()?);
+    let (cells, passes) = WordCells::within(
+        alloc.clone()?,
+        memory,
+        collection.cells(),
+        n as usize,
+    )?;
     let Apart {
         ending,
         passes,

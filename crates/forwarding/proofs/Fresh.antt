@@ -1,5 +1,5 @@
 -- New passes are numbered, and have won nothing.
-use Rattle.std.proofs.Common.{◌≡◌, ℕ, zero, suc, ◌+◌, ◌-◌, List, [], ◌++◌, All, map, take, replicate, get_or, length, Some, Result, Ok, Err, refl, sym, ap, subst, ◌∙◌, arith}
+use Rattle.std.proofs.Common.{◌≡◌, ℕ, zero, suc, ◌+◌, List, [], All, map, replicate, get_or, length, Some, Result, Ok, Err, refl, sym, ap, subst, ◌∙◌, arith}
 use Rattle.std.specs.Prelude.{slice_get, IfOk}
 use Rattle.std.specs.List.{range_with_len}
 use Rattle.std.proofs.lemmas.List.Elements.{All-nil, All-cons}
@@ -36,14 +36,6 @@ unused cells n ps e = subst (All (λ (p : NotedValue). p.won ≡ [])) (sym e) (n
 pub on_ok : {X E : Type 0} (P Q : X → Type 0) → ((x : X) → P x → Q x) → (r : Result X E) → IfOk r P → IfOk r Q
 on_ok P Q f (Ok x) h = f x h
 on_ok P Q f (Err e) h = tt
-
-take-nil : (n : ℕ) (ys : List ℕ) → take n [] ++ ys ≡ ys
-take-nil zero ys = refl
-take-nil (suc n) ys = refl
-
--- the list is emptied, and filled with zeros again
-pub filled : (n len : ℕ) (emptied new : List ℕ) → emptied ≡ [] → len ≡ 0 → new ≡ take n emptied ++ replicate (n - len) 0 → new ≡ replicate n 0
-filled n len emptied new e l is = is ∙ (ap (λ (xs : List ℕ). take n xs ++ replicate (n - len) 0) e ∙ (take-nil n (replicate (n - len) 0) ∙ ap (λ (k : ℕ). replicate k 0) (omega (arith, l))))
 
 -- words of zeros hold no place
 pub opens_zero : (plan : Plan) (words : List ℕ) → words ≡ replicate (plan.count + 1) 0 → IsKeptWords plan (opening words [] (mind plan.passes [] []))

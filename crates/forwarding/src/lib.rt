@@ -2,6 +2,7 @@
 #![tactic(auto)]
 
 mod box_cells;
+mod cell_memory;
 mod cells;
 mod looking;
 mod plain_cells;
@@ -10,6 +11,7 @@ mod shared_cells;
 mod word_cells;
 
 pub use box_cells::{BoxCells, BoxPass};
+pub use cell_memory::CellMemory;
 pub use cells::{Cells, Forwards, Outcome, SettleError};
 pub use looking::look_then_race;
 pub use plain_cells::{PlainCells, PlainPass};

@@ -78,13 +78,14 @@ fn assert_spare_of_new(
     assert_spare(rt, alloc, refusing, &mut heap)
 }
 
-/// Collects, hands in the report, and tells how many requests for memory that took.
+/// Collects the generations up to that one, hands in the report, and tells how many requests for memory that took.
 fn asked_with_lists<'a>(
     refusing: &'a Refusing<Global>,
     heap: &mut Counting<'a>,
+    generation: u64,
 ) -> Result<u64, Fail> {
     let before = refusing.asked();
-    let report = collect_one(refusing, heap, 0)?;
+    let report = collect_one(refusing, heap, generation)?;
     heap.reuse(report);
     Ok(refusing.asked().saturating_sub(before))
 }
@@ -101,8 +102,8 @@ fn assert_lists_used(
     let _first = spare_after(refusing, &mut heap)?;
     let _second = spare_after(refusing, &mut heap)?;
     let (anew, _) = spare_after(refusing, &mut heap)?;
-    let _handed_in = asked_with_lists(refusing, &mut heap)?;
-    let again = asked_with_lists(refusing, &mut heap)?;
+    let _handed_in = asked_with_lists(refusing, &mut heap, 0)?;
+    let again = asked_with_lists(refusing, &mut heap, 0)?;
     assert!(rt; again.saturating_add(4) <= anew, "{again} {anew}");
     Ok(())
 }
@@ -197,6 +198,10 @@ fn assert_shrinks<'a>(
     let (spare, held) = kept_after(refusing, heap)?;
     assert_eq!(rt; spare, 72);
     assert!(rt; held < 1_000);
+    // The lists had room for 2,000,000, so they were given back, and each grows twice or more. Those of 1,000 are kept.
+    let anew = asked_with_lists(refusing, heap, 1)?;
+    let again = asked_with_lists(refusing, heap, 1)?;
+    assert!(rt; again.saturating_add(4) <= anew);
     Ok(())
 }
 

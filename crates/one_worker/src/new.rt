@@ -29,8 +29,8 @@ impl<A: Allocator + Clone> SerialCollection<A> {
     {
         let free = collection.free().share()?;
         let (claims, draws) = Claims::alone(alloc.clone()?, free)?;
-        let words = spare.words(alloc.clone()?);
-        let (cells, pass) = PlainCells::alone_within(words, collection.cells())?;
+        let memory = spare.cells(alloc.clone()?);
+        let (cells, pass) = PlainCells::alone_within(memory, collection.cells())?;
         let key = CopiesKey::new(heap, collection.generation());
         let (queues, seat) = PlainPending::alone(alloc.clone()?, &key)?;
         let mut workspace = Workspace::new(alloc, heap, collection, 0, 1)?;

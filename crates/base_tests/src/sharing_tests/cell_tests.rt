@@ -3,7 +3,7 @@ ghost use Rattle.std.specs.Prelude.{◌≡◌, ◌<◌, length, IfOk};
 ghost use Rattle.forwarding.specs.Plain.{IsFit, Differ};
 
 use forwarding::{
-    Cells, Forwards, Outcome, PlainCells, PlainPass, SettleError, WordCells, WordPass,
+    CellMemory, Cells, Forwards, Outcome, PlainCells, PlainPass, SettleError, WordCells, WordPass,
     look_then_race, settled,
 };
 use layout::Place;
@@ -34,7 +34,10 @@ pub(crate) fn first_place_stays<C: Cells>(
 }
 
 /// Word cells for two names in that memory, and two passes.
-fn two_word_passes(alloc: Global, memory: Vec<u64>) -> Result<(WordCells, WordPass, WordPass), Fail>
+fn two_word_passes(
+    alloc: Global,
+    memory: CellMemory,
+) -> Result<(WordCells, WordPass, WordPass), Fail>
     ensures cells { IfOk result (λ r. (r.0.count ≡ 2) × (r.0.passes ≡ 2)) }
     ensures passes { IfOk result (λ r. (r.1.id ≡ r.0.id) × (r.2.id ≡ r.0.id)) }
 {
@@ -109,7 +112,7 @@ fn settle_plain(
 #[test]
 fn two_passes_race_for_a_word(rt: HostRuntime) -> Result<(), Fail> {
     let (a, b) = (Place::small(0, 4), Place::large(65534));
-    let (cells, mut zero, mut one) = two_word_passes(rt.alloc(), Vec::new(rt.alloc()))?;
+    let (cells, mut zero, mut one) = two_word_passes(rt.alloc(), CellMemory::none(rt.alloc()))?;
     let stays = first_word_stays(&cells, &mut zero, &mut one, a, b)?;
     assert!(rt; stays);
     let forwards = settle_words(rt.alloc(), cells, zero, one)?;
@@ -161,13 +164,13 @@ fn a_pass_alone_settles_what_it_won(rt: HostRuntime) -> Result<(), Fail> {
 fn cells_in_used_memory_hold_nothing(rt: HostRuntime) -> Result<(), Fail> {
     let (a, b) = (Place::small(1, 2), Place::large(0));
     let used = vec![in rt.alloc(); b.to_word(); 3]?;
-    let (mut cells, mut pass) = PlainCells::alone_within(used, 2)?;
+    let (mut cells, mut pass) = PlainCells::alone_within(CellMemory::of(used), 2)?;
     let stays = first_of_two_stays(&mut cells, &mut pass, a, b)?;
     assert!(rt; stays);
     assert!(rt; is_second(&cells.settle_alone(pass), a));
 
     let used = vec![in rt.alloc(); b.to_word(); 3]?;
-    let (cells, mut zero, mut one) = two_word_passes(rt.alloc(), used)?;
+    let (cells, mut zero, mut one) = two_word_passes(rt.alloc(), CellMemory::of(used))?;
     let stays = first_word_stays(&cells, &mut zero, &mut one, a, b)?;
     assert!(rt; stays);
     let forwards = settle_words(rt.alloc(), cells, zero, one)?;

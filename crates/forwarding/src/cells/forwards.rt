@@ -3,6 +3,7 @@ ghost use Rattle.std.specs.Prelude.{◌≡◌, ◌<◌, Some, None, length, map,
 ghost use Rattle.forwarding.specs.Forwards.{shown_place};
 ghost use Rattle.forwarding.specs.ShownWords.{words_in};
 
+use crate::cell_memory::CellMemory;
 use crate::word_cells::ClosedWords;
 use layout::Place;
 use std::alloc::{Allocator, Global};
@@ -25,7 +26,7 @@ pub enum SettleError {
 pub(crate) enum Words<A: Allocator> {
     Listed(Vec<u64, A>),
     /// Where threads shared them, with memory for cells to come.
-    Closed(ClosedWords<A>, Vec<u64, A>),
+    Closed(ClosedWords<A>, CellMemory<A>),
 }
 
 /// The place of each name that was won: its word by number, and 0 for each other name.
@@ -91,7 +92,7 @@ impl<A: Allocator> Forwards<A> {
     }
 
     /// The same of the words that threads shared. It keeps memory for cells to come.
-    pub(crate) fn of_closed(words: ClosedWords<A>, memory: Vec<u64, A>) -> Self
+    pub(crate) fn of_closed(words: ClosedWords<A>, memory: CellMemory<A>) -> Self
         ensures { result ≡ map shown_place words }
     {
         Forwards {
@@ -124,10 +125,10 @@ impl<A: Allocator> Forwards<A> {
         self.words.set(name, place.to_word());
     }
 
-    /// The memory of words, for cells or answers to come.
-    pub fn into_memory(self) -> Vec<u64, A> {
+    /// The memory of words, for cells to come.
+    pub fn into_memory(self) -> CellMemory<A> {
         match self.words {
-            Words::Listed(words) => words,
+            Words::Listed(words) => CellMemory::of(words),
             Words::Closed(_, memory) => memory,
         }
     }

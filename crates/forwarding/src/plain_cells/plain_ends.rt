@@ -4,6 +4,7 @@ ghost use Rattle.std.specs.List.{AllPairs};
 ghost use Rattle.forwarding.specs.Settled.{Agree, IsSettled};
 ghost use Rattle.forwarding.specs.Plain.{IsFit, Differ, known_by, place_of, empty_cells, fresh_pass, fresh_passes};
 
+use crate::cell_memory::CellMemory;
 use crate::cells::{Forwards, SettleError};
 use crate::plain_cells::minds::Empty;
 use crate::plain_cells::plain_cells::PlainCells;
@@ -13,14 +14,17 @@ use std::alloc::{AllocError, Allocator};
 
 impl<A: Allocator> PlainCells<A> {
     /// Cells that hold nothing, of so many passes, in that memory as far as it goes.
-    fn empty(mut words: Vec<u64, A>, count: u32, passes: usize) -> Result<PlainCells<A>, AllocError>
+    fn empty(
+        mut memory: CellMemory<A>,
+        count: u32,
+        passes: usize,
+    ) -> Result<PlainCells<A>, AllocError>
         ensures { IfOk result (λ cells. cells ≡ empty_cells count passes) }
     {
-        words.clear();
-        words.resize(count as usize, 0)?;
+        memory.clear_to(count as usize)?;
         let held = Remembered::of::<u32, Empty>(&count);
         Ok(PlainCells {
-            words,
+            words: memory.into_words(),
             passes,
             held,
         })
@@ -47,7 +51,7 @@ impl<A: Allocator> PlainCells<A> {
         for number in 0..passes {
             made.push_reserved(PlainPass::new(count, passes, number));
         }
-        let cells = PlainCells::empty(Vec::new(alloc), count, passes)?;
+        let cells = PlainCells::empty(CellMemory::none(alloc), count, passes)?;
         Ok((cells, made))
     }
 
@@ -59,12 +63,12 @@ impl<A: Allocator> PlainCells<A> {
         // What follows for the pass.
         ensures fits { IfOk result (λ r. IsFit r.0 r.1) }
     {
-        PlainCells::alone_within(Vec::new(alloc), count)
+        PlainCells::alone_within(CellMemory::none(alloc), count)
     }
 
     /// The same in the memory that is given, whatever stands in it, with more where it is too little.
     pub fn alone_within(
-        memory: Vec<u64, A>,
+        memory: CellMemory<A>,
         count: u32,
     ) -> Result<(PlainCells<A>, PlainPass), AllocError>
         ensures cells { IfOk result (λ r. r.0 ≡ empty_cells count 1) }

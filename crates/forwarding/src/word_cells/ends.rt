@@ -4,6 +4,7 @@ ghost use Rattle.forwarding.specs.Known.{known_in};
 ghost use Rattle.forwarding.specs.Settled.{all_pairs, Agree, IsSettled};
 ghost use Rattle.forwarding.specs.Words.{fresh_pass};
 
+use crate::cell_memory::CellMemory;
 use crate::cells::{Forwards, SettleError};
 use crate::word_cells::closed::ClosedWords;
 use crate::word_cells::plays::{Deal, Gather, Mind, Plan, Rule};
@@ -71,15 +72,15 @@ impl<A: Allocator> WordCells<A> {
         ensures many { IfOk result (λ r. length r.1.items ≡ passes) }
         ensures fresh { IfOk result (λ r. All (λ p. p ≡ fresh_pass r.0.id) r.1.items) }
     {
-        let memory = Vec::new(alloc.clone()?);
+        let memory = CellMemory::none(alloc.clone()?);
         WordCells::within(alloc, memory, count, passes)
     }
 
-    /// The same, laid out from the memory that is given, whatever stands in it; `Forwards::into_memory` gives it back. They
-    /// ask for more where it is too little.
+    /// The same, laid out from the memory that is given, whatever stands in it; `Forwards::into_memory` gives it back, with
+    /// nothing to be cleared. They ask for more where it is too little.
     pub fn within(
         alloc: A,
-        mut memory: Vec<u64, A>,
+        mut memory: CellMemory<A>,
         count: u32,
         passes: usize,
     ) -> Result<(WordCells<A>, Vec<WordPass, A>), AllocError>
@@ -92,9 +93,8 @@ impl<A: Allocator> WordCells<A> {
     {
         let plan = Plan { count, passes };
         let made = Vec::with_capacity(alloc.clone()?, passes)?;
-        memory.clear();
-        memory.resize(count as usize + 1, 0)?;
-        let (table, seat) = Table::of_words(alloc, memory.as_slice(), &plan)?;
+        memory.clear_to(count as usize + 1)?;
+        let (table, seat) = Table::of_words(alloc, memory.words(), &plan)?;
         let made = deal(&table, seat, made, passes);
         let cells = WordCells {
             table,

@@ -5,6 +5,7 @@ ghost use Rattle.layout.specs.Place.{place_word, pointer_word};
 ghost use Rattle.forwarding.specs.Known.{known_in};
 ghost use Rattle.forwarding.specs.Learned.{Learns, RaceEnds, place_after};
 
+use crate::cell_memory::CellMemory;
 use crate::cells::Outcome;
 use crate::word_cells::plays::{Look, Mind, Plan, Race, Rule};
 use atomic_table::{Seat, Table};
@@ -19,7 +20,7 @@ pub struct WordCells<A: Allocator = Global> {
     pub(crate) table: Table<(), Mind, Plan, Rule, A>,
     pub(crate) plan: Plan,
     /// What the table was laid out from, kept for cells to come.
-    pub(crate) memory: Vec<u64, A>,
+    pub(crate) memory: CellMemory<A>,
 }
 
 impl<A: Allocator> Model for WordCells<A> {

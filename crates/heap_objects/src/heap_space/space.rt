@@ -24,6 +24,7 @@ ghost use Rattle.heap_objects.specs.HeapSpaceCollecting.{AreBases, IsNumbered, C
 
 use crate::heap_space::nurseries::{nurseries_of, nursery_table, reset_all};
 use block_pool::{Block, GrantError, Pool, RankedSet};
+use forwarding::CellMemory;
 use large_objects::LargeTable;
 use layout::{LargeNumber, ObjectRef, Place, SmallPlace, word_of};
 use nursery::{
@@ -438,15 +439,15 @@ impl<A: Allocator + Clone> Space<A> {
         self.spare.keep_lists(lists);
     }
 
-    /// Keeps memory for the next collection: of its spare blocks at most as many as are in use, and that of these words if it is
+    /// Keeps memory for the next collection: of its spare blocks at most as many as are in use, and that of these cells if it is
     /// no more than the memory of the blocks in use.
-    pub fn keep_spare(&mut self, words: Vec<u64, A>)
+    pub fn keep_spare(&mut self, cells: CellMemory<A>)
         ensures { self.new ≡ self.old }
     {
         let used = self.config.blocks() - self.pool.free_count();
         self.spare.keep_blocks(used);
         self.spare
-            .keep_words(words, used * self.config.block_words());
+            .keep_cells(cells, used * self.config.block_words());
     }
 
     /// Puts blocks in the place of all objects of generation at most `generation`. The memory of the blocks that are given up is

@@ -43,11 +43,14 @@ impl<A: Allocator> WorkerReport<A> {
         WorkerReport { won, scanned }
     }
 
-    /// Whether either list has room for no more than twice what it holds and so many entries.
-    pub(crate) fn is_tight(&self, few: usize) -> bool {
-        let most_won = self.won.len().saturating_mul(2).saturating_add(few);
-        let most_scanned = self.scanned.len().saturating_mul(2).saturating_add(few);
-        self.won.capacity() <= most_won && self.scanned.capacity() <= most_scanned
+    /// How many entries both lists hold.
+    pub(crate) fn entries(&self) -> usize {
+        self.won.len().saturating_add(self.scanned.len())
+    }
+
+    /// For how many entries both lists have room.
+    pub(crate) fn room(&self) -> usize {
+        self.won.capacity().saturating_add(self.scanned.capacity())
     }
 
     /// The lists themselves.

@@ -4,21 +4,22 @@ ghost use Rattle.block_pool.specs.BlockValue.{empty_block};
 
 use crate::heap_values::report::{Won, WorkerReport};
 use block_pool::{Block, order_by_memory};
+use forwarding::CellMemory;
 use layout::Place;
 use std::alloc::{AllocError, Allocator, Global};
 use std::collections::VecDeque;
 use std::mem;
 
-/// Lists are kept that have room for no more than twice what they hold and so many entries.
+/// Lists are kept that have room for no more than three times what they hold and so many entries, all together.
 const FEW_ENTRIES: usize = 1024;
 
-/// Blocks without an object, and words and lists without a meaning, of which a collection makes use before it asks for new
+/// Blocks without an object, and cells and lists without a meaning, of which a collection makes use before it asks for new
 /// memory. It is memory alone: no contract sees what it has, and a collection does the same without it.
 #[derive(Drop)]
 pub struct Spare<A: Allocator = Global> {
     // The block that is given out first stands in front.
     blocks: Option<VecDeque<Block<A>, A>>,
-    words: Option<Vec<u64, A>>,
+    cells: Option<CellMemory<A>>,
     // What workers won and scanned, whatever it was.
     lists: Option<Vec<WorkerReport<A>, A>>,
 }
@@ -37,7 +38,7 @@ impl<A: Allocator> Spare<A> {
     pub fn none() -> Self {
         Spare {
             blocks: None,
-            words: None,
+            cells: None,
             lists: None,
         }
     }
@@ -71,23 +72,32 @@ impl<A: Allocator> Spare<A> {
         }
     }
 
-    /// Puts the blocks in the order in which memory was asked for them, so that each part of them is a stretch of memory.
-    pub fn order_by_memory(&mut self) {
-        if let Some(blocks) = &mut self.blocks {
-            order_by_memory(blocks.make_contiguous());
+    /// Puts the blocks in the order of their first numbers, so that parts of them are mostly stretches of memory. An error says
+    /// that memory ran out, and leaves them as they are.
+    pub fn order_by_memory(&mut self, alloc: A) -> Result<(), AllocError> {
+        match &mut self.blocks {
+            Some(blocks) => order_by_memory(alloc, blocks.make_contiguous()),
+            None => Ok(()),
         }
     }
 
-    /// Keeps the memory of these words for later, if it is no more than so many, and else gives it back.
-    pub fn keep_words(&mut self, words: Vec<u64, A>, most: usize) {
-        if words.capacity() <= most {
-            self.words = Some(words);
+    /// Keeps the memory of cells for later, if it is no more than so many words, and else gives it back.
+    pub fn keep_cells(&mut self, cells: CellMemory<A>, most: usize) {
+        if cells.capacity() <= most {
+            self.cells = Some(cells);
         }
     }
 
-    /// Keeps the memory of these lists for later, for as many workers, if each was used for the most part, and else gives it back.
+    /// Keeps the memory of these lists for later, for as many workers, if a good part of it was used, and else gives it back. One
+    /// worker may have done much less than another, and do more the next time: so they count together.
     pub fn keep_lists(&mut self, lists: Vec<WorkerReport<A>, A>) {
-        if lists.iter().all(|report| report.is_tight(FEW_ENTRIES)) {
+        let room = lists
+            .iter()
+            .fold(0usize, |sum, report| sum.saturating_add(report.room()));
+        let held = lists
+            .iter()
+            .fold(0usize, |sum, report| sum.saturating_add(report.entries()));
+        if room <= held.saturating_mul(3).saturating_add(FEW_ENTRIES) {
             self.lists = Some(lists);
         }
     }
@@ -117,11 +127,11 @@ impl<A: Allocator> Spare<A> {
         Some((won, scanned))
     }
 
-    /// Memory for words, with whatever stands in it.
-    pub fn words(&mut self, alloc: A) -> Vec<u64, A> {
-        match self.words.take() {
-            Some(words) => words,
-            None => Vec::new(alloc),
+    /// Memory for cells, with whatever stands in it.
+    pub fn cells(&mut self, alloc: A) -> CellMemory<A> {
+        match self.cells.take() {
+            Some(cells) => cells,
+            None => CellMemory::none(alloc),
         }
     }
 

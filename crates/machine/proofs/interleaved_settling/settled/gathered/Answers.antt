@@ -1,5 +1,6 @@
 use Rattle.std.proofs.Common.{◌≡◌, All, length, map, sym, ap, subst, ◌∙◌, arith}
 use Rattle.std.specs.Prelude.{IsSome}
+use Rattle.std.proofs.lemmas.Result.{IfOk-from_err}
 use Rattle.std.proofs.lemmas.List.{length-map}
 use Rattle.pending_queues.specs.declared.exports.deliveries.Delivery.{Delivery as Outcome}
 use Rattle.steps.specs.SettledValue.{IsSettled}
@@ -77,3 +78,15 @@ returns-clause-reports g c =
 
 pub returns-clause-reached : goal.returns-clause-reached
 returns-clause-reached g c = c.into_parts-cells.ensures.interleaved.reached
+
+pub returns-in_err-deliveries-clause-settled : goal.returns-in_err-deliveries-clause-settled
+returns-in_err-deliveries-clause-settled g c = IfOk-from_err c.from_residual-in_err-deliveries.result _ c.from_residual-in_err-deliveries.ensures.0
+
+pub returns-in_err-deliveries-clause-collection : goal.returns-in_err-deliveries-clause-collection
+returns-in_err-deliveries-clause-collection g c = IfOk-from_err c.from_residual-in_err-deliveries.result _ c.from_residual-in_err-deliveries.ensures.0
+
+pub returns-in_err-deliveries-clause-once : goal.returns-in_err-deliveries-clause-once
+returns-in_err-deliveries-clause-once g c = IfOk-from_err c.from_residual-in_err-deliveries.result _ c.from_residual-in_err-deliveries.ensures.0
+
+pub returns-in_err-deliveries-clause-reports : goal.returns-in_err-deliveries-clause-reports
+returns-in_err-deliveries-clause-reports g c = IfOk-from_err c.from_residual-in_err-deliveries.result _ c.from_residual-in_err-deliveries.ensures.0
