@@ -1,6 +1,7 @@
 -- What holds of each element at its place, as a loop goes on.
-use Rattle.std.proofs.Common.{◌≡◌, ℕ, zero, suc, ◌+◌, ◌<◌, List, [], ◌∷◌, ◌++◌, length, Some, None, refl, sym, ap, subst, ◌∙◌, arith, nat_eq, true, false}
-use Rattle.std.proofs.lemmas.Bool.{eqb-true}
+use Rattle.std.proofs.Common.{◌≡◌, ℕ, zero, suc, ◌+◌, ◌<◌, List, [], ◌∷◌, ◌++◌, length, Some, None, refl, sym, ap, subst, ◌∙◌, arith, nat_eq, false}
+use Rattle.std.proofs.lemmas.Bool.{eqb-false}
+use Rattle.std.proofs.lemmas.Option.{slice_get_read}
 use Rattle.std.specs.Prelude.{remove, slice_get, slice_index_or}
 use Rattle.forwarding.specs.Passes.{AtEach}
 
@@ -10,15 +11,8 @@ some_same x y e = grind (arith, e)
 no_some : {X : Type 0} (x : X) → None ≡ Some x → ⊥
 no_some x e = grind (arith, e)
 
-true_not_false : true ≡ false → ⊥
-true_not_false e = grind (arith, e)
-
-pub none_in : (n : ℕ) → nat_eq n 0 ≡ true → n ≡ 0
-none_in n e = eqb-true n 0 e
-
 pub some_in : (n : ℕ) → nat_eq n 0 ≡ false → 0 < n
-some_in zero e = absurd (true_not_false e)
-some_in (suc n) e = omega arith
+some_in n e = omega (arith, eqb-false n 0 e)
 
 pub at_push : {X : Type 0} (F : ℕ → X → Type 0) (xs : List X) (x : X) → AtEach F xs → F (length xs) x → AtEach F (xs ++ x ∷ [])
 at_push F [] x h f zero y e = subst (F 0) (some_same x y e) f
@@ -39,8 +33,7 @@ at_begin F z all xs are none h i y e = subst (λ k. F k y) (let q : i ≡ z + i 
 
 -- the first of all, and what is left without it
 pub at_head : {X : Type 0} (F : ℕ → X → Type 0) (x : X) (all : List X) → 0 < length all → x ≡ slice_index_or all 0 x → AtEach F all → F 0 x
-at_head F x [] within is h = absurd (let z : ⊥ = omega (arith, within) in z)
-at_head F x (z ∷ zs) within is h = subst (F 0) (sym is) (h 0 z refl)
+at_head F x all within is h = h 0 x (slice_get_read all (length all) 0 x refl within is)
 
 pub at_tail : {X : Type 0} (F : ℕ → X → Type 0) (all xs : List X) → xs ≡ remove all 0 → AtEach F all → AtEach (λ i. F (1 + i)) xs
 at_tail F [] xs are h i y e = absurd (no_some y (sym (ap (λ l. slice_get l i) are) ∙ e))

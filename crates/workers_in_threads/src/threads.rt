@@ -33,7 +33,8 @@ impl<'a, S: SharedCells, A: Allocator> Promise<Brought<S::Pass, A>> for OfShared
     ghost kept_by = { λ p r. IsBroughtBack (S.is_pass p.2.now) S.known S.won p.0.now p.1.now p.3.now p.4.now p.5 p.6 r };
 }
 
-/// Waits for threads whose results are not wanted.
+/// Joins threads whose results are not wanted. A scope waits until each of its threads has returned, but not until what it
+/// returned is dropped: so that memory is given back before the scope ends.
 fn dismissed<R: Threads, T: Drop, P: Promise<T>, A: Allocator>(
     rt: &R,
     handles: Vec<PromisedHandle<T, P>, A>,

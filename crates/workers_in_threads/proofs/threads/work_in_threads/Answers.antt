@@ -1,15 +1,16 @@
 use Rattle.std.proofs.Common.{◌≡◌, ℕ, ◌+◌, ◌<◌, length, vec_len, sym, ap, subst, ◌∙◌, arith}
+use Rattle.std.proofs.lemmas.Bool.{eqb-true}
 use Rattle.std.specs.Prelude.{IfOk}
 use mir.Syntax.{of_param}
 use denote.Exit.{unseen}
 use denote.Param.Send.{Quiet-if}
 use Rattle.workers_in_threads.specs.Kits.{IsKit, AreKits, AreBroughtBack}
-use Rattle.workers_in_threads.proofs.Places.{none_in, some_in, at_head, at_tail, at_none}
+use Rattle.workers_in_threads.proofs.Places.{some_in, at_head, at_tail, at_none}
 use Rattle.workers_in_threads.proofs.threads.work_in_threads.Goals as goal
 
 pub returns-then-is_empty : goal.returns-then-is_empty
 returns-then-is_empty g c =
-    let none : vec_len c.args.kits ≡ 0 = none_in _ (sym c.is_empty.ensures ∙ c.if-is_empty.true) in
+    let none : vec_len c.args.kits ≡ 0 = eqb-true _ 0 (sym c.is_empty.ensures ∙ c.if-is_empty.true) in
     (ap length c.new.ensures.items ∙ sym (sym c.args.kits.ok.0 ∙ none), at_none _ _ c.new.ensures.items)
 
 pub returns : goal.returns
