@@ -83,7 +83,7 @@ pub(crate) fn add_tree<A: Allocator + Clone>(
 }
 
 /// The sizes of a heap of one generation with blocks of 64 words, `spare` of them beside a nursery for so many objects.
-fn sizes_for(objects: u32, spare: u64) -> Sizes {
+pub(crate) fn sizes_for(objects: u32, spare: u64) -> Sizes {
     let nursery = (objects as u64) / 12 + 1;
     Sizes {
         block_words: 64,

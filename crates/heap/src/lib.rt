@@ -16,6 +16,6 @@ pub use heap::{
     AllocateError, FieldError, Heap, LoadError, MakeError, NoRoot, OpenError, StoreError,
 };
 pub use steps::{
-    BadConfig, Census, Collection, Config, Delivery, Report, RootId, Settled, Sizes, Slot, Spare,
-    StepCount, StepId, Won, WorkerReport,
+    BadConfig, Census, Collection, Config, Delivery, PackedPlace, Report, RootId, Settled, Sizes,
+    Slot, Spare, StepCount, StepId, Won, WorkerReport,
 };

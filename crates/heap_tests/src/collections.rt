@@ -1,6 +1,8 @@
 //! Collections of a heap through its own calls, where blocks run out too.
 use crate::heaps::{add_objects, census_of, collected, config_of, heap_of};
-use heap::{AllocateError, Heap, MakeError, NoRoot, OpenError, Report, RootId, StepId};
+use heap::{
+    AllocateError, Heap, MakeError, NoRoot, OpenError, PackedPlace, Report, RootId, StepId,
+};
 use layout::Place;
 use one_worker::{CollectError, collect_one};
 use std::alloc::Global;
@@ -84,7 +86,8 @@ fn has_five_with(report: &Report<Global>, place: Place) -> bool {
     let Some(worker) = report.workers.first() else {
         return false;
     };
-    worker.won().len() == 5 && worker.scanned().len() == 5 && worker.scanned().contains(&place)
+    let scanned = worker.scanned();
+    worker.won().len() == 5 && scanned.len() == 5 && scanned.contains(&PackedPlace::new(place))
 }
 
 /// Whether the object there has one nil pointer and two zero words, and stands in the first step.

@@ -62,7 +62,7 @@ fn mark_at(heap: &Heap<Global>, place: Place) -> Option<u64> {
 /// Asserts that the worker scanned what it won, in that order, and that the marks there rise from 0.
 fn assert_in_order(rt: &impl Abort, heap: &Heap<Global>, worker: &WorkerReport<Global>) {
     for (mark, scanned) in worker.scanned().iter().enumerate() {
-        assert_eq!(rt; mark_at(heap, *scanned), Some(mark as u64));
+        assert_eq!(rt; mark_at(heap, scanned.place()), Some(mark as u64));
         assert!(rt;
             worker
                 .won()

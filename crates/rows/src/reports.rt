@@ -1,5 +1,5 @@
 //! The lines of workers and of blocks that change hands.
-use heap::{Delivery, Report, Won, WorkerReport};
+use heap::{Delivery, PackedPlace, Report, Won, WorkerReport};
 use heap_text::{Cause, Counted, workers_text, write_report};
 use layout::Place;
 use std::alloc::{AllocError, Global};
@@ -7,7 +7,7 @@ use std::test::Fail;
 
 /// The lists of a worker that won and scanned so many objects.
 fn lists_of(alloc: Global, won_count: u32, scanned_count: u32) -> Result<WorkerReport, AllocError> {
-    let place = Place::large(0);
+    let place = PackedPlace::new(Place::large(0));
     let mut won = Vec::new(alloc);
     for number in 0..won_count {
         won.push(Won { number, place })?;

@@ -13,6 +13,7 @@ use Rattle.layout.specs.Place.{place_word, small_word}
 use Rattle.block_pool.specs.BlockValue.{BlockValue, offset_of}
 use Rattle.steps.specs.Words.{target_of_word}
 use Rattle.steps.specs.declared.heap_values.report.Won.{Won}
+use Rattle.steps.specs.Packed.{packed_word}
 use Rattle.steps.specs.ReportValue.{renaming_of}
 use Rattle.steps.specs.ReportView.{won_value}
 use Rattle.workers.specs.Block.{Block, Copy, updated, with_copy}
@@ -162,9 +163,10 @@ numbers_more names ws w below lt e =
     let all : All (λ (e : ℕ × ℕ). e.0 < length names) (map won_value ws ++ won_value w ∷ []) = All-push (λ (e : ℕ × ℕ). e.0 < length names) (map won_value ws) (won_value w) below lt in
     subst (All (λ (e : ℕ × ℕ). e.0 < length names)) (sym (ap (map won_value) e ∙ map-append won_value ws (w ∷ []))) all
 
-pub won_more : (names : List ℕ) (ws ws' : List Won) (w : Won) (name : ℕ) → ws' ≡ ws ++ w ∷ [] → slice_index names w.number ≡ name
-    → renaming_of names (map won_value ws') ≡ renaming_of names (map won_value ws) ++ (name, place_word w.place) ∷ []
-won_more names ws ws' w name e is =
+pub won_more : (names : List ℕ) (ws ws' : List Won) (w : Won) (name place : ℕ) → ws' ≡ ws ++ w ∷ [] → slice_index names w.number ≡ name → packed_word w.place ≡ place
+    → renaming_of names (map won_value ws') ≡ renaming_of names (map won_value ws) ++ (name, place) ∷ []
+won_more names ws ws' w name place e is at =
     ap (renaming_of names) (ap (map won_value) e ∙ map-append won_value ws (w ∷ []))
     ∙ map-append (λ (e : ℕ × ℕ). (slice_index names e.0, e.1)) (map won_value ws) (won_value w ∷ [])
-    ∙ ap (λ n. renaming_of names (map won_value ws) ++ (n, place_word w.place) ∷ []) is
+    ∙ ap (λ n. renaming_of names (map won_value ws) ++ (n, packed_word w.place) ∷ []) is
+    ∙ ap (λ p. renaming_of names (map won_value ws) ++ (name, p) ∷ []) at

@@ -8,6 +8,8 @@ use Rattle.layout.specs.Object.{Raw}
 use Rattle.layout.specs.Place.{place_word, small_word, IsPointer}
 use Rattle.block_pool.specs.BlockValue.{BlockValue, offset_of}
 use Rattle.steps.specs.Words.{target_of_word}
+use Rattle.steps.specs.declared.heap_values.packed.PackedPlace.{PackedPlace}
+use Rattle.steps.specs.Packed.{packed_word}
 use Rattle.workers.specs.Block.{Block, Copy, used_words}
 use Rattle.workers.specs.Worker.{Worker, Proposal, Copied, Claimed, Hand, Nothing, Open, Holding, HoldingLarge, allocation_at}
 use Rattle.workers.specs.WorkerRun.{proposed_name}
@@ -52,6 +54,9 @@ blocks_of shape blocks = map (named shape) blocks
 
 abbrev pub words_of : List Place → List ℕ
 words_of places = map place_word places
+
+abbrev pub packed_words : List PackedPlace → List ℕ
+packed_words places = map packed_word places
 
 -- the object of a block that is only proposed
 abbrev pub unnoted : Option BlockValue → Option Raw

@@ -14,6 +14,7 @@ pub mod CollectionValue
 pub mod SlotView
 pub mod CollectionCode
 pub mod NamesArePlaces
+pub mod Packed
 pub mod ReportValue
 pub mod ReportView
 pub mod Remembered

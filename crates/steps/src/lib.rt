@@ -11,7 +11,7 @@ pub use all_steps::MOST_STEPS;
 pub use config::{BadConfig, Config, Sizes};
 pub use destinations::Destinations;
 pub use heap_values::{
-    Census, Collection, Delivery, LargeCount, Numbering, Report, RootId, Settled, Slot, Spare,
-    StepCount, Won, WorkerReport,
+    Census, Collection, Delivery, LargeCount, Numbering, PackedPlace, Report, RootId, Settled,
+    Slot, Spare, StepCount, Won, WorkerReport,
 };
 pub use step_id::StepId;

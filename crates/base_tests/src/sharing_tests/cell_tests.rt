@@ -178,6 +178,27 @@ fn cells_in_used_memory_hold_nothing(rt: HostRuntime) -> Result<(), Fail> {
     Ok(())
 }
 
+#[test]
+fn memory_that_cells_leave_serves_either_kind(rt: HostRuntime) -> Result<(), Fail> {
+    let (a, b) = (Place::small(1, 2), Place::large(0));
+    let (cells, mut zero, mut one) = two_word_passes(rt.alloc(), CellMemory::none(rt.alloc()))?;
+    let stays = first_word_stays(&cells, &mut zero, &mut one, a, b)?;
+    assert!(rt; stays);
+    let left = settle_words(rt.alloc(), cells, zero, one)?.into_memory();
+
+    let (mut cells, mut pass) = PlainCells::alone_within(left, 2)?;
+    let stays = first_of_two_stays(&mut cells, &mut pass, b, a)?;
+    assert!(rt; stays);
+    let left = cells.settle_alone(pass).into_memory();
+
+    let (cells, mut zero, mut one) = two_word_passes(rt.alloc(), left)?;
+    let stays = first_word_stays(&cells, &mut zero, &mut one, a, b)?;
+    assert!(rt; stays);
+    let forwards = settle_words(rt.alloc(), cells, zero, one)?;
+    assert!(rt; is_second(&forwards, a));
+    Ok(())
+}
+
 /// Whether a second place for name 0 of one, which nobody won, is not taken.
 fn first_answer_stays<C: Cells>(
     cells: &mut C,

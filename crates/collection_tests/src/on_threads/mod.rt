@@ -7,3 +7,5 @@ mod at_size;
 mod drawn;
 #[cfg(test)]
 mod in_a_row;
+#[cfg(test)]
+mod memory;

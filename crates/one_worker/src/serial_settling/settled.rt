@@ -1,6 +1,6 @@
 //! What the worker brings to the commit of its collection.
 ghost use Rattle.std.specs.Prelude.{◌≡◌, ◌<◌, ◌∷◌, [], IfOk, OnOk, length, map};
-ghost use Rattle.layout.specs.Place.{place_word};
+ghost use Rattle.steps.specs.Packed.{packed_word};
 ghost use Rattle.steps.specs.ReportValue.{all_won};
 ghost use Rattle.steps.specs.ReportView.{won_value};
 ghost use Rattle.steps.specs.SettledValue.{IsSettled};
@@ -14,8 +14,7 @@ ghost use Rattle.settling.specs.OwnDeliveries.{deliveries_of_sizes, own_deliveri
 
 use crate::parts::SerialParts;
 use crate::serial::SerialCollection;
-use heap::{Collection, Delivery, Heap, Settled, Won, WorkerReport};
-use layout::Place;
+use heap::{Collection, Delivery, Heap, PackedPlace, Settled, Won, WorkerReport};
 use pending_queues::{Delivery as Outcome, PlainPending, PlainSeat};
 use scavenge::{Copies, Parts};
 use settling::{in_one_list, show_large};
@@ -54,10 +53,10 @@ fn exported<A: Allocator + Clone>(
 fn reported<A: Allocator>(
     alloc: A,
     won: Vec<Won, A>,
-    scanned: Vec<Place, A>,
+    scanned: Vec<PackedPlace, A>,
 ) -> Result<Vec<WorkerReport<A>, A>, AllocError>
     ensures { IfOk result
-        (λ v. v.items ≡ record { won = map won_value won.items; scanned = map place_word scanned.items } ∷ []) }
+        (λ v. v.items ≡ record { won = map won_value won.items; scanned = map packed_word scanned.items } ∷ []) }
 {
     let mut workers = Vec::with_capacity(alloc, 1)?;
     workers.push_reserved(WorkerReport::new(won, scanned));

@@ -12,7 +12,7 @@ ghost use Rattle.scavenge.specs.Told.{RacesAt};
 use crate::sweep::sweep::Sweep;
 use block_pool::Block;
 use forwarding::{Cells, Outcome};
-use heap::Won;
+use heap::{PackedPlace, Won};
 use layout::Place;
 use std::alloc::Allocator;
 
@@ -74,7 +74,10 @@ impl<A: Allocator> Sweep<A> {
             Outcome::Won => {
                 let _ = self.into.push_copy(from, offset, size);
                 self.into.note_origin(name.to_word());
-                self.won.push_reserved(Won { number, place });
+                self.won.push_reserved(Won {
+                    number,
+                    place: PackedPlace::new(place),
+                });
                 self.finish(Some(place));
             }
         }

@@ -10,6 +10,7 @@ ghost use Rattle.scavenge.specs.Shown.{CanRead, Holds, known_slot};
 use crate::sweep::cursor::{cursor_of, pointer_at, write_at};
 use crate::sweep::sweep::Sweep;
 use crate::to_space::pass_front;
+use heap::PackedPlace;
 use layout::{Place, word_of};
 use std::alloc::Allocator;
 
@@ -55,7 +56,7 @@ impl<A: Allocator> Sweep<A> {
         }
         let (place, _) = pass_front(&mut self.held);
         self.cursor = cursor_of(&self.held);
-        self.scanned.push_reserved(place);
+        self.scanned.push_reserved(PackedPlace::new(place));
         self.fields = 0;
         true
     }

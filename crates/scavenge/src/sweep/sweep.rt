@@ -4,7 +4,7 @@ use crate::sweep::going::Going;
 use crate::to_space::AllocationBlocks;
 use block_pool::Block;
 use boxcar::tag::Tag;
-use heap::{Spare, Won};
+use heap::{PackedPlace, Spare, Won};
 use layout::Place;
 use std::alloc::{Allocator, Global};
 use std::collections::VecDeque;
@@ -36,7 +36,7 @@ pub struct Sweep<A: Allocator = Global> {
     pub(crate) claimed: VecDeque<Place, A>,
     pub(crate) claimed_done: Vec<Place, A>,
     pub(crate) won: Vec<Won, A>,
-    pub(crate) scanned: Vec<Place, A>,
+    pub(crate) scanned: Vec<PackedPlace, A>,
     pub(crate) won_room: usize,
     pub(crate) block_room: usize,
     pub(crate) names: Tag,
@@ -52,7 +52,7 @@ impl<A: Allocator> Model for Sweep<A> {
     ghost use Rattle.scavenge.specs.Named.{named};
     ghost use Rattle.scavenge.specs.Swept.{with_block};
     ghost use Rattle.scavenge.specs.Cursors.{StandsAt, IsGoing};
-    ghost use Rattle.scavenge.specs.Shown.{WorkspaceValue, slots_of, blocks_of, words_of, AreNoted, AreMade, HasRoom};
+    ghost use Rattle.scavenge.specs.Shown.{WorkspaceValue, slots_of, blocks_of, words_of, packed_words, AreNoted, AreMade, HasRoom};
 
     ghost Value = { WorkspaceValue };
 
@@ -74,7 +74,7 @@ impl<A: Allocator> Model for Sweep<A> {
         large = words_of s.claimed.items;
         large_done = words_of s.claimed_done.items;
         won = renaming_of s.names.numbers (map won_value s.won.items);
-        scanned = words_of s.scanned.items;
+        scanned = packed_words s.scanned.items;
       };
     } };
 

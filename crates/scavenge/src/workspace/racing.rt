@@ -6,7 +6,7 @@ ghost use Rattle.workers.specs.Ready.{CanFinish};
 ghost use Rattle.scavenge.specs.Shown.{IsBid, lost_to, name_of};
 
 use crate::workspace::workspace::Workspace;
-use heap::Won;
+use heap::{PackedPlace, Won};
 use layout::Place;
 use std::alloc::Allocator;
 
@@ -83,7 +83,7 @@ impl<A: Allocator> Workspace<A> {
             Some(d) => {
                 self.won.push_reserved(Won {
                     number,
-                    place: p.place,
+                    place: PackedPlace::new(p.place),
                 });
                 self.allocation.note(d, p.name.to_word());
                 self.finish(Some(p.place));
@@ -91,7 +91,7 @@ impl<A: Allocator> Workspace<A> {
             None => {
                 self.won.push_reserved(Won {
                     number,
-                    place: p.name,
+                    place: PackedPlace::new(p.name),
                 });
                 self.claimed.push_back_reserved(p.name);
                 self.finish(Some(p.name));

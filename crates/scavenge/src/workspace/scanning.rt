@@ -9,6 +9,7 @@ ghost use Rattle.scavenge.specs.Shown.{has_another};
 use crate::to_space::{pass_front, write_front};
 use crate::workspace::hand::Hand;
 use crate::workspace::workspace::Workspace;
+use heap::PackedPlace;
 use layout::{Place, word_of};
 use std::alloc::{AllocError, Allocator};
 use std::mem;
@@ -55,7 +56,7 @@ impl<A: Allocator> Workspace<A> {
             return Ok(false);
         }
         let (place, _) = pass_front(held);
-        self.scanned.push_reserved(place);
+        self.scanned.push_reserved(PackedPlace::new(place));
         self.fields = 0;
         Ok(true)
     }
@@ -88,7 +89,7 @@ impl<A: Allocator> Workspace<A> {
             Hand::Nothing => {}
             Hand::Open(destination) => {
                 let (place, more) = self.allocation.pass_front(destination);
-                self.scanned.push_reserved(place);
+                self.scanned.push_reserved(PackedPlace::new(place));
                 if more {
                     self.hand = Hand::Open(destination);
                     return Ok(());
@@ -96,7 +97,7 @@ impl<A: Allocator> Workspace<A> {
             }
             Hand::Holding(mut held) => {
                 let (place, more) = pass_front(&mut held);
-                self.scanned.push_reserved(place);
+                self.scanned.push_reserved(PackedPlace::new(place));
                 if more {
                     self.hand = Hand::Holding(held);
                     return Ok(());
@@ -104,7 +105,7 @@ impl<A: Allocator> Workspace<A> {
                 self.done.push_reserved(held);
             }
             Hand::Large(name) => {
-                self.scanned.push_reserved(name);
+                self.scanned.push_reserved(PackedPlace::new(name));
                 self.claimed_done.push_reserved(name);
             }
         }

@@ -3,6 +3,7 @@ ghost use Rattle.std.specs.Prelude.{◌≡◌, ◌≢◌, ◌<◌, ◌≤◌, �
 ghost use Rattle.std.specs.Option.{option_map};
 ghost use Rattle.layout.specs.Place.{place_word};
 ghost use Rattle.block_pool.specs.BlockValue.{empty_block};
+ghost use Rattle.steps.specs.Packed.{packed_word};
 ghost use Rattle.steps.specs.ReportValue.{renaming_of};
 ghost use Rattle.steps.specs.ReportView.{won_value};
 ghost use Rattle.workers.specs.Block.{has_unscanned};
@@ -17,7 +18,7 @@ use crate::workspace::hand::Hand;
 use crate::workspace::proposed::Proposed;
 use block_pool::Block;
 use boxcar::tag::Tag;
-use heap::{Spare, Won};
+use heap::{PackedPlace, Spare, Won};
 use layout::Place;
 use std::alloc::{AllocError, Allocator, Global};
 use std::collections::VecDeque;
@@ -46,7 +47,7 @@ pub struct Workspace<A: Allocator = Global> {
     pub(crate) claimed_done: Vec<Place, A>,
     /// Each object that it won, by number, and its place.
     pub(crate) won: Vec<Won, A>,
-    pub(crate) scanned: Vec<Place, A>,
+    pub(crate) scanned: Vec<PackedPlace, A>,
     /// How many races are run for which `won` has room.
     pub(crate) won_room: usize,
     /// How many blocks are drawn for which `aside` and `done` have room to retire one.
@@ -67,7 +68,7 @@ pub struct Parts<A: Allocator = Global> {
     pub large: Vec<Place, A>,
     /// Each object that it won, by number, and its place.
     pub won: Vec<Won, A>,
-    pub scanned: Vec<Place, A>,
+    pub scanned: Vec<PackedPlace, A>,
     /// Memory that it did not need.
     pub spare: Spare<A>,
 }
@@ -77,7 +78,7 @@ impl<A: Allocator> Model for Workspace<A> {
     ghost use Rattle.std.specs.VecDeque.{deque_len, deque_capacity};
     ghost use Rattle.steps.specs.ReportValue.{renaming_of};
     ghost use Rattle.steps.specs.ReportView.{won_value};
-    ghost use Rattle.scavenge.specs.Shown.{WorkspaceValue, hand_of, held_in, slots_of, blocks_of, words_of, proposal_of, AreNoted, AreMade, HasRoom};
+    ghost use Rattle.scavenge.specs.Shown.{WorkspaceValue, hand_of, held_in, slots_of, blocks_of, words_of, packed_words, proposal_of, AreNoted, AreMade, HasRoom};
 
     ghost Value = { WorkspaceValue };
 
@@ -99,7 +100,7 @@ impl<A: Allocator> Model for Workspace<A> {
         large = words_of w.claimed.items;
         large_done = words_of w.claimed_done.items;
         won = renaming_of w.names.numbers (map won_value w.won.items);
-        scanned = words_of w.scanned.items;
+        scanned = packed_words w.scanned.items;
       };
     } };
 
@@ -205,7 +206,7 @@ impl<A: Allocator> Workspace<A> {
         ensures large { map place_word result.large.items ≡ self.worker.large_done }
         ensures won { renaming_of self.names (map won_value result.won.items) ≡ self.worker.won }
         ensures numbers { All (λ e. e.0 < length self.names) (map won_value result.won.items) }
-        ensures scanned { map place_word result.scanned.items ≡ self.worker.scanned }
+        ensures scanned { map packed_word result.scanned.items ≡ self.worker.scanned }
     {
         let Workspace {
             config: _,

@@ -2,6 +2,7 @@
 mod census;
 mod collection;
 mod numbering;
+mod packed;
 mod report;
 mod root_id;
 mod spare;
@@ -9,6 +10,7 @@ mod spare;
 pub use census::{Census, LargeCount, StepCount};
 pub use collection::{Collection, Settled, Slot};
 pub use numbering::Numbering;
+pub use packed::PackedPlace;
 pub use report::{Delivery, Report, Won, WorkerReport};
 pub use root_id::RootId;
 pub use spare::Spare;

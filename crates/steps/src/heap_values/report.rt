@@ -1,9 +1,9 @@
 //! What the workers of a collection report.
 ghost use Rattle.std.specs.Prelude.{◌≡◌, map};
+ghost use Rattle.steps.specs.Packed.{packed_word};
 ghost use Rattle.steps.specs.ReportView.{won_value};
-ghost use Rattle.layout.specs.Place.{place_word};
 
-use layout::Place;
+use crate::heap_values::packed::PackedPlace;
 use std::alloc::{Allocator, Global};
 use std::marker::Model;
 
@@ -11,14 +11,14 @@ use std::marker::Model;
 #[derive(Clone, Copy, Debug)]
 pub struct Won {
     pub number: u32,
-    pub place: Place,
+    pub place: PackedPlace,
 }
 
 /// What one worker won, and the places that it scanned, each in order.
 #[derive(Debug, Drop)]
 pub struct WorkerReport<A: Allocator = Global> {
     won: Vec<Won, A>,
-    scanned: Vec<Place, A>,
+    scanned: Vec<PackedPlace, A>,
 }
 
 impl<A: Allocator> Model for WorkerReport<A> {
@@ -29,16 +29,16 @@ impl<A: Allocator> Model for WorkerReport<A> {
 
     ghost coded = { lists_code };
 
+    ghost use Rattle.steps.specs.Packed.{packed_word};
     ghost use Rattle.steps.specs.ReportView.{won_value};
-    ghost use Rattle.layout.specs.Place.{place_word};
 
-    ghost view = { λ w. record { won = map won_value w.won.items; scanned = map place_word w.scanned.items } };
+    ghost view = { λ w. record { won = map won_value w.won.items; scanned = map packed_word w.scanned.items } };
 }
 
 impl<A: Allocator> WorkerReport<A> {
     /// The lists of a worker. Takes no memory.
-    pub fn new(won: Vec<Won, A>, scanned: Vec<Place, A>) -> Self
-        ensures { result ≡ record { won = map won_value won.items; scanned = map place_word scanned.items } }
+    pub fn new(won: Vec<Won, A>, scanned: Vec<PackedPlace, A>) -> Self
+        ensures { result ≡ record { won = map won_value won.items; scanned = map packed_word scanned.items } }
     {
         WorkerReport { won, scanned }
     }
@@ -54,9 +54,9 @@ impl<A: Allocator> WorkerReport<A> {
     }
 
     /// The lists themselves.
-    pub(crate) fn into_lists(self) -> (Vec<Won, A>, Vec<Place, A>)
+    pub(crate) fn into_lists(self) -> (Vec<Won, A>, Vec<PackedPlace, A>)
         ensures won { map won_value result.0.items ≡ self.won }
-        ensures scanned { map place_word result.1.items ≡ self.scanned }
+        ensures scanned { map packed_word result.1.items ≡ self.scanned }
     {
         (self.won, self.scanned)
     }
@@ -67,8 +67,8 @@ impl<A: Allocator> WorkerReport<A> {
         self.won.as_slice()
     }
 
-    pub fn scanned(&self) -> &[Place]
-        ensures { map place_word result.now ≡ self.now.scanned }
+    pub fn scanned(&self) -> &[PackedPlace]
+        ensures { map packed_word result.now ≡ self.now.scanned }
     {
         self.scanned.as_slice()
     }

@@ -2,10 +2,10 @@
 ghost use Rattle.std.specs.Prelude.{◌≡◌, ◌≤◌, ◌↔◌, [], IsTrue, IfOk, IfSome};
 ghost use Rattle.block_pool.specs.BlockValue.{empty_block};
 
+use crate::heap_values::packed::PackedPlace;
 use crate::heap_values::report::{Won, WorkerReport};
 use block_pool::{Block, order_by_memory};
 use forwarding::CellMemory;
-use layout::Place;
 use std::alloc::{AllocError, Allocator, Global};
 use std::collections::VecDeque;
 use std::mem;
@@ -117,7 +117,7 @@ impl<A: Allocator> Spare<A> {
     }
 
     /// Empty lists for what one worker wins and scans, where some are kept.
-    pub fn lists(&mut self) -> Option<(Vec<Won, A>, Vec<Place, A>)>
+    pub fn lists(&mut self) -> Option<(Vec<Won, A>, Vec<PackedPlace, A>)>
         ensures { IfSome result (λ lists. (lists.0.items ≡ []) × (lists.1.items ≡ [])) }
     {
         let report = self.lists.as_mut()?.pop()?;

@@ -31,7 +31,7 @@ invariant_of-self g c =
       subst (λ b. AreNoted (with_block c.self.inside.allocation c.self.inside.destination b) c.self.inside.aside.items c.self.inside.done.items (Some c.self.inside.held) None) (sym is) (decided c.self.view_is c.self.inside.config.shape c.self.inside.allocation c.self.inside.aside.items c.self.inside.done.items (Some c.self.inside.held) c.self.inside.destination c.self.inside.into raw c.args.name c.place_behind-place.result c.self.invariant.4 refl c.self.invariant.0 c.place_behind-place.ensures),
       table_made c.self.inside.config c.self.inside.destination c.self.inside.into (copied c.self.inside.into raw c.args.name) there (λ m. record { words = m.words; destination = m.destination }) table refl c.self.invariant.1.in_hand c.self.invariant.1,
       record { in_won = omega (arith, r.in_won, c.if-capacity-len.false, c.capacity.ensures, c.len.ensures, c.push_reserved.ensures.len, c.push_reserved.ensures.capacity); in_done = r.in_done; in_aside = r.in_aside; for_spare = r.for_spare; in_claimed = tt },
-      numbers_more c.self.inside.names.numbers c.self.inside.won.items (record { number = c.args.number; place = c.place_behind-place.result }) c.self.invariant.3 (names_of c.self.view_is c.requires.known) c.push_reserved.ensures.items,
+      numbers_more c.self.inside.names.numbers c.self.inside.won.items (record { number = c.args.number; place = c.new.result }) c.self.invariant.3 (names_of c.self.view_is c.requires.known) c.push_reserved.ensures.items,
       c.self.invariant.4,
       c.self.invariant.5,
       c.self.invariant.6,
@@ -87,7 +87,7 @@ returns-in-Won-clause-raced g c = λ _ raw r.
     ap (allocation_at c.args.self.now.worker) c.if-d-self.false ∙ ap (λ (v : WorkspaceValue). allocation_at v.worker c.self.inside.destination) (sym c.self.view_is) ∙ shown c.self.view_is c.self.inside.config.shape c.self.inside.allocation c.self.inside.aside.items c.self.inside.done.items (Some c.self.inside.held) c.self.inside.destination c.self.inside.into raw c.args.name c.place_behind-place.result c.self.invariant.4 refl c.self.invariant.0 c.place_behind-place.ensures in
     let is : c.note_origin.new.self ≡ copied c.self.inside.into raw c.args.name = c.note_origin.ensures ∙ ap (λ (b : BlockValue). noted b c.to_word.result) (c.push_copy.ensures.pushed raw r) ∙ ap (noted (pushed c.self.inside.into raw)) c.to_word.ensures in
     let name = ap (λ (v : WorkspaceValue). slice_index v.names c.args.number) c.self.view_is ∙ c.requires.name in
-    let more = won_more c.self.inside.names.numbers c.self.inside.won.items c.push_reserved.new.self.items (record { number = c.args.number; place = c.place_behind-place.result }) (place_word c.args.name) c.push_reserved.ensures.items name in
+    let more = won_more c.self.inside.names.numbers c.self.inside.won.items c.push_reserved.new.self.items (record { number = c.args.number; place = c.new.result }) (place_word c.args.name) (place_word c.place_behind-place.result) c.push_reserved.ensures.items name c.new.ensures in
     record {
       outcome = Won;
       bid = c.place_behind-place.result;

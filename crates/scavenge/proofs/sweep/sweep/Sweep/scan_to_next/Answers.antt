@@ -1,10 +1,10 @@
 use Rattle.std.proofs.Common.{◌≡◌, ◌+◌, ◌<◌, true, ◌∷◌, ◌++◌, [], nat_lt, length, refl, sym, ap, ◌∙◌, arith, lt-ltb}
 use Rattle.std.proofs.lemmas.List.{map-append}
-use Rattle.layout.specs.Place.{place_word}
 use Rattle.block_pool.specs.BlockValue.{BlockValue}
+use Rattle.steps.specs.Packed.{packed_word}
 use Rattle.workers.specs.Worker.{Holding}
 use Rattle.scavenge.specs.Named.{named}
-use Rattle.scavenge.specs.Shown.{words_of}
+use Rattle.scavenge.specs.Shown.{packed_words}
 use Rattle.scavenge.proofs.Scans.{held_passing, passed, passed_noted, unscanned_named, front_standing, scan_held_done}
 use Rattle.scavenge.proofs.sweep.sweep.Sweep.scan_to_next.Goals as goal
 
@@ -19,4 +19,4 @@ returns-clause-some g c = λ _.
     (ap (λ (b : BlockValue). Holding (named c.self.inside.config.shape b)) c.pass_front-place.ensures.block)
     refl
     refl
-    (ap words_of c.push_reserved.ensures.items ∙ map-append place_word c.self.inside.scanned.items _ ∙ ap (λ w. words_of c.self.inside.scanned.items ++ w ∷ []) (c.pass_front-place.ensures.place ∙ sym k.at))
+    (ap packed_words c.push_reserved.ensures.items ∙ map-append packed_word c.self.inside.scanned.items _ ∙ ap (λ w. packed_words c.self.inside.scanned.items ++ w ∷ []) (c.new.ensures ∙ c.pass_front-place.ensures.place ∙ sym k.at))

@@ -5,7 +5,7 @@ use Rattle.heap.specs.CollectionValue.{target_of_slot}
 use Rattle.steps.specs.ReportValue.{renaming_of}
 use Rattle.steps.specs.ReportView.{won_value}
 use Rattle.workers.specs.System.{every}
-use Rattle.scavenge.specs.Shown.{WorkspaceValue, slots_of, blocks_of, words_of}
+use Rattle.scavenge.specs.Shown.{WorkspaceValue, slots_of, blocks_of, words_of, packed_words}
 use Rattle.scavenge.proofs.Pushing.{map_nones}
 use Rattle.scavenge.proofs.Begun.{begun_noted, begun_made, begun_is, none_won}
 use Rattle.scavenge.proofs.workspace.workspace.Workspace.new.Goals as goal
@@ -29,4 +29,4 @@ returns-clause-worker g c =
     (ap words_of c.new-4.ensures.items)
     (ap words_of c.new-5.ensures.items)
     (ap (λ ws. renaming_of c.of.result.numbers (map won_value ws)) c.new-6.ensures.items)
-    (ap words_of c.new-7.ensures.items))
+    (ap packed_words c.new-7.ensures.items))

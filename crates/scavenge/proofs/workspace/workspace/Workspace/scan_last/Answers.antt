@@ -3,11 +3,12 @@ use Rattle.std.proofs.lemmas.List.{map-append}
 use Rattle.std.specs.Option.{option_map, IsSomeAnd}
 use Rattle.layout.specs.Place.{place_word}
 use Rattle.block_pool.specs.BlockValue.{BlockValue}
+use Rattle.steps.specs.Packed.{packed_word}
 use Rattle.workers.specs.Worker.{Nothing, Open, Holding}
 use Rattle.workers.specs.Joined.{Each, OnSome}
 use Rattle.scavenge.specs.declared.workspace.proposed.Proposed.{Proposed}
 use Rattle.scavenge.specs.Named.{named}
-use Rattle.scavenge.specs.Shown.{WorkspaceValue, IsNoted, AreNoted, proposal_of, slots_of, blocks_of, words_of, hand_of, held_in}
+use Rattle.scavenge.specs.Shown.{WorkspaceValue, IsNoted, AreNoted, proposal_of, slots_of, blocks_of, words_of, packed_words, hand_of, held_in}
 use Rattle.scavenge.proofs.Fields.{no_proposal, slots-get, slots_noted}
 use Rattle.scavenge.proofs.Scans.{Passing, open_passing, held_passing, passed, passed_noted, unscanned_named, front_standing, scan_open_done, scan_held_done, slots_passed}
 use Rattle.scavenge.proofs.workspace.workspace.Workspace.scan_last.Goals as goal
@@ -69,7 +70,7 @@ returns-then-more-clause-ok g c =
     (ap (slots_of c.self.inside.config.shape) (c.pass_front-place.ensures.table t.block t.there) ∙ slots_passed c.self.inside.config.shape c.self.inside.allocation c.in-Open.destination t.block)
     (ap (blocks_of c.self.inside.config.shape) c.reserve-2.ensures.items)
     (ap words_of c.reserve-3.ensures.items)
-    (ap words_of (c.push_reserved.ensures.items ∙ ap (λ xs. xs ++ c.pass_front-place.result.0 ∷ []) c.reserve.ensures.items) ∙ map-append place_word c.self.inside.scanned.items _ ∙ ap (λ w. words_of c.self.inside.scanned.items ++ w ∷ []) (c.pass_front-place.ensures.place t.block t.there ∙ sym k.at))
+    (ap packed_words (c.push_reserved.ensures.items ∙ ap (λ xs. xs ++ c.new.result ∷ []) c.reserve.ensures.items) ∙ map-append packed_word c.self.inside.scanned.items _ ∙ ap (λ w. packed_words c.self.inside.scanned.items ++ w ∷ []) (c.new.ensures ∙ c.pass_front-place.ensures.place t.block t.there ∙ sym k.at))
 
 pub returns-else-more-clause-ok : goal.returns-else-more-clause-ok
 returns-else-more-clause-ok g c =
@@ -85,7 +86,7 @@ returns-else-more-clause-ok g c =
     (ap (slots_of c.self.inside.config.shape) (c.pass_front-place.ensures.table t.block t.there) ∙ slots_passed c.self.inside.config.shape c.self.inside.allocation c.in-Open.destination t.block)
     (ap (blocks_of c.self.inside.config.shape) c.reserve-2.ensures.items)
     (ap words_of c.reserve-3.ensures.items)
-    (ap words_of (c.push_reserved.ensures.items ∙ ap (λ xs. xs ++ c.pass_front-place.result.0 ∷ []) c.reserve.ensures.items) ∙ map-append place_word c.self.inside.scanned.items _ ∙ ap (λ w. words_of c.self.inside.scanned.items ++ w ∷ []) (c.pass_front-place.ensures.place t.block t.there ∙ sym k.at))
+    (ap packed_words (c.push_reserved.ensures.items ∙ ap (λ xs. xs ++ c.new.result ∷ []) c.reserve.ensures.items) ∙ map-append packed_word c.self.inside.scanned.items _ ∙ ap (λ w. packed_words c.self.inside.scanned.items ++ w ∷ []) (c.new.ensures ∙ c.pass_front-place.ensures.place t.block t.there ∙ sym k.at))
 
 pub pass_front-place-requires-in-Holding : goal.pass_front-place-requires-in-Holding
 pass_front-place-requires-in-Holding g c =
@@ -136,7 +137,7 @@ returns-then-more-2-clause-ok g c =
     (ap (λ (b : BlockValue). Holding (named c.self.inside.config.shape b)) c.pass_front-place-in-Holding.ensures.block)
     (ap (blocks_of c.self.inside.config.shape) c.reserve-2.ensures.items)
     (ap words_of c.reserve-3.ensures.items)
-    (ap words_of (c.push_reserved-in-Holding.ensures.items ∙ ap (λ xs. xs ++ c.pass_front-place-in-Holding.result.0 ∷ []) c.reserve.ensures.items) ∙ map-append place_word c.self.inside.scanned.items _ ∙ ap (λ w. words_of c.self.inside.scanned.items ++ w ∷ []) (c.pass_front-place-in-Holding.ensures.place ∙ sym k.at))
+    (ap packed_words (c.push_reserved-in-Holding.ensures.items ∙ ap (λ xs. xs ++ c.new-in-Holding.result ∷ []) c.reserve.ensures.items) ∙ map-append packed_word c.self.inside.scanned.items _ ∙ ap (λ w. packed_words c.self.inside.scanned.items ++ w ∷ []) (c.new-in-Holding.ensures ∙ c.pass_front-place-in-Holding.ensures.place ∙ sym k.at))
 
 pub returns-else-more-2-clause-ok : goal.returns-else-more-2-clause-ok
 returns-else-more-2-clause-ok g c =
@@ -151,4 +152,4 @@ returns-else-more-2-clause-ok g c =
     (ap (blocks_of c.self.inside.config.shape) (c.push_reserved-in-Holding-2.ensures.items ∙ ap (λ xs. xs ++ c.pass_front-place-in-Holding.new.block ∷ []) c.reserve-2.ensures.items)
     ∙ map-append (named c.self.inside.config.shape) c.self.inside.done.items _ ∙ ap (λ (b : BlockValue). blocks_of c.self.inside.config.shape c.self.inside.done.items ++ named c.self.inside.config.shape b ∷ []) c.pass_front-place-in-Holding.ensures.block)
     (ap words_of c.reserve-3.ensures.items)
-    (ap words_of (c.push_reserved-in-Holding.ensures.items ∙ ap (λ xs. xs ++ c.pass_front-place-in-Holding.result.0 ∷ []) c.reserve.ensures.items) ∙ map-append place_word c.self.inside.scanned.items _ ∙ ap (λ w. words_of c.self.inside.scanned.items ++ w ∷ []) (c.pass_front-place-in-Holding.ensures.place ∙ sym k.at))
+    (ap packed_words (c.push_reserved-in-Holding.ensures.items ∙ ap (λ xs. xs ++ c.new-in-Holding.result ∷ []) c.reserve.ensures.items) ∙ map-append packed_word c.self.inside.scanned.items _ ∙ ap (λ w. packed_words c.self.inside.scanned.items ++ w ∷ []) (c.new-in-Holding.ensures ∙ c.pass_front-place-in-Holding.ensures.place ∙ sym k.at))

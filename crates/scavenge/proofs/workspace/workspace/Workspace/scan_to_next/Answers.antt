@@ -1,13 +1,13 @@
 use Rattle.std.proofs.Common.{◌≡◌, ◌+◌, ◌<◌, true, ◌∷◌, ◌++◌, [], nat_lt, length, refl, sym, ap, subst, ◌∙◌, arith, le-ltb, lt-ltb}
 use Rattle.std.proofs.lemmas.List.{map-append}
 use Rattle.std.proofs.lemmas.Grind.{common_steps}
-use Rattle.layout.specs.Place.{place_word}
 use Rattle.block_pool.specs.BlockValue.{BlockValue}
+use Rattle.steps.specs.Packed.{packed_word}
 use Rattle.workers.specs.Worker.{Holding}
 use Rattle.workers.specs.Joined.{OnSome}
 use Rattle.scavenge.specs.Named.{named}
 use Rattle.scavenge.specs.Shown.{has_another}
-use Rattle.scavenge.specs.Shown.{WorkspaceValue, IsNoted, words_of, hand_of, held_in}
+use Rattle.scavenge.specs.Shown.{WorkspaceValue, IsNoted, packed_words, hand_of, held_in}
 use Rattle.scavenge.proofs.Scans.{another_named, held_passing, passed, passed_noted, unscanned_named, front_standing, scan_held_done}
 use Rattle.scavenge.proofs.workspace.workspace.Workspace.scan_to_next.Goals as goal
 
@@ -24,7 +24,7 @@ returns-clause-some g c = λ _.
     (ap (λ (b : BlockValue). Holding (named c.self.inside.config.shape b)) c.pass_front-place.ensures.block)
     refl
     refl
-    (ap words_of (c.push_reserved.ensures.items ∙ ap (λ xs. xs ++ c.pass_front-place.result.0 ∷ []) c.reserve.ensures.items) ∙ map-append place_word c.self.inside.scanned.items _ ∙ ap (λ w. words_of c.self.inside.scanned.items ++ w ∷ []) (c.pass_front-place.ensures.place ∙ sym k.at))
+    (ap packed_words (c.push_reserved.ensures.items ∙ ap (λ xs. xs ++ c.new.result ∷ []) c.reserve.ensures.items) ∙ map-append packed_word c.self.inside.scanned.items _ ∙ ap (λ w. packed_words c.self.inside.scanned.items ++ w ∷ []) (c.new.ensures ∙ c.pass_front-place.ensures.place ∙ sym k.at))
 
 pub returns-then-len-front-lt2-clause-which : goal.returns-then-len-front-lt2-clause-which
 returns-then-len-front-lt2-clause-which g c =

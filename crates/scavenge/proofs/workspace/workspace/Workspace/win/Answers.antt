@@ -21,7 +21,7 @@ invariant_of-self g c =
           (slots_decided c.self.inside.allocation c.self.inside.aside.items c.self.inside.done.items (held_in c.self.inside.hand) c.in-Some.p c.in-Some-destination.d t.block (noted t.block c.to_word.result) c.in-Some-destination.is t.there (λ m. noted_whole t.block c.to_word.result m) n),
       table_made c.self.inside.config c.in-Some-destination.d t.block (noted t.block c.to_word.result) t.there (λ n. record { words = n.words; destination = n.destination }) (c.note.ensures t.block t.there) refl c.self.invariant.1.in_hand c.self.invariant.1,
       record { in_won = omega (arith, r.in_won, room, c.push_reserved.ensures.len, c.push_reserved.ensures.capacity); in_done = r.in_done; in_aside = r.in_aside; for_spare = r.for_spare; in_claimed = tt },
-      numbers_more c.self.inside.names.numbers c.self.inside.won.items (record { number = c.args.number; place = c.in-Some.p.place }) c.self.invariant.3 (names_of c.self.view_is c.requires.number) c.push_reserved.ensures.items,
+      numbers_more c.self.inside.names.numbers c.self.inside.won.items (record { number = c.args.number; place = c.new.result }) c.self.invariant.3 (names_of c.self.view_is c.requires.number) c.push_reserved.ensures.items,
     )
 
 pub finish-requires-clause-slot : goal.finish-requires-clause-slot
@@ -42,12 +42,12 @@ returns-in-Some-destination g c =
     c.finish.ensures ∙ won_copy c.self.view_is (slots_of c.self.inside.config.shape c.note.new.self) (words_of c.self.inside.claimed.items) (renaming_of c.self.inside.names.numbers (map won_value c.push_reserved.new.self.items)) (copy_of c.in-Some.p t.raw) c.in-Some-destination.d
     (ap (slots_of c.self.inside.config.shape) items ∙ slots_written c.self.inside.config.shape c.self.inside.allocation c.in-Some-destination.d t.block (noted t.block (place_word c.in-Some.p.name)) (with_copy (copy_of c.in-Some.p t.raw)) t.there (named_noted c.self.inside.config.shape c.self.inside.allocation c.in-Some.p c.in-Some-destination.d t))
     refl
-    (won_more c.self.inside.names.numbers c.self.inside.won.items c.push_reserved.new.self.items (record { number = c.args.number; place = c.in-Some.p.place }) (place_word c.in-Some.p.name) c.push_reserved.ensures.items (named_of c.self.view_is c.args.number c.in-Some.p c.self.inside.allocation c.self.inside.aside.items c.self.inside.done.items (held_in c.self.inside.hand) c.self.inside.proposed refl c.in-Some.is c.self.invariant.0 c.requires.name))
+    (won_more c.self.inside.names.numbers c.self.inside.won.items c.push_reserved.new.self.items (record { number = c.args.number; place = c.new.result }) (place_word c.in-Some.p.name) (place_word c.in-Some.p.place) c.push_reserved.ensures.items (named_of c.self.view_is c.args.number c.in-Some.p c.self.inside.allocation c.self.inside.aside.items c.self.inside.done.items (held_in c.self.inside.hand) c.self.inside.proposed refl c.in-Some.is c.self.invariant.0 c.requires.name) c.new.ensures)
     (ap (proposal_of c.self.inside.allocation) c.in-Some.is ∙ t.shown)
 
 pub returns-in-None : goal.returns-in-None
 returns-in-None g c =
     c.finish-in-None.ensures ∙ won_large c.self.view_is (words_of c.push_back_reserved.new.self.items) (renaming_of c.self.inside.names.numbers (map won_value c.push_reserved-in-None.new.self.items)) (place_word c.in-Some.p.name)
     (ap words_of c.push_back_reserved.ensures.items ∙ map-append place_word c.self.inside.claimed.items _)
-    (won_more c.self.inside.names.numbers c.self.inside.won.items c.push_reserved-in-None.new.self.items (record { number = c.args.number; place = c.in-Some.p.name }) (place_word c.in-Some.p.name) c.push_reserved-in-None.ensures.items (named_of c.self.view_is c.args.number c.in-Some.p c.self.inside.allocation c.self.inside.aside.items c.self.inside.done.items (held_in c.self.inside.hand) c.self.inside.proposed refl c.in-Some.is c.self.invariant.0 c.requires.name))
+    (won_more c.self.inside.names.numbers c.self.inside.won.items c.push_reserved-in-None.new.self.items (record { number = c.args.number; place = c.new-in-None.result }) (place_word c.in-Some.p.name) (place_word c.in-Some.p.name) c.push_reserved-in-None.ensures.items (named_of c.self.view_is c.args.number c.in-Some.p c.self.inside.allocation c.self.inside.aside.items c.self.inside.done.items (held_in c.self.inside.hand) c.self.inside.proposed refl c.in-Some.is c.self.invariant.0 c.requires.name) c.new-in-None.ensures)
     (ap (proposal_of c.self.inside.allocation) c.in-Some.is ∙ ap (proposal_at c.self.inside.allocation c.in-Some.p) c.in-None.is)
