@@ -86,7 +86,23 @@ fn copy_two(words: &mut [u64], at: usize, from: &[u64], offset: usize)
     copy_next(words, at, from, offset, 1);
 }
 
-/// Copies so many words to a place: two or three, as most objects have, with no loop.
+/// Copies so many words to a place, one after the other.
+#[cold]
+fn copy_many(words: &mut [u64], at: usize, from: &[u64], offset: usize, count: usize)
+    requires room { at + count ≤ length words.old }
+    requires there { offset + count ≤ length from.now }
+    requires few { length words.old ≤ 512 }
+    requires few_there { length from.now ≤ 512 }
+    ensures kept { take at words.new ≡ take at words.old }
+    ensures copied { take count (drop at words.new) ≡ take count (drop offset from.now) }
+{
+    for i in 0..count {
+        copy_next(words, at, from, offset, i);
+    }
+}
+
+/// Copies so many words to a place: one to four, as most objects have, with no loop, and more in a function of its own, which
+/// would want the registers of the loop that this one is a part of.
 #[inline(always)]
 fn copy_words(words: &mut [u64], at: usize, from: &[u64], offset: usize, count: usize)
     requires room { at + count ≤ length words.old }
@@ -105,9 +121,17 @@ fn copy_words(words: &mut [u64], at: usize, from: &[u64], offset: usize, count: 
         copy_two(words, at, from, offset);
         return;
     }
-    for i in 0..count {
-        copy_next(words, at, from, offset, i);
+    if count == 4 {
+        copy_two(words, at, from, offset);
+        copy_next(words, at, from, offset, 2);
+        copy_next(words, at, from, offset, 3);
+        return;
     }
+    if count == 1 {
+        copy_next(words, at, from, offset, 0);
+        return;
+    }
+    copy_many(words, at, from, offset, count);
 }
 
 /// Copies an object to a place, which takes so many words, and gets that ordinal there.

@@ -90,6 +90,19 @@ fn settle_words(
     cells.settle(passes)
 }
 
+/// Whether name 1 of word cells within that memory holds the first place after two passes raced for it, and the places that
+/// they settle on.
+fn raced_words(
+    alloc: Global,
+    memory: CellMemory,
+    a: Place,
+    b: Place,
+) -> Result<(bool, Forwards), Fail> {
+    let (cells, mut zero, mut one) = two_word_passes(alloc, memory)?;
+    let stays = first_word_stays(&cells, &mut zero, &mut one, a, b)?;
+    Ok((stays, settle_words(alloc, cells, zero, one)?))
+}
+
 /// The places that two passes of plain cells settle on.
 fn settle_plain(
     alloc: Global,
@@ -112,10 +125,8 @@ fn settle_plain(
 #[test]
 fn two_passes_race_for_a_word(rt: HostRuntime) -> Result<(), Fail> {
     let (a, b) = (Place::small(0, 4), Place::large(65534));
-    let (cells, mut zero, mut one) = two_word_passes(rt.alloc(), CellMemory::none(rt.alloc()))?;
-    let stays = first_word_stays(&cells, &mut zero, &mut one, a, b)?;
+    let (stays, forwards) = raced_words(rt.alloc(), CellMemory::none(rt.alloc()), a, b)?;
     assert!(rt; stays);
-    let forwards = settle_words(rt.alloc(), cells, zero, one)?;
     assert!(rt; is_second(&forwards, a));
     Ok(())
 }
@@ -150,6 +161,14 @@ fn first_of_two_stays(
     Ok(won == Outcome::Won && lost == Outcome::Lost(a))
 }
 
+/// Whether name 1 of plain cells within that memory holds the first place after a pass alone raced for it with two, and the
+/// places that it settles on.
+fn raced_alone(memory: CellMemory, a: Place, b: Place) -> Result<(bool, Forwards), AllocError> {
+    let (mut cells, mut pass) = PlainCells::alone_within(memory, 2)?;
+    let stays = first_of_two_stays(&mut cells, &mut pass, a, b)?;
+    Ok((stays, cells.settle_alone(pass)))
+}
+
 #[test]
 fn a_pass_alone_settles_what_it_won(rt: HostRuntime) -> Result<(), Fail> {
     let (a, b) = (Place::small(1, 2), Place::large(0));
@@ -164,16 +183,13 @@ fn a_pass_alone_settles_what_it_won(rt: HostRuntime) -> Result<(), Fail> {
 fn cells_in_used_memory_hold_nothing(rt: HostRuntime) -> Result<(), Fail> {
     let (a, b) = (Place::small(1, 2), Place::large(0));
     let used = vec![in rt.alloc(); b.to_word(); 3]?;
-    let (mut cells, mut pass) = PlainCells::alone_within(CellMemory::of(used), 2)?;
-    let stays = first_of_two_stays(&mut cells, &mut pass, a, b)?;
+    let (stays, forwards) = raced_alone(CellMemory::of(used), a, b)?;
     assert!(rt; stays);
-    assert!(rt; is_second(&cells.settle_alone(pass), a));
+    assert!(rt; is_second(&forwards, a));
 
     let used = vec![in rt.alloc(); b.to_word(); 3]?;
-    let (cells, mut zero, mut one) = two_word_passes(rt.alloc(), CellMemory::of(used))?;
-    let stays = first_word_stays(&cells, &mut zero, &mut one, a, b)?;
+    let (stays, forwards) = raced_words(rt.alloc(), CellMemory::of(used), a, b)?;
     assert!(rt; stays);
-    let forwards = settle_words(rt.alloc(), cells, zero, one)?;
     assert!(rt; is_second(&forwards, a));
     Ok(())
 }
@@ -181,20 +197,16 @@ fn cells_in_used_memory_hold_nothing(rt: HostRuntime) -> Result<(), Fail> {
 #[test]
 fn memory_that_cells_leave_serves_either_kind(rt: HostRuntime) -> Result<(), Fail> {
     let (a, b) = (Place::small(1, 2), Place::large(0));
-    let (cells, mut zero, mut one) = two_word_passes(rt.alloc(), CellMemory::none(rt.alloc()))?;
-    let stays = first_word_stays(&cells, &mut zero, &mut one, a, b)?;
+    let (stays, of_words) = raced_words(rt.alloc(), CellMemory::none(rt.alloc()), a, b)?;
     assert!(rt; stays);
-    let left = settle_words(rt.alloc(), cells, zero, one)?.into_memory();
+    assert!(rt; is_second(&of_words, a));
 
-    let (mut cells, mut pass) = PlainCells::alone_within(left, 2)?;
-    let stays = first_of_two_stays(&mut cells, &mut pass, b, a)?;
+    let (stays, of_plain) = raced_alone(of_words.into_memory(), b, a)?;
     assert!(rt; stays);
-    let left = cells.settle_alone(pass).into_memory();
+    assert!(rt; is_second(&of_plain, b));
 
-    let (cells, mut zero, mut one) = two_word_passes(rt.alloc(), left)?;
-    let stays = first_word_stays(&cells, &mut zero, &mut one, a, b)?;
+    let (stays, forwards) = raced_words(rt.alloc(), of_plain.into_memory(), a, b)?;
     assert!(rt; stays);
-    let forwards = settle_words(rt.alloc(), cells, zero, one)?;
     assert!(rt; is_second(&forwards, a));
     Ok(())
 }

@@ -1,5 +1,6 @@
 //! Memory that a collection by threads gave up is the next one's.
 use crate::heaps::{add_tree, heap_of, sizes_for};
+use crate::refused::trials::{MANY, outstanding};
 use crate::ways::{Way, collected};
 use collector::CellKind;
 use heap::Heap;
@@ -9,9 +10,6 @@ use std::process::Abort;
 use std::sync::Wait;
 use std::test::Fail;
 use std::thread::Threads;
-
-/// No request is refused.
-const NONE: u64 = u64::MAX;
 
 /// How many requests for memory a collection by two threads takes.
 fn asked<'a, R: Threads + Wait + Sync + AllocGlobal>(
@@ -51,8 +49,8 @@ fn assert_used_by_new<R: Threads + Wait + Sync + AllocGlobal + Abort>(
 
 #[test]
 fn blocks_given_up_are_dealt_to_threads(rt: HostRuntime) -> Result<(), Fail> {
-    let refusing = Refusing::new(rt.alloc(), NONE);
+    let refusing = Refusing::new(rt.alloc(), MANY);
     assert_used_by_new(&rt, &refusing)?;
-    assert_eq!(&rt; refusing.asked(), refusing.returned());
+    assert_eq!(&rt; outstanding(&refusing), 0);
     Ok(())
 }

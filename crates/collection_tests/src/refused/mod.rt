@@ -8,4 +8,4 @@ mod memory;
 #[cfg(test)]
 pub(crate) mod shared_tree;
 #[cfg(test)]
-mod trials;
+pub(crate) mod trials;

@@ -34,6 +34,7 @@ pub(crate) struct RenamedField {
 
 /// Where the object at a place stands after a collection of the generations 0 to `g`, of which `places` has the new
 /// place of each number.
+#[inline(always)]
 fn place_after<A: Allocator + Clone>(
     objects: &HeapObjects<A>,
     numbering: &Numbering<A>,
@@ -72,7 +73,7 @@ pub(crate) fn renamed_roots<A: Allocator + Clone>(
     ensures { IfOk result (λ renamed. (f : ℕ → ℕ) → Moves objects.now g places.now f
         → map root_pair renamed.items ≡ roots_by f (map slot_value slots.now)) }
 {
-    let mut roots = Vec::new(alloc);
+    let mut roots = Vec::with_capacity(alloc, slots.len())?;
     for slot in slots {
         if let Slot::Root { root, target } = slot {
             roots.push(RenamedRoot {

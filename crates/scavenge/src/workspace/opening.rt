@@ -20,7 +20,7 @@ pub(crate) fn every_target<A: Allocator>(
     ensures { IfOk result
         (λ targets. map place_word targets.items ≡ every n t 0 (map target_of_slot (map slot_value slots.now))) }
 {
-    let mut targets = Vec::new(alloc);
+    let mut targets = Vec::with_capacity(alloc, slots.len() / n as usize + 1)?;
     for i in 0..slots.len() {
         if i % n as usize != t as usize {
             continue;

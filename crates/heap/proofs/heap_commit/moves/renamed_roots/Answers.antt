@@ -18,7 +18,7 @@ abbrev pushed_root : ℕ → Place → RenamedRoot
 pushed_root number place = record { number = number; place = place }
 
 pub loop-slot-init : goal.loop-slot-init
-loop-slot-init g c = λ f moves. ap (map root_pair) c.new-roots.ensures.items
+loop-slot-init g c = λ f moves. ap (map root_pair) c.in_ok-roots.ensures.items
 
 pub place_after-requires-clause-there : goal.place_after-requires-clause-there
 place_after-requires-clause-there g c =
