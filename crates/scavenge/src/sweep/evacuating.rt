@@ -5,9 +5,8 @@ ghost use Rattle.model.specs.Graph.{IsClosed, object_at};
 ghost use Rattle.layout.specs.Place.{place_word, small_word};
 ghost use Rattle.block_pool.specs.ClaimsValue.{SeatValue};
 ghost use Rattle.forwarding.specs.KeepsPasses.{KeepsPasses};
-ghost use Rattle.heap.specs.CollectionValue.{young_names, IsOpened};
+ghost use Rattle.heap.specs.CollectionValue.{young_names};
 ghost use Rattle.heap.specs.NamesArePlaces.{NamesArePlaces};
-ghost use Rattle.heap.specs.Found.{IsFound};
 ghost use Rattle.heap.specs.Words.{LiesIn};
 ghost use Rattle.workers.specs.Setting.{is_large_name};
 ghost use Rattle.workers.specs.Worker.{Nothing};
@@ -23,7 +22,7 @@ use crate::looking::forwarded_place;
 use crate::sweep::sweep::Sweep;
 use block_pool::Block;
 use forwarding::Cells;
-use heap::{Collection, Found, FoundSmall, Heap};
+use heap::{Collection, FoundSmall, Heap};
 use layout::{Place, SmallPlace};
 use std::alloc::Allocator;
 
@@ -39,20 +38,6 @@ fn slot_in<A: Allocator + Clone>(sweep: &Sweep<A>, heap: &Heap<A>) -> Option<Opt
 {
     let _ = heap;
     sweep.current()
-}
-
-/// What stands at the place of a large object, which few slots lead to: by a call, so that a sweep's loop has the registers.
-#[cold]
-fn large_there<'a, A: Allocator + Clone>(
-    heap: &'a Heap<A>,
-    collection: &Collection<A>,
-    name: Place,
-) -> Found<'a>
-    requires opened { IsOpened heap.now collection.now.generation collection.now }
-    requires there { IsSome (object_at heap.now.graph (place_word name)) }
-    ensures { IsFound heap.now collection.now (place_word name) result }
-{
-    heap.find_there(collection, name)
 }
 
 impl<A: Allocator + Clone> Sweep<A> {
@@ -81,7 +66,7 @@ impl<A: Allocator + Clone> Sweep<A> {
             (C.known pass.new) seat seat self.old self.new }
         ensures proposal { self.new.worker.proposal ≡ None }
     {
-        let found = large_there(heap, collection, name);
+        let found = heap.find_there(collection, name);
         let Some(number) = found.number else {
             self.finish(Some(name));
             return Evacuated::Looked;
