@@ -451,7 +451,7 @@ impl<A: Allocator + Clone> HeapObjects<A> {
 
     /// Puts blocks in the place of all small objects of generation at most `generation`. The large ones of them that have a new place
     /// go to their destinations, and the others are gone. Memory that isn't needed any more is kept with `spare` for the next
-    /// collection: that of as many blocks at most as are in use then. Where memory runs out nothing changes.
+    /// collection: that of as many blocks at most as are in use then, and a quarter more. Where memory runs out nothing changes.
     pub fn replace(
         &mut self,
         alloc: A,

@@ -27,3 +27,5 @@ mod AtOnce
 pub mod Swept
 pub mod CursorLemmas
 pub mod CopyRaces
+mod Goings
+mod SweepRoom

@@ -1,5 +1,5 @@
 -- Where a sweep stands in a block, and where objects go.
-use Rattle.std.specs.Prelude.{◌≡◌, Some, length, slice_get}
+use Rattle.std.specs.Prelude.{◌≡◌, ℕ, Some, length, slice_get}
 use Rattle.model.specs.Destination.{Shape, dest}
 use Rattle.layout.specs.Object.{Raw}
 use Rattle.block_pool.specs.BlockValue.{BlockValue, offset_of}
@@ -18,3 +18,7 @@ pub record StandsAt (block : BlockValue) (cursor : Cursor) : Type 0 where
 -- to that destination the small objects go that stand in that generation and step
 abbrev pub IsGoing : Shape → Going → Type 0
 IsGoing shape going = going.to ≡ destination_number shape (dest shape (step_pair going.from))
+
+-- wherever small objects stand, they go to that destination
+abbrev pub AllGo : Shape → ℕ → Type 0
+AllGo shape d = (at : ℕ × ℕ) → destination_number shape (dest shape at) ≡ d

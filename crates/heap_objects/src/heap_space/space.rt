@@ -439,13 +439,14 @@ impl<A: Allocator + Clone> Space<A> {
         self.spare.keep_lists(lists);
     }
 
-    /// Keeps memory for the next collection: of its spare blocks at most as many as are in use, and that of these cells if it is
-    /// no more than the memory of the blocks in use.
+    /// Keeps memory for the next collection: of its spare blocks at most as many as are in use and a quarter more, since threads are
+    /// dealt equal shares of them and don't need as many, and that of these cells if it is no more than the memory of the blocks
+    /// in use.
     pub fn keep_spare(&mut self, cells: CellMemory<A>)
         ensures { self.new ≡ self.old }
     {
         let used = self.config.blocks() - self.pool.free_count();
-        self.spare.keep_blocks(used);
+        self.spare.keep_blocks(used + used / 4);
         self.spare
             .keep_cells(cells, used * self.config.block_words());
     }

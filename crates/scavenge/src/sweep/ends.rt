@@ -1,25 +1,27 @@
 //! How a sweep begins and ends.
-ghost use Rattle.std.specs.Prelude.{◌≡◌, ◌<◌, None, length, IsSome, IfOk, IfErr};
+ghost use Rattle.std.specs.Prelude.{◌≡◌, ◌<◌, ◌≤◌, None, length, IsSome, IfOk, IfErr};
 ghost use Rattle.block_pool.specs.BlockValue.{BlockValue};
 ghost use Rattle.workers.specs.Joined.{OnSome};
 ghost use Rattle.scavenge.specs.Shown.{held_in};
 
 use crate::sweep::cursor::cursor_of;
-use crate::sweep::going::going_from;
+use crate::sweep::going::{going_from, has_one_destination};
 use crate::sweep::sweep::Sweep;
 use crate::workspace::{Hand, Workspace};
 use std::alloc::Allocator;
 use steps::{Config, StepId};
 
-/// The number of the destination whose copies stand in the block that is held in hand, where one is that has something unscanned.
-fn held_for<A: Allocator>(hand: &Hand<A>, config: Config) -> Option<usize>
+/// The number of the destination whose copies stand in the block that is held in hand, where one is that has something
+/// unscanned, and no more objects than so many.
+fn held_for<A: Allocator>(hand: &Hand<A>, config: Config, most: usize) -> Option<usize>
     ensures held { IsSome result → IsSome (held_in hand.now) }
     ensures unscanned { IsSome result → OnSome (λ (b : BlockValue). b.front < length b.objects) (held_in hand.now) }
+    ensures few { IsSome result → OnSome (λ (b : BlockValue). length b.objects ≤ most) (held_in hand.now) }
 {
     let Hand::Holding(block) = hand else {
         return None;
     };
-    if block.front() >= block.len() {
+    if block.front() >= block.len() || block.len() > most {
         return None;
     }
     Some(config.dest_number(StepId {
@@ -30,7 +32,7 @@ fn held_for<A: Allocator>(hand: &Hand<A>, config: Config) -> Option<usize>
 
 impl<A: Allocator> Workspace<A> {
     /// Opens the workspace for a sweep over the block in hand, which copies into the block for the same destination, with room
-    /// for what one block brings. `Err` gives it back: the start list isn't finished, something is proposed, no block is held in
+    /// for what the two bring. `Err` gives it back: the start list isn't finished, something is proposed, no block is held in
     /// hand with something unscanned, there is none to copy into, or memory ran out.
     #[inline(always)]
     pub fn opened(mut self) -> Result<Sweep<A>, Workspace<A>>
@@ -41,9 +43,13 @@ impl<A: Allocator> Workspace<A> {
         if self.reserve_sweep().is_err() {
             return Err(self);
         }
-        let Some(destination) = held_for(&self.hand, self.config) else {
+        let room = self.scanned.capacity() - self.scanned.len();
+        let Some(destination) = held_for(&self.hand, self.config, room) else {
             return Err(self);
         };
+        if self.won.capacity() - self.won.len() - self.won_room < self.config.block_words() {
+            return Err(self);
+        }
         if self.started < self.starts.len() || self.proposed.is_some() {
             return Err(self);
         }
@@ -77,6 +83,7 @@ impl<A: Allocator> Workspace<A> {
         let Some(into) = allocation.take(destination) else {
             unreachable!();
         };
+        let is_only = destination == 0 && has_one_destination(config);
         let cursor = cursor_of(&held);
         let going = going_from(
             config,
@@ -96,6 +103,7 @@ impl<A: Allocator> Workspace<A> {
             going,
             into,
             destination,
+            is_only,
             allocation,
             aside,
             spare,
@@ -129,6 +137,7 @@ impl<A: Allocator> Sweep<A> {
             going: _,
             into,
             destination,
+            is_only: _,
             mut allocation,
             aside,
             spare,

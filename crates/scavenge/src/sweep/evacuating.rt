@@ -134,9 +134,7 @@ impl<A: Allocator + Clone> Sweep<A> {
             self.finish(Some(shown));
             return Evacuated::Looked;
         }
-        let d = self.goes_to(heap, at, from);
-        let offset = at.offset as usize;
-        if !self.race(cells, pass, number, name, block, offset, d) {
+        if !self.race(heap, cells, pass, number, at, from, block) {
             return Evacuated::Left;
         }
         Evacuated::Raced

@@ -1,17 +1,10 @@
 //! Where the objects of a generation and step go, remembered from one copy to the next.
-ghost use Rattle.std.specs.Prelude.{◌≡◌, Some};
-ghost use Rattle.std.specs.Option.{option_map};
-ghost use Rattle.model.specs.Graph.{object_at};
-ghost use Rattle.layout.specs.Place.{small_word};
-ghost use Rattle.heap.specs.StepPairs.{step_pair, stands_at};
-ghost use Rattle.workers.specs.Setting.{destination_of};
-ghost use Rattle.scavenge.specs.Slots.{objects_of};
-ghost use Rattle.scavenge.specs.Cursors.{IsGoing};
+ghost use Rattle.std.specs.Prelude.{◌≡◌, ◌↔◌, true, IsTrue};
+ghost use Rattle.model.specs.Destination.{dest};
+ghost use Rattle.heap.specs.StepPairs.{step_pair};
+ghost use Rattle.workers.specs.Setting.{destination_number};
+ghost use Rattle.scavenge.specs.Cursors.{IsGoing, AllGo};
 
-use crate::sweep::sweep::Sweep;
-use heap::Heap;
-use layout::SmallPlace;
-use std::alloc::Allocator;
 use steps::{Config, StepId};
 
 /// A generation and step, and the number of the destination to which the small objects go that stand there.
@@ -33,6 +26,17 @@ pub fn going_from(config: Config, from: StepId) -> Going
     }
 }
 
+/// Whether small objects go to destination 0 wherever they stand: in a heap of one generation, or of two with one step.
+pub fn has_one_destination(config: Config) -> bool
+    ensures { result ≡ true → AllGo config.shape 0 }
+{
+    match config.generations() {
+        1 => true,
+        2 => config.steps() == 1,
+        _ => false,
+    }
+}
+
 /// Where the small objects of a generation and step go, by what is known of the last ones.
 #[inline(always)]
 fn going_after(last: Going, config: Config, from: StepId) -> Going
@@ -46,19 +50,24 @@ fn going_after(last: Going, config: Config, from: StepId) -> Going
     going_from(config, from)
 }
 
-impl<A: Allocator + Clone> Sweep<A> {
-    /// The number of the destination to which the small object at that place goes, which stands there.
-    #[inline(always)]
-    pub fn goes_to(&mut self, heap: &Heap<A>, at: SmallPlace, from: StepId) -> usize
-        requires config { self.old.config ≡ heap.now.config }
-        requires stands { Some (step_pair from) ≡
-            option_map stands_at (object_at heap.now.graph (small_word at.block at.offset)) }
-        ensures same { self.new ≡ self.old }
-        ensures goes { result ≡ destination_of (objects_of heap.now) (small_word at.block at.offset) }
-    {
-        let _ = heap;
-        let _ = at;
-        self.going = going_after(self.going, self.config, from);
-        self.going.to
+/// Whether the small objects that stand in that generation and step go to this destination, by what is known of the last ones.
+#[inline(always)]
+pub fn goes_into(
+    going: &mut Going,
+    config: Config,
+    from: StepId,
+    destination: usize,
+    is_only: bool,
+) -> bool
+    requires going { IsGoing config.shape going.old }
+    requires only { is_only ≡ true → AllGo config.shape destination }
+    ensures going { IsGoing config.shape going.new }
+    ensures goes { IsTrue result ↔
+        (destination_number config.shape (dest config.shape (step_pair from)) ≡ destination) }
+{
+    if is_only {
+        return true;
     }
+    *going = going_after(*going, config, from);
+    going.to == destination
 }

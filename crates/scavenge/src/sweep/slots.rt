@@ -40,7 +40,7 @@ impl<A: Allocator> Sweep<A> {
         write_at(&mut self.held, self.cursor, i, word_of(value));
     }
 
-    /// The current object is scanned, where another is unscanned behind it and there is room to note it: tells whether it is.
+    /// The current object is scanned, where another is unscanned behind it: tells whether it is.
     #[inline(always)]
     pub fn scan_to_next(&mut self) -> bool
         requires hand { CanPass self.old.worker self.old.worker.hand }
@@ -48,9 +48,6 @@ impl<A: Allocator> Sweep<A> {
         ensures none { result ≡ false → self.new ≡ self.old }
         ensures proposal { self.new.worker.proposal ≡ None }
     {
-        if self.scanned.len() >= self.scanned.capacity() {
-            return false;
-        }
         if self.held.len() - self.held.front() < 2 {
             return false;
         }

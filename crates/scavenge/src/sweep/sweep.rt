@@ -29,6 +29,8 @@ pub struct Sweep<A: Allocator = Global> {
     /// The block that is copied into, and the number of its destination. The others have theirs in `allocation`.
     pub(crate) into: Block<A>,
     pub(crate) destination: usize,
+    /// Whether it is known to be the only one, so that none has to be asked for.
+    pub(crate) is_only: bool,
     pub(crate) allocation: AllocationBlocks<A>,
     pub(crate) aside: VecDeque<Block<A>, A>,
     pub(crate) spare: bool,
@@ -44,14 +46,15 @@ pub struct Sweep<A: Allocator = Global> {
 }
 
 impl<A: Allocator> Model for Sweep<A> {
-    ghost use Rattle.std.specs.Prelude.{Some, None, ◌<◌, ◌≤◌, All, length, map, drop, vec_len, vec_capacity};
+    ghost use Rattle.std.specs.Prelude.{Some, None, true, ◌≡◌, ◌<◌, ◌≤◌, ◌+◌, All, length, map, drop, vec_len, vec_capacity};
     ghost use Rattle.std.specs.VecDeque.{deque_len, deque_capacity};
+    ghost use Rattle.block_pool.specs.BlockValue.{used_of};
     ghost use Rattle.steps.specs.ReportValue.{renaming_of};
     ghost use Rattle.steps.specs.ReportView.{won_value};
     ghost use Rattle.workers.specs.Worker.{Holding};
     ghost use Rattle.scavenge.specs.Named.{named};
     ghost use Rattle.scavenge.specs.Swept.{with_block};
-    ghost use Rattle.scavenge.specs.Cursors.{StandsAt, IsGoing};
+    ghost use Rattle.scavenge.specs.Cursors.{StandsAt, IsGoing, AllGo};
     ghost use Rattle.scavenge.specs.Shown.{WorkspaceValue, slots_of, blocks_of, words_of, packed_words, AreNoted, AreMade, HasRoom};
 
     ghost Value = { WorkspaceValue };
@@ -85,5 +88,8 @@ impl<A: Allocator> Model for Sweep<A> {
         × (s.destination < length s.allocation)
         × (length s.starts.items ≤ s.started)
         × StandsAt s.held s.cursor
-        × IsGoing s.config.shape s.going };
+        × IsGoing s.config.shape s.going
+        × (vec_len s.won + s.won_room + s.into.words ≤ vec_capacity s.won + used_of s.into)
+        × (vec_len s.scanned + length s.held.objects ≤ vec_capacity s.scanned + s.held.front)
+        × (s.is_only ≡ true → AllGo s.config.shape s.destination) };
 }

@@ -9,9 +9,9 @@ const NO_BLOCK: u16 = 65535;
 /// A place in four bytes, for lists that have an entry for each live object.
 #[derive(Clone, Copy, Debug, PartialEq, Eq)]
 pub struct PackedPlace {
-    block: u16,
     // The offset in the block, or the number of the large object.
     rest: u16,
+    block: u16,
     pub ghost offset_in_range: { block ≢ 65535 → rest < 512 },
     pub ghost number_in_range: { block ≡ 65535 → rest < 65535 },
 }

@@ -1,15 +1,13 @@
-use Rattle.std.proofs.Common.{◌≡◌, true, Some, None, sym, ap, subst, ◌∙◌}
+use Rattle.std.proofs.Common.{◌≡◌, true, Some, None, refl, sym, ap, subst, ◌∙◌}
 use Rattle.std.specs.Prelude.{is_some}
 use Rattle.std.specs.Option.{option_map}
 use Rattle.model.specs.Graph.{object_at}
-use Rattle.layout.specs.Object.{raw_size}
 use Rattle.layout.specs.Place.{place_word, small_word}
 use Rattle.heap.specs.StepPairs.{step_pair}
-use Rattle.workers.specs.Setting.{is_collected}
-use Rattle.workers.specs.Worker.{allocation_at}
-use Rattle.workers.specs.WorkerSteps.{current_slot, after_race}
-use Rattle.scavenge.specs.Shown.{WorkspaceValue, IsBid, name_of, has_place_for, with_copy_proposed}
-use Rattle.scavenge.specs.Told.{Tells, lost_of}
+use Rattle.workers.specs.Setting.{is_collected, destination_of}
+use Rattle.workers.specs.WorkerSteps.{current_slot}
+use Rattle.scavenge.specs.Shown.{WorkspaceValue, name_of, with_copy_proposed}
+use Rattle.scavenge.specs.Told.{Tells}
 use Rattle.scavenge.specs.Slots.{seen, objects_of}
 use Rattle.scavenge.specs.Evacuates.{ProposesThere}
 use Rattle.scavenge.proofs.Empty.{numbered_in, collected, looks_none}
@@ -20,7 +18,7 @@ pub returns-clause-raced : goal.returns-clause-raced
 returns-clause-raced g c = λ _.
     let word = small_word c.in-Small.at.block c.in-Small.at.offset in
     let there = c.find_small-number.ensures in
-    let d = c.goes_to-d.result in
+    let d = destination_of (objects_of c.args.heap.now) word in
     let found = numbered_in c.args.heap.now c.args.collection.now word c.in-Small.at.offset c.find_small-number.result.block.now (step_pair c.find_small-number.result.at) c.find_small-number.result.number c.in-Some-number.number c.in-Some-number.is there in
     let small = small_there c.args.heap.now c.args.collection.now word c.in-Small.at.offset c.find_small-number.result.block.now (step_pair c.find_small-number.result.at) c.find_small-number.result.number there in
     let young : is_collected (seen c.args.heap.now c.args.collection.now) word ≡ true = collected c.args.heap.now c.args.collection.now word found.0 in
@@ -30,12 +28,11 @@ returns-clause-raced g c = λ _.
     record { number = c.in-Some-number.number; of = record { in_range = found.1.in_range; is = found.1.is }; given = c.in_default-look.ensures.exact; learns = c.in_default-look.ensures.known }
     in
     let l = lies (object_at c.args.heap.now.graph word) c.in-Small.at.offset c.find_small-number.result.block.now (lies_there c.args.heap.now c.args.collection.now word c.in-Small.at.offset c.find_small-number.result.block.now (step_pair c.find_small-number.result.at) c.find_small-number.result.number there).0 in
-    let same : c.goes_to-d.new.self ≡ c.args.self.now = c.goes_to-d.ensures.same in
-    let fits = subst (λ (w : WorkspaceValue). has_place_for w.config.block_words (raw_size l.0) (allocation_at w.worker d) ≡ true) same (c.race.ensures.fits c.if-not-race.false l.0 l.1.0) in
+    let fits = c.race.ensures.fits c.if-not-race.false l.0 l.1.0 in
     let r = c.race.ensures.raced c.if-not-race.false l.0 l.1.0 in
     let proposing : WorkspaceValue = record c.args.self.now { worker = with_copy_proposed c.args.self.now.worker word l.0 d } in
     let p : ProposesThere (objects_of c.args.heap.now) word c.args.self.now proposing =
-    proposes_there c.args.heap.now c.args.self.now word d l.0 c.requires.open.config l.1.1 small c.goes_to-d.ensures.goes fits in
+    proposes_there c.args.heap.now c.args.self.now word d l.0 c.requires.open.config l.1.1 small refl fits in
     record {
       between = c.look.new.pass;
       proposing = proposing;
@@ -46,7 +43,7 @@ returns-clause-raced g c = λ _.
       races = record {
         outcome = r.outcome;
         bid = r.bid;
-        fits = subst (λ (w : WorkspaceValue). IsBid w.claim (with_copy_proposed w.worker word l.0 d).proposal r.bid) same r.fits;
+        fits = r.fits;
         ends = record {
           number = c.in-Some-number.number;
           of = record { in_range = found.1.in_range; is = found.1.is ∙ sym (ap (λ (v : WorkspaceValue). name_of v.worker.proposal) p.worker) };
@@ -54,6 +51,6 @@ returns-clause-raced g c = λ _.
           learns = r.learns;
           won = r.won;
         };
-        worker = subst (λ (w : WorkspaceValue). (let x : WorkspaceValue = record w { worker = after_race (with_copy_proposed w.worker word l.0 d) (lost_of (with_copy_proposed w.worker word l.0 d).proposal r.outcome) } in c.race.new.self ≡ x)) same r.worker;
+        worker = r.worker;
       };
     }

@@ -1,4 +1,5 @@
-use Rattle.std.proofs.Common.{◌≡◌, ◌<◌, [], length, drop, Some, refl, sym, ap, subst, ◌∙◌}
+use Rattle.std.proofs.Common.{◌≡◌, ◌<◌, [], length, drop, Some, refl, sym, ap, subst, ◌∙◌, arith}
+use Rattle.std.proofs.lemmas.List.{length-set}
 use Rattle.std.specs.Option.{option_map}
 use Rattle.layout.specs.Object.{Raw}
 use Rattle.layout.specs.Place.{place_word}
@@ -36,6 +37,11 @@ invariant_of-self g c =
       c.self.invariant.5,
       c.write_at.ensures.stands,
       c.self.invariant.7,
+      c.self.invariant.8,
+      (let front = ap (λ (b : BlockValue). b.front) is in
+          let many = ap (λ (b : BlockValue). length b.objects) is ∙ length-set c.self.inside.held.objects c.self.inside.held.front _ in
+          omega (arith, c.self.invariant.9, front, many)),
+      c.self.invariant.10,
     )
 
 pub returns-clause-finished : goal.returns-clause-finished

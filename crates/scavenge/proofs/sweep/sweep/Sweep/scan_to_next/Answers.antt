@@ -13,7 +13,7 @@ returns-clause-some g c = λ _.
     let n = c.self.invariant.0.in_hand in
     let lt : c.self.inside.held.front < length c.self.inside.held.objects = held_passing c.self.view_is c.self.inside.config.shape c.self.inside.held refl n c.requires.hand in
     let k = front_standing c.self.inside.config.shape c.self.inside.held n lt in
-    let test : nat_lt (c.self.inside.held.front + 1) (length c.self.inside.held.objects) ≡ true = lt-ltb _ _ (omega (arith, c.if-len-front-lt2.false, c.len-2.ensures.value, c.front.ensures.value)) in
+    let test : nat_lt (c.self.inside.held.front + 1) (length c.self.inside.held.objects) ≡ true = lt-ltb _ _ (omega (arith, c.if-len-front-lt2.false, c.len.ensures.value, c.front.ensures.value)) in
     let more = unscanned_named c.self.inside.config.shape (passed c.self.inside.held) (passed_noted c.self.inside.held n lt) ∙ test in
     scan_held_done c.self.view_is _ _ _ _ _ (named c.self.inside.config.shape c.self.inside.held) k.copy refl k.is true more refl
     (ap (λ (b : BlockValue). Holding (named c.self.inside.config.shape b)) c.pass_front-place.ensures.block)

@@ -1,10 +1,13 @@
-use Rattle.std.proofs.Common.{◌≡◌, ◌<◌, length, Some, None, refl, sym, ap, subst, ◌∙◌, arith}
+use Rattle.std.proofs.Common.{◌≡◌, ◌<◌, ◌≤◌, ◌-◌, true, length, Some, None, refl, sym, ap, subst, ◌∙◌, arith}
+use Rattle.std.proofs.lemmas.Bool.{eqb-true}
 use Rattle.block_pool.specs.BlockValue.{BlockValue}
 use Rattle.workers.specs.Joined.{OnSome}
 use Rattle.scavenge.specs.Fronts.{slot_at}
-use Rattle.scavenge.specs.Shown.{AreNoted, AreMade, held_in}
+use Rattle.scavenge.specs.Cursors.{AllGo}
+use Rattle.scavenge.specs.Shown.{AreNoted, AreMade, IsMade, held_in}
 use Rattle.scavenge.specs.Swept.{with_block}
 use Rattle.scavenge.proofs.Swept.{held_is, some_is, none_is, there_below, put_back, length-put}
+use Rattle.scavenge.proofs.workspace.workspace.Workspace.opened.Goals.{then-destination-eq0, else-destination-eq0}
 use Rattle.scavenge.proofs.workspace.workspace.Workspace.opened.Goals as goal
 
 pub unreachable-requires : goal.unreachable-requires
@@ -33,6 +36,12 @@ invariant_of-result g c =
     let same : with_block c.take.new.self c.in-Some.destination c.in-Some-take.into ≡ c.self.inside.allocation = ap (λ xs. with_block xs c.in-Some.destination c.in-Some-take.into) c.take.ensures.table ∙ put_back c.self.inside.allocation c.in-Some.destination c.in-Some-take.into there in
     let none = none_is c.self.inside.proposed (sym c.is_some.ensures ∙ c.if-is_some.false) in
     let short = length-put c.self.inside.allocation c.in-Some.destination None in
+    let made = subst (OnSome (IsMade c.self.inside.config)) there (c.self.invariant.1.in_slots c.in-Some.destination) in
+    let few : length c.in-Holding.held.objects ≤ c.capacity.result - c.len.result = subst (λ h. OnSome (λ (b : BlockValue). length b.objects ≤ c.capacity.result - c.len.result) (held_in h)) c.in-Holding.is (c.in-Some.ensures.few refl) in
+    let only : c.if-destination-eq0.is_only ≡ true → AllGo c.self.inside.config.shape c.in-Some.destination = elim c.if-destination-eq0.branch [
+      | then-destination-eq0 w ↦ λ is. subst (AllGo c.self.inside.config.shape) (sym w.if-destination-eq0.true) (w.has_one_destination-is_only.ensures (sym w.is_only-is ∙ is))
+      | else-destination-eq0 w ↦ λ is. absurd (w.if-destination-eq0.false (eqb-true _ _ (sym w.is_only-is ∙ is)))
+    ] in
     rw same (
       subst (AreNoted c.self.inside.allocation c.self.inside.aside.items c.self.inside.done.items (Some c.in-Holding.held)) none
           (subst (λ h. AreNoted c.self.inside.allocation c.self.inside.aside.items c.self.inside.done.items (held_in h) c.self.inside.proposed) c.in-Holding.is c.self.invariant.0),
@@ -43,6 +52,9 @@ invariant_of-result g c =
       omega (arith, c.if-self-len.false, c.len.ensures),
       c.cursor_of-cursor.ensures,
       c.going_from-going.ensures.going,
+      omega (arith, made.words, c.if-capacity-len.false, c.capacity-2.ensures, c.len-2.ensures, c.block_words.ensures.value, c.self.invariant.2.in_won),
+      omega (arith, few, c.capacity.ensures, c.len.ensures),
+      only,
     )
 
 pub returns-clause-ok : goal.returns-clause-ok
