@@ -29,3 +29,4 @@ pub mod CursorLemmas
 pub mod CopyRaces
 mod Goings
 mod SweepRoom
+mod SweepLeft

@@ -58,10 +58,14 @@ pub none_is : {T : Type 0} (o : Option T) → is_some o ≡ false → o ≡ None
 none_is None none = refl
 none_is (Some x) none = absurd (cc)
 
+-- the current slot is one of the block's first unscanned copy
+pub field_held : {V N : WorkspaceValue} → V ≡ N → (shape : Shape) (b : BlockValue) → V.worker.starts ≡ [] → V.worker.hand ≡ Holding (named shape b) → CanFinish N.worker N.worker.starts → HasField V.worker.fields (Some (named shape b))
+field_held {V = V} same shape b s h k = subst (CanWrite V.worker) h (subst (CanFinish V.worker) s (subst (λ (v : WorkspaceValue). CanFinish v.worker v.worker.starts) (sym same) k))
+
 -- the object of the current slot
 pub behind_held : {V N : WorkspaceValue} → V ≡ N → (shape : Shape) (b : BlockValue) → V.worker.starts ≡ [] → V.worker.hand ≡ Holding (named shape b) → CanFinish N.worker N.worker.starts → Behind b V.worker.fields
 behind_held {V = V} same shape b s h k =
-    let f : HasField V.worker.fields (Some (named shape b)) = subst (CanWrite V.worker) h (subst (CanFinish V.worker) s (subst (λ (v : WorkspaceValue). CanFinish v.worker v.worker.starts) (sym same) k)) in
+    let f : HasField V.worker.fields (Some (named shape b)) = field_held same shape b s h k in
     behind shape b V.worker.fields f.0 f.1 f.2
 
 -- what is proposed stands at the end of the block that is copied into

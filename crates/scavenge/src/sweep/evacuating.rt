@@ -1,5 +1,5 @@
 //! The current slot's object is evacuated in a sweep: looked at, and copied and raced for at once.
-ghost use Rattle.std.specs.Prelude.{◌≡◌, ◌≤◌, ◌≢◌, ◌⊎◌, [], Some, None, IsSome, IsSomeAnd, if◌then◌else◌};
+ghost use Rattle.std.specs.Prelude.{◌≡◌, ◌<◌, ◌≤◌, ◌≢◌, ◌⊎◌, [], Some, None, IsSome, IsSomeAnd, if◌then◌else◌};
 ghost use Rattle.std.specs.Option.{option_map};
 ghost use Rattle.model.specs.Graph.{IsClosed, object_at};
 ghost use Rattle.layout.specs.Place.{place_word, small_word};
@@ -15,6 +15,7 @@ ghost use Rattle.workers.specs.Ready.{IsUntouched};
 ghost use Rattle.scavenge.specs.Slots.{seen, objects_of, Looks};
 ghost use Rattle.scavenge.specs.MayStep.{IsOpenFor, MayLook, OnlyLooks};
 ghost use Rattle.scavenge.specs.Evacuates.{LooksAndRaces};
+ghost use Rattle.scavenge.specs.Swept.{left_in_hand};
 ghost use Rattle.scavenge.specs.declared.evacuating.Evacuated.TheVariants.{Left, NoSlot, Looked, Raced};
 
 use crate::evacuating::Evacuated;
@@ -64,6 +65,7 @@ impl<A: Allocator + Clone> Sweep<A> {
         ensures looked { result ≡ Looked → (seat : SeatValue) →
             Looks heap.now collection.now (C.look_gives cells.old) (C.known pass.old)
             (C.known pass.new) seat seat self.old self.new }
+        ensures less { result ≡ Looked → left_in_hand self.new.worker < left_in_hand self.old.worker }
         ensures proposal { self.new.worker.proposal ≡ None }
     {
         let found = heap.find_there(collection, name);
@@ -109,6 +111,7 @@ impl<A: Allocator + Clone> Sweep<A> {
             LooksAndRaces heap.now collection.now (C.fits cells.old) C.known C.won (C.look_gives cells.old)
             (λ number at outcome. C.race_gives cells.old number at outcome cells.new) pass.old pass.new self.old
             self.new }
+        ensures less { (result ≡ Looked) ⊎ (result ≡ Raced) → left_in_hand self.new.worker < left_in_hand self.old.worker }
         ensures proposal { self.new.worker.proposal ≡ None }
     {
         let Some(target) = slot_in(self, heap) else {

@@ -12,6 +12,7 @@ ghost use Rattle.workers.specs.Worker.{allocation_at};
 ghost use Rattle.workers.specs.Ready.{CanFinish};
 ghost use Rattle.scavenge.specs.Shown.{has_place_for, with_copy_proposed};
 ghost use Rattle.scavenge.specs.Slots.{objects_of};
+ghost use Rattle.scavenge.specs.Swept.{left_in_hand};
 ghost use Rattle.scavenge.specs.Told.{RacesAt};
 
 use crate::sweep::going::goes_into;
@@ -70,6 +71,7 @@ impl<A: Allocator + Clone> Sweep<A> {
               worker = with_copy_proposed self.old.worker (small_word at.block at.offset) raw
                   (destination_of (objects_of heap.now) (small_word at.block at.offset));
             }) self.new }
+        ensures less { result ≡ true → left_in_hand self.new.worker < left_in_hand self.old.worker }
         ensures proposal { self.new.worker.proposal ≡ None }
     {
         let _ = heap;

@@ -6,6 +6,7 @@ ghost use Rattle.workers.specs.Worker.{Nothing};
 ghost use Rattle.workers.specs.WorkerSteps.{after_scan, finish_slot};
 ghost use Rattle.workers.specs.Ready.{CanFinish, CanPass};
 ghost use Rattle.scavenge.specs.Shown.{CanRead, Holds, known_slot};
+ghost use Rattle.scavenge.specs.Swept.{left_in_hand};
 
 use crate::sweep::cursor::{cursor_of, pointer_at, write_at};
 use crate::sweep::sweep::Sweep;
@@ -33,6 +34,7 @@ impl<A: Allocator> Sweep<A> {
         requires few { self.old.worker.fields < 4294967296 }
         ensures finished { self.new ≡
             record self.old { worker = finish_slot (option_map place_word value) self.old.worker } }
+        ensures less { left_in_hand self.new.worker < left_in_hand self.old.worker }
         ensures proposal { self.new.worker.proposal ≡ None }
     {
         let i = self.fields;
@@ -45,6 +47,7 @@ impl<A: Allocator> Sweep<A> {
     pub fn scan_to_next(&mut self) -> bool
         requires hand { CanPass self.old.worker self.old.worker.hand }
         ensures some { result ≡ true → self.new ≡ record self.old { worker = after_scan self.old.worker } }
+        ensures less { result ≡ true → left_in_hand self.new.worker < left_in_hand self.old.worker }
         ensures none { result ≡ false → self.new ≡ self.old }
         ensures proposal { self.new.worker.proposal ≡ None }
     {

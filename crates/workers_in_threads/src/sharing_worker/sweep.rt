@@ -1,9 +1,10 @@
 //! A worker among several, opened for a sweep over the block in hand.
-ghost use Rattle.std.specs.Prelude.{◌≡◌, ◌≢◌, true, false, None, IfOk, IfErr};
+ghost use Rattle.std.specs.Prelude.{◌≡◌, ◌≢◌, ◌<◌, ◌⊎◌, true, false, None, IfOk, IfErr};
 ghost use Rattle.workers.specs.Worker.{Nothing};
 ghost use Rattle.workers.specs.WorkerSteps.{CanScan, current_slot};
 ghost use Rattle.workers.specs.WorkerRun.{Scanned};
-ghost use Rattle.scavenge.specs.declared.evacuating.Evacuated.TheVariants.{Left, NoSlot};
+ghost use Rattle.scavenge.specs.declared.evacuating.Evacuated.TheVariants.{Left, NoSlot, Looked, Raced};
+ghost use Rattle.scavenge.specs.Swept.{left_in_hand};
 ghost use Rattle.workers_in_threads.specs.SharingValue.{setting_in, worker_of};
 ghost use Rattle.workers_in_threads.specs.Sharing.{IsSame, Acts};
 
@@ -22,12 +23,12 @@ pub struct SharingSweep<'a, C: Cells, A: Allocator = Global> {
     collection: &'a Collection<A>,
     claims: &'a Claims<A>,
     queues: &'a RuledPending<Copies<A>, A>,
-    workers: u32,
     cells: C,
     pass: C::Pass,
-    draws: ClaimSeat,
     seat: PendingSeat<Copies<A>, A>,
     sweep: Sweep<A>,
+    workers: u32,
+    draws: ClaimSeat,
 }
 
 impl<'a, C: Cells, A: Allocator> Model for SharingSweep<'a, C, A> {
@@ -139,6 +140,7 @@ impl<'a, C: Cells, A: Allocator> SharingSweep<'a, C, A> {
         ensures same { IsSame C.at_home self.old self.new }
         ensures some { result ≡ true → Acts Scanned self.old self.new }
         ensures none { result ≡ false → self.new ≡ self.old }
+        ensures less { result ≡ true → left_in_hand (worker_of self.new) < left_in_hand (worker_of self.old) }
         ensures proposal { (worker_of self.new).proposal ≡ None }
     {
         self.sweep.scan_to_next()
@@ -156,6 +158,8 @@ impl<'a, C: Cells, A: Allocator + Clone> SharingSweep<'a, C, A> {
         ensures none { result ≡ NoSlot → self.new.workspace ≡ self.old.workspace }
         ensures no_slot { result ≡ NoSlot → current_slot (setting_in self.old) (worker_of self.old) ≡ None }
         ensures held { result ≡ NoSlot → (worker_of self.old).hand ≢ Nothing }
+        ensures less { (result ≡ Looked) ⊎ (result ≡ Raced) →
+            left_in_hand (worker_of self.new) < left_in_hand (worker_of self.old) }
         ensures proposal { (worker_of self.new).proposal ≡ None }
     {
         self.sweep.evacuate(self.heap, self.collection, &mut self.cells, &mut self.pass)

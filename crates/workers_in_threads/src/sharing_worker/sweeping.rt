@@ -1,5 +1,6 @@
 //! How a worker that holds a block in hand sweeps over it, in a loop that owns what it goes over.
-ghost use Rattle.std.specs.Prelude.{◌≡◌, None};
+ghost use Rattle.std.specs.Prelude.{◌≡◌, ◌<◌, true, None};
+ghost use Rattle.scavenge.specs.Swept.{left_in_hand};
 ghost use Rattle.workers_in_threads.specs.SharingValue.{worker_of};
 ghost use Rattle.workers_in_threads.specs.Sharing.{IsSame};
 
@@ -16,6 +17,7 @@ impl<'a, C: Cells, A: Allocator + Clone> SharingSweep<'a, C, A> {
     fn sweep_once(&mut self) -> bool
         requires proposal { (worker_of self.old).proposal ≡ None }
         ensures same { IsSame C.at_home self.old self.new }
+        ensures some { result ≡ true → left_in_hand (worker_of self.new) < left_in_hand (worker_of self.old) }
         ensures proposal { (worker_of self.new).proposal ≡ None }
     {
         match self.evacuate() {
@@ -29,7 +31,7 @@ impl<'a, C: Cells, A: Allocator + Clone> SharingSweep<'a, C, A> {
 impl<'a, C: Cells, A: Allocator + Clone> SharingWorker<'a, C, A> {
     /// The next steps of a worker that holds a block in hand, as far as a sweep over that block goes. There may be none: what is
     /// left is left to `scavenge`. It owns the sweep, so that blocks and lists can stay in registers, and is no part of another
-    /// function, which would want registers too. So many steps never come: a count is all that the loop takes.
+    /// function, which would want registers too.
     #[inline(never)]
     pub fn swept(self) -> Self
         ensures same { IsSame C.at_home self.entry result }
@@ -38,11 +40,7 @@ impl<'a, C: Cells, A: Allocator + Clone> SharingWorker<'a, C, A> {
             Ok(sweep) => sweep,
             Err(worker) => return worker,
         };
-        for _ in 0..u64::MAX {
-            if !sweep.sweep_once() {
-                return sweep.closed();
-            }
-        }
+        while sweep.sweep_once() {}
         sweep.closed()
     }
 }

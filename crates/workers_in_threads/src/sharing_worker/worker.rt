@@ -19,12 +19,12 @@ pub struct SharingWorker<'a, C: Cells, A: Allocator = Global> {
     pub(crate) collection: &'a Collection<A>,
     pub(crate) claims: &'a Claims<A>,
     pub(crate) queues: &'a RuledPending<Copies<A>, A>,
-    pub(crate) workers: u32,
     pub(crate) cells: C,
     pub(crate) pass: C::Pass,
-    pub(crate) draws: ClaimSeat,
     pub(crate) seat: PendingSeat<Copies<A>, A>,
     pub(crate) workspace: Workspace<A>,
+    pub(crate) workers: u32,
+    pub(crate) draws: ClaimSeat,
 }
 
 impl<'a, C: Cells, A: Allocator> Model for SharingWorker<'a, C, A> {

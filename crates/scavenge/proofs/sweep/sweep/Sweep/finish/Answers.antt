@@ -1,4 +1,4 @@
-use Rattle.std.proofs.Common.{◌≡◌, ◌<◌, [], length, drop, Some, refl, sym, ap, subst, ◌∙◌, arith}
+use Rattle.std.proofs.Common.{◌≡◌, ◌+◌, ◌<◌, [], length, drop, Some, refl, sym, ap, subst, ◌∙◌, arith}
 use Rattle.std.proofs.lemmas.List.{length-set}
 use Rattle.std.specs.Option.{option_map}
 use Rattle.layout.specs.Object.{Raw}
@@ -8,9 +8,11 @@ use Rattle.steps.specs.Words.{target_of_word}
 use Rattle.workers.specs.Block.{with_field}
 use Rattle.workers.specs.Worker.{Holding}
 use Rattle.scavenge.specs.Named.{named}
-use Rattle.scavenge.specs.Shown.{words_of, IsNoted, IsMade}
+use Rattle.scavenge.specs.Shown.{WorkspaceValue, words_of, IsNoted, IsMade}
+use Rattle.scavenge.specs.Swept.{left_in, left_in_hand}
 use Rattle.scavenge.proofs.Fields.{all_left, held_finished, value_written, Behind, named_written, noted_written}
-use Rattle.scavenge.proofs.Swept.{behind_held}
+use Rattle.scavenge.proofs.Swept.{behind_held, field_held}
+use Rattle.scavenge.proofs.SweepLeft.{left_written}
 use Rattle.scavenge.proofs.sweep.sweep.Sweep.finish.Goals as goal
 
 pub write_at-requires-clause-field : goal.write_at-requires-clause-field
@@ -54,3 +56,13 @@ returns-clause-finished g c =
     ∙ ap Holding (named_written c.self.inside.config.shape c.self.inside.held r.raw c.self.inside.fields c.word_of.result r.there ∙ ap (λ t. with_field c.self.inside.fields t (named c.self.inside.config.shape c.self.inside.held)) value))
     starts
     refl
+
+pub returns-clause-less : goal.returns-clause-less
+returns-clause-less g c =
+    let starts : drop c.self.inside.started (words_of c.self.inside.starts.items) ≡ [] = all_left place_word c.self.inside.starts.items c.self.inside.started c.self.invariant.5 in
+    let r : Behind c.self.inside.held c.self.inside.fields = behind_held c.self.view_is c.self.inside.config.shape c.self.inside.held starts refl c.requires.slot in
+    let f = field_held c.self.view_is c.self.inside.config.shape c.self.inside.held starts refl c.requires.slot in
+    let is = ap (named c.self.inside.config.shape) (c.write_at.ensures.written r.raw r.there) ∙ named_written c.self.inside.config.shape c.self.inside.held r.raw c.self.inside.fields c.word_of.result r.there in
+    let less = left_written (named c.self.inside.config.shape c.self.inside.held) c.self.inside.fields (target_of_word c.word_of.result) f.0 f.1 f.2 in
+    subst (λ b. left_in (Holding b) (c.self.inside.fields + 1) < left_in_hand c.args.self.now.worker) (sym is)
+    (subst (λ (v : WorkspaceValue). left_in (Holding (with_field c.self.inside.fields (target_of_word c.word_of.result) (named c.self.inside.config.shape c.self.inside.held))) (c.self.inside.fields + 1) < left_in_hand v.worker) c.self.view_is less)

@@ -9,13 +9,13 @@ returns-in-Err g c = record { same = same_as g.C.Cells.fits g.C.Cells.limit g.C.
 pub loop-init : goal.loop-init
 loop-init g c = record { same = same_as g.C.Cells.fits g.C.Cells.limit g.C.Cells.known g.C.Cells.won g.C.Cells.at_home _ _ c.in-Ok.ensures.ok; proposal = c.in-Ok.ensures.proposal }
 
+pub loop-smaller : goal.loop-smaller
+loop-smaller g c = c.sweep_once.ensures.some c.loop-test.true
+
 pub loop-preserved : goal.loop-preserved
 loop-preserved g c = record { same = same_both g.C.Cells.fits g.C.Cells.limit g.C.Cells.known g.C.Cells.won g.C.Cells.at_home _ _ _ c.loop.invariant.same c.sweep_once.ensures.same; proposal = c.sweep_once.ensures.proposal }
 
-pub returns-then-not-sweep_once : goal.returns-then-not-sweep_once
-returns-then-not-sweep_once g c =
+pub returns : goal.returns
+returns g c =
     let same = same_both g.C.Cells.fits g.C.Cells.limit g.C.Cells.known g.C.Cells.won g.C.Cells.at_home _ _ _ c.loop.invariant.same c.sweep_once.ensures.same in
     record { same = subst (IsSame g.C.Cells.at_home c.args.self) (sym c.closed.ensures) same }
-
-pub returns : goal.returns
-returns g c = record { same = subst (IsSame g.C.Cells.at_home c.args.self) (sym c.closed-2.ensures) c.loop.invariant.same }
