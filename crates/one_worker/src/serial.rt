@@ -17,10 +17,10 @@ pub struct SerialCollection<A: Allocator = Global> {
     pub(crate) cells: PlainCells<A>,
     pub(crate) pass: PlainPass,
     pub(crate) claims: Claims<A>,
+    pub(crate) draws: ClaimSeat,
     pub(crate) queues: PlainPending<Copies<A>, A>,
     pub(crate) seat: PlainSeat,
     pub(crate) workspace: Workspace<A>,
-    pub(crate) draws: ClaimSeat,
 }
 
 impl<A: Allocator> Model for SerialCollection<A> {

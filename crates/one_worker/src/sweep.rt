@@ -24,10 +24,10 @@ pub struct SerialSweep<A: Allocator = Global> {
     cells: PlainCells<A>,
     pass: PlainPass,
     claims: Claims<A>,
+    draws: ClaimSeat,
     queues: PlainPending<Copies<A>, A>,
     seat: PlainSeat,
     sweep: Sweep<A>,
-    draws: ClaimSeat,
 }
 
 impl<A: Allocator> Model for SerialSweep<A> {

@@ -29,8 +29,6 @@ pub struct Sweep<A: Allocator = Global> {
     /// The block that is copied into, and the number of its destination. The others have theirs in `allocation`.
     pub(crate) into: Block<A>,
     pub(crate) destination: usize,
-    /// Whether it is known to be the only one, so that none has to be asked for.
-    pub(crate) is_only: bool,
     pub(crate) allocation: AllocationBlocks<A>,
     pub(crate) aside: VecDeque<Block<A>, A>,
     pub(crate) spare: bool,
@@ -43,6 +41,8 @@ pub struct Sweep<A: Allocator = Global> {
     pub(crate) block_room: usize,
     pub(crate) names: Tag,
     pub(crate) memory: Spare<A>,
+    /// Whether it is known to be the only one, so that none has to be asked for.
+    pub(crate) is_only: bool,
 }
 
 impl<A: Allocator> Model for Sweep<A> {

@@ -26,9 +26,9 @@ pub struct SharingSweep<'a, C: Cells, A: Allocator = Global> {
     cells: C,
     pass: C::Pass,
     seat: PendingSeat<Copies<A>, A>,
-    sweep: Sweep<A>,
     workers: u32,
     draws: ClaimSeat,
+    sweep: Sweep<A>,
 }
 
 impl<'a, C: Cells, A: Allocator> Model for SharingSweep<'a, C, A> {

@@ -22,9 +22,9 @@ pub struct SharingWorker<'a, C: Cells, A: Allocator = Global> {
     pub(crate) cells: C,
     pub(crate) pass: C::Pass,
     pub(crate) seat: PendingSeat<Copies<A>, A>,
-    pub(crate) workspace: Workspace<A>,
     pub(crate) workers: u32,
     pub(crate) draws: ClaimSeat,
+    pub(crate) workspace: Workspace<A>,
 }
 
 impl<'a, C: Cells, A: Allocator> Model for SharingWorker<'a, C, A> {
