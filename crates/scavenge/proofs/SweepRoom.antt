@@ -1,5 +1,5 @@
 -- The lists of a sweep have room for what the block in hand and the one that is copied into can bring.
-use Rattle.std.proofs.Common.{◌≡◌, ℕ, ◌+◌, ◌≤◌, ◌<◌, ◌∷◌, [], length, ap, ◌∙◌, arith}
+use Rattle.std.proofs.Common.{◌≡◌, ℕ, ◌+◌, ◌≤◌, ◌<◌, ◌∷◌, [], ap, ◌∙◌, arith}
 use Rattle.std.proofs.lemmas.List.Sums.{sum_by-append, sum_by-cons}
 use Rattle.layout.specs.declared.place.Place.{Place}
 use Rattle.layout.specs.Object.{Raw, raw_size}
