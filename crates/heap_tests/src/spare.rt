@@ -190,11 +190,9 @@ fn assert_shrinks<'a>(
 ) -> Result<(), Fail> {
     let (first, _tail) = long_list(refusing, heap)?;
     let _moved = kept_after(refusing, heap)?;
-    // 128 objects fill a block: the copies take 15,625, and as many were given up, by the last collection. What was spare before
-    // may be kept beside, but no more than the blocks in use, the nursery's 64 among them, and a quarter more. Two requests
-    // make each.
+    // 128 objects fill a block: the copies take 15,625, and as many were given up. Two requests make each.
     let (spare, held) = kept_after(refusing, heap)?;
-    assert!(rt; spare >= 15_625 && spare <= 19_611);
+    assert!(rt; spare >= 15_625 && spare <= 15_625 + 64);
     assert!(rt; held >= 62_500);
     // The nursery's 64 are in use then, and eight of copies; a quarter more are kept.
     heap.release(first)?;
