@@ -7,6 +7,7 @@
 # lines carried out a second, beside what `wc -l` reads of the same file. It builds gctrace first, or takes the program that
 # GCTRACE names. Not part of the tests.
 #   run.sh                  all of it, which takes some minutes
+#   run.sh copies           the traces that are collected again and again alone
 #   run.sh live [NODES]     the large live tree alone
 #   run.sh young [OBJECTS]  the collections of little alone
 #   run.sh large            the collections of large objects alone
@@ -76,6 +77,15 @@ copies() {
     printf "%s of %d objects: %.2f million objects a second", name, objects, own
     if (other != "") printf "; plain %.2f, so %.2f of it", other, own / other
     print "" }'
+}
+
+copies_of_all() {
+  copies graph 8000 1000
+  copies tree 80000 100
+  copies tree 800000 10
+  copies mixed 80000 100
+  generations=2 copies old 80000 100
+  copies sizes 80000 100
 }
 
 # last_rate PROCESSORS PROGRAM NODES COLLECTIONS: millions of objects a second in the last collections of a trace, by when the
@@ -238,6 +248,7 @@ collections_of_little() {
 }
 
 case "${1:-}" in
+  copies) copies_of_all; exit ;;
   live) live "${2:-2000000}" 20; exit ;;
   young) collections_of_little "${2:-100000}"; exit ;;
   large) collections_of_large; exit ;;
@@ -246,10 +257,7 @@ case "${1:-}" in
   names) if [ $# -gt 1 ]; then puts "$2"; else lines_by_names; fi; exit ;;
 esac
 
-copies graph 8000 1000
-copies tree 80000 100
-copies tree 800000 10
-copies mixed 80000 100
+copies_of_all
 live 2000000 20
 collections_of_little 100000
 collections_of_large

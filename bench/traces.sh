@@ -2,6 +2,8 @@
 # Prints a trace to measure with.
 #   traces.sh graph [OBJECTS] [COLLECTIONS]   objects of 4 words that share and form cycles, all reached from one name, collected again and again
 #   traces.sh tree [NODES] [COLLECTIONS]      a binary tree of such objects, reached from its root
+#   traces.sh old [NODES] [COLLECTIONS]       the same tree of two generations, all old, collected with them
+#   traces.sh sizes [NODES] [COLLECTIONS]     such a tree whose objects have 0 to 5 words beside two pointers
 #   traces.sh mixed [NODES] [COLLECTIONS]     the same tree, laid out in random order by a name for each node, in that order
 #   traces.sh wide [OBJECTS] [COLLECTIONS]    so many such objects with a name each, that lead to two earlier ones in random order
 #   traces.sh list [OBJECTS] [COLLECTIONS]    a list of objects of one pointer and one word, reached from its end
@@ -34,6 +36,30 @@ tree() {
       if (i % 8000 == 0) print "collect 0"
       parent = int((i - 1) / 2)
       printf "new n%d 0 2 1\nput n%d 0 %d\nset n%d %d n%d\n", i, i, i, parent, (i + 1) % 2, i
+      if (i % 2 == 0 && parent > 0) printf "drop n%d\n", parent
+    }
+    for (i = int(nodes / 2); i < nodes; i++) if (i > 0) printf "drop n%d\n", i
+    for (i = 0; i < collections; i++) print "collect 0"
+    print "census"
+  }'
+}
+
+# old: each of the first three collections moves what is left of the young by a step
+old() {
+  tree "$1" 3 | sed '$d'
+  awk -v collections="$2" 'BEGIN {
+    for (i = 0; i < collections; i++) print "collect 1"
+    print "census"
+  }'
+}
+
+sizes() {
+  awk -v nodes="$1" -v collections="$2" 'BEGIN {
+    print "new n0 0 2 1"
+    for (i = 1; i < nodes; i++) {
+      if (i % 4000 == 0) print "collect 0"
+      parent = int((i - 1) / 2)
+      printf "new n%d 0 2 %d\nset n%d %d n%d\n", i, i * 7919 % 6, parent, (i + 1) % 2, i
       if (i % 2 == 0 && parent > 0) printf "drop n%d\n", parent
     }
     for (i = int(nodes / 2); i < nodes; i++) if (i > 0) printf "drop n%d\n", i
@@ -174,6 +200,8 @@ commands() {
 case "${1:-}" in
   graph) graph "${2:-8000}" "${3:-1000}" ;;
   tree) tree "${2:-80000}" "${3:-100}" ;;
+  old) old "${2:-80000}" "${3:-100}" ;;
+  sizes) sizes "${2:-80000}" "${3:-100}" ;;
   mixed) mixed "${2:-80000}" "${3:-100}" ;;
   wide) wide "${2:-500000}" "${3:-20}" ;;
   list) list "${2:-500000}" "${3:-20}" ;;
@@ -184,5 +212,5 @@ case "${1:-}" in
   empty) empty "${2:-20000}" ;;
   large) large "${2:-100001}" "${3:-1000}" ;;
   commands) commands "${2:-100}" ;;
-  *) sed -n '2,17s/^# //p' "$0" >&2; exit 2 ;;
+  *) sed -n '2,19s/^# //p' "$0" >&2; exit 2 ;;
 esac

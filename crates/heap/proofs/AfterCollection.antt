@@ -38,7 +38,7 @@ use Rattle.heap.specs.HeapView.{heap_of, heap_with}
 use Rattle.heap.specs.IsHeap.{IsHeap, AreHeapObjects}
 use Rattle.remembered_set.specs.Sets.{members_of}
 use Rattle.heap.specs.Growth.{AreGrown}
-use Rattle.heap.specs.Noted.{IsNoted, AreNoted, AreLargeNoted}
+use Rattle.heap.specs.Noted.{IsNoted, IsKeptLarge, AreAllNoted}
 use Rattle.heap.proofs.Grown.{grown_has}
 use Rattle.heap.proofs.Holding.{PointsTo, at_any, younger_from, younger_is, has_some, holder_is}
 use Rattle.heap.proofs.WithSets.{free_with, free_without}
@@ -83,8 +83,8 @@ module _ (objects objects' : ObjectsValue) (slots slots' : List (Option Place)) 
     (ended : IsEnded (heap_of objects slots) collection.generation (renaming_of (young_names (heap_of objects slots).graph collection.generation) won) (heap_of objects' slots'))
     (whole : AreHeapObjects (heap_of objects' slots'))
     (grown : AreGrown sets noted_sets)
-    (noted : AreNoted noted_sets (copies_of blocks))
-    (noted_large : AreLargeNoted noted_sets objects collection.generation places)
+    (youngest : ℕ)
+    (noted : AreAllNoted youngest noted_sets objects collection.generation places (copies_of blocks))
     (generations : length sets' ≡ length noted_sets)
     (members : (h n : ℕ) → h < length noted_sets → IsTrue (has (members_of sets' h) n) ↔ (IsTrue (has (members_of noted_sets h) n) × IsTrue (is_holder (graph_in objects') h n)))
     (once : (h : ℕ) → h < length noted_sets → IsDistinct nat_eq (members_of sets' h)) where
@@ -102,27 +102,75 @@ module _ (objects objects' : ObjectsValue) (slots slots' : List (Option Place)) 
       go None is = refl
       go (Some place) is = absurd (not (Live-young old collection.generation name (settled.renaming.only_live name place is)))
 
-  -- a large object that the collection keeps and that points to a younger one was noted
-  large_noted : (source : ℕ) (was o : Object) → Live old collection.generation source → get objects.objects source ≡ Some was → was.generation ≤ collection.generation → is_large objects.config.block_words was ≡ true → moved_to renaming (dest objects.config.shape (was.generation, was.step)) was ≡ o → PointsTo (get objects'.objects) o → o.generation < length noted_sets → has (members_of noted_sets o.generation) source ≡ true
-  large_noted source was o live there young large moved points low =
+  -- a large object that is live is kept
+  live_large : (source : ℕ) (was : Object) → Live old collection.generation source → get objects.objects source ≡ Some was → was.generation ≤ collection.generation → is_large objects.config.block_words was ≡ true → (number : ℕ) × (source ≡ large_word number) × IsKeptLarge objects collection.generation places number was
+  live_large source was live there young large =
       let placed = settled.renaming.all_live source live in
       let by = won_as (young_names old collection.generation) won source placed.0 placed.1 in
       let lt : by.number < length (young_names old collection.generation) = omega (arith, find_all (λ n. n < collection.cells) won by.number placed.0 settled.numbers by.found, settled.opened.cells) in
       let numbered : IsNumbered objects collection.generation source by.number = record { in_range = lt; is = by.is } in
       let kept = some_place (slice_index_or places by.number None) placed.0 (settled.same_places by.number ∙ by.found) in
-      let at = (sound.places source was there).large large in
+      let at = (sound.places source was there).large large in (
+        at.number,
+        at.is,
+        record {
+          there = ap (get objects.objects) (sym at.is) ∙ there;
+          young = young;
+          place = (by.number, subst (λ n. IsNumbered objects collection.generation n by.number) at.is numbered, kept);
+        },
+      )
+
+  -- nothing younger stands anywhere
+  copy_from : (name source : ℕ) (o : Object) → get objects'.objects name ≡ Some o → Live old collection.generation source → renamed renaming source ≡ name → youngest ≤ o.generation
+  copy_from name source o there live at =
+      let young = Live-young old collection.generation source live in
+      let placed = settled.renaming.all_live source live in
+      let moved = some_is (sym (ended.graph.live source young.object live young.there) ∙ ap (get objects'.objects) at ∙ there) in
+      let same : o.generation ≡ (dest objects.config.shape (young.object.generation, young.object.step)).0 = sym (ap (λ x. x.generation) moved) in
+      ⊎_elim
+      (λ large.
+      let kept = live_large source young.object live young.there young.young large in
+      omega (arith, noted.large_from kept.0 young.object kept.2, same))
+      (λ copied.
+      let stands = found_stands (copies_of blocks) placed.0 o (copied ∙ ap Some moved) in
+      let e : ℕ × Object = (placed.0, o) in
+      subst (λ x. youngest ≤ x.1.generation) (stands.is e) (noted.copies_from stands.place e stands.in_range))
+      (settled.copies source placed.0 young.object placed.1 young.there)
+
+  not_young : (name : ℕ) (o : Object) → get objects.objects name ≡ Some o → collection.generation < o.generation → renamed renaming name ≡ name
+  not_young name o is above = stays name (λ young. let same : young.object ≡ o = some_is (sym young.there ∙ is) in absurd (omega (arith, young.young, above, ap (λ x. x.generation) same)))
+
+  none_younger : (name : ℕ) (o : Object) → get objects'.objects name ≡ Some o → youngest ≤ o.generation
+  none_younger name o there =
+      let from = ended.graph.no_others name o there in
+      ⊎_elim
+      (λ live. copy_from name from.0 o there live from.2)
+      (λ older.
+      let same : from.0 ≡ name = sym (not_young from.0 older.object older.there older.older) ∙ from.2 in
+      let moved = some_is (sym (ended.graph.older from.0 older.object older older.there) ∙ ap (get objects'.objects) same ∙ there) in
+      omega (arith, noted.stays, older.older, ap (λ x. x.generation) moved))
+      from.1
+
+  -- so what points to a younger object is older than the youngest
+  is_older : (o : Object) → PointsTo (get objects'.objects) o → youngest < o.generation
+  is_older o points = omega (arith, none_younger points.target points.other points.there, points.younger)
+
+  -- a large object that the collection keeps and that points to a younger one was noted
+  large_noted : (source : ℕ) (was o : Object) → Live old collection.generation source → get objects.objects source ≡ Some was → was.generation ≤ collection.generation → is_large objects.config.block_words was ≡ true → moved_to renaming (dest objects.config.shape (was.generation, was.step)) was ≡ o → PointsTo (get objects'.objects) o → o.generation < length noted_sets → has (members_of noted_sets o.generation) source ≡ true
+  large_noted source was o live there young large moved points low =
+      let at = live_large source was live there young large in
       let same : o.generation ≡ (dest objects.config.shape (was.generation, was.step)).0 = sym (ap (λ x. x.generation) moved) in
       let from = moved_from (renamed renaming) was.pointers points.field points.target (ap (λ x. slice_get x.pointers points.field) moved ∙ points.pointer) in
       let some = at_any is_some was.pointers points.field (Some from.0) from.1 refl in
-      let member = noted_large at.number was by.number (ap (get objects.objects) (sym at.is) ∙ there) young (subst (λ n. IsNumbered objects collection.generation n by.number) at.is numbered) kept (omega (arith, same, points.younger)) (omega (arith, same, low)) some in
-      subst (λ n. has (members_of noted_sets o.generation) n ≡ true) (sym at.is) (subst (λ h. has (members_of noted_sets h) (large_word at.number) ≡ true) (sym same) member)
+      let member = noted.large at.0 was at.2 (omega (arith, same, is_older o points)) (omega (arith, same, low)) some in
+      subst (λ n. has (members_of noted_sets o.generation) n ≡ true) (sym at.1) (subst (λ h. has (members_of noted_sets h) (large_word at.0) ≡ true) (sym same) member)
 
   -- a copy that points to a younger object was noted
   small_noted : (name : ℕ) (was o : Object) → find nat_cmp name (copies_of blocks) ≡ Some (moved_to renaming (dest objects.config.shape (was.generation, was.step)) was) → moved_to renaming (dest objects.config.shape (was.generation, was.step)) was ≡ o → PointsTo (get objects'.objects) o → o.generation < length noted_sets → has (members_of noted_sets o.generation) name ≡ true
   small_noted name was o copied moved points low =
       let stands = found_stands (copies_of blocks) name o (copied ∙ ap Some moved) in
       let e : ℕ × Object = (name, o) in
-      subst (IsNoted noted_sets) (stands.is e) (noted stands.place e stands.in_range) (omega (arith, points.younger)) low (has_some (get objects'.objects) o points)
+      subst (IsNoted youngest noted_sets) (stands.is e) (noted.copies stands.place e stands.in_range) (is_older o points) low (has_some (get objects'.objects) o points)
 
   copy_noted : (name source : ℕ) (o : Object) → get objects'.objects name ≡ Some o → PointsTo (get objects'.objects) o → o.generation < length noted_sets → Live old collection.generation source → renamed renaming source ≡ name → has (members_of noted_sets o.generation) name ≡ true
   copy_noted name source o there points low live at =
@@ -136,9 +184,6 @@ module _ (objects objects' : ObjectsValue) (slots slots' : List (Option Place)) 
       subst (λ n. has (members_of noted_sets o.generation) n ≡ true) same (large_noted source young.object o live young.there young.young large moved points low))
       (λ copied. small_noted name young.object o (ap (λ k. find nat_cmp k (copies_of blocks)) (sym new) ∙ copied) moved points low)
       (settled.copies source placed.0 young.object placed.1 young.there)
-
-  not_young : (name : ℕ) (o : Object) → get objects.objects name ≡ Some o → collection.generation < o.generation → renamed renaming name ≡ name
-  not_young name o is above = stays name (λ young. let same : young.object ≡ o = some_is (sym young.there ∙ is) in absurd (omega (arith, young.young, above, ap (λ x. x.generation) same)))
 
   -- an older object that points to a younger one did so before
   pointed : (source : ℕ) (was : Object) → get objects.objects source ≡ Some was → collection.generation < was.generation → PointsTo (get objects'.objects) (moved_to renaming (was.generation, was.step) was) → PointsTo (get objects.objects) was

@@ -4,6 +4,7 @@ use Rattle.std.proofs.lemmas.Bool.{true≢false}
 use Rattle.std.specs.Prelude.{is_some, slice_index_or}
 use Rattle.std.specs.Option.{option_map}
 use Rattle.std.specs.FinMap.{get}
+use Rattle.model.specs.Graph.{Object}
 use Rattle.model.specs.Destination.{dest}
 use Rattle.model.specs.Live.{IsYoung}
 use Rattle.model.specs.Reached.{has}
@@ -17,32 +18,35 @@ use Rattle.heap_objects.specs.Objects.{ObjectsValue, graph_in}
 use Rattle.heap_objects.specs.Collecting.{IsNumbered, at_step}
 use Rattle.remembered_set.specs.Sets.{members_of}
 use Rattle.heap.specs.Growth.{AreGrown}
-use Rattle.heap.specs.Noted.{IsLargeNoted}
+use Rattle.heap.specs.Noted.{IsKeptLarge, IsLargeNoted}
 use Rattle.heap.proofs.NotedCopies.{noted_still}
 
 module _ (objects : ObjectsValue) (g : ℕ) (places : List (Option Place)) where
-  pub large_still : (a b : List (List ℕ)) (number : ℕ) → AreGrown a b → IsLargeNoted a objects g places number → IsLargeNoted b objects g places number
-  large_still a b number grown noted = λ o n there young numbered kept.
-      noted_still a b grown (large_word number, at_step o (dest objects.config.shape (o.generation, o.step))) (noted o n there young numbered kept)
+  pub large_still : (youngest : ℕ) (a b : List (List ℕ)) (number : ℕ) → AreGrown a b → IsLargeNoted youngest a objects g places number → IsLargeNoted youngest b objects g places number
+  large_still youngest a b number grown noted = λ o kept. noted_still youngest a b grown (large_word number, at_step o (dest objects.config.shape (o.generation, o.step))) (noted o kept)
 
-  module _ (sets : List (List ℕ)) (number : ℕ) where
+  module _ (number : ℕ) where
     -- there is none
-    pub noted_none : get objects.objects (large_word number) ≡ None → IsLargeNoted sets objects g places number
-    noted_none none = λ o n there young numbered kept. absurd (some_not_none (sym there ∙ none))
+    pub kept_none : get objects.objects (large_word number) ≡ None → (o : Object) → IsKeptLarge objects g places number o → ⊥
+    kept_none none o kept = some_not_none (sym kept.there ∙ none)
 
     -- one that isn't collected
-    pub noted_older : (IsYoung (graph_in objects) g (large_word number) → ⊥) → IsLargeNoted sets objects g places number
-    noted_older not = λ o n there young numbered kept. absurd (not (record { object = o; there = there; young = young }))
+    pub kept_older : (IsYoung (graph_in objects) g (large_word number) → ⊥) → (o : Object) → IsKeptLarge objects g places number o → ⊥
+    kept_older not o kept = not (record { object = o; there = kept.there; young = kept.young })
 
     -- one that is gone
-    pub noted_gone : (m : ℕ) (place : Option Place) → IsNumbered objects g (large_word number) m → place ≡ slice_index_or places m None → is_some place ≡ false → IsLargeNoted sets objects g places number
-    noted_gone m place at is none = λ o n there young numbered kept.
-        let same : n ≡ m = same_index (young_names (graph_in objects) g) n m (keys-filter_rise objects.objects _) numbered.in_range at.in_range (numbered.is ∙ sym at.is) in
+    pub kept_gone : (m : ℕ) (place : Option Place) → IsNumbered objects g (large_word number) m → place ≡ slice_index_or places m None → is_some place ≡ false → (o : Object) → IsKeptLarge objects g places number o → ⊥
+    kept_gone m place at is none o kept =
+        let n = kept.place.0 in
+        let same : n ≡ m = same_index (young_names (graph_in objects) g) n m (keys-filter_rise objects.objects _) kept.place.1.in_range at.in_range (kept.place.1.is ∙ sym at.is) in
         let here : get_or places n None ≡ place = ap (λ k. get_or places k None) same ∙ sym is in
-        absurd (true≢false (sym kept ∙ ap is_some here ∙ none))
+        true≢false (sym kept.place.2 ∙ ap is_some here ∙ none)
 
-    -- one that is a member of the set of the generation that it goes to
-    pub noted_going : (at : ℕ × ℕ) (to : ℕ) → Some at ≡ option_map stands_at (get objects.objects (large_word number)) → to ≡ (dest objects.config.shape at).0 → has (members_of sets to) (large_word number) ≡ true → IsLargeNoted sets objects g places number
-    noted_going at to stands is member = λ o n there young numbered kept low high some.
-        let same : at ≡ (o.generation, o.step) = some_is (stands ∙ ap (option_map stands_at) there) in
-        subst (λ p. has (members_of sets (dest objects.config.shape p).0) (large_word number) ≡ true) same (subst (λ h. has (members_of sets h) (large_word number) ≡ true) is member)
+    module _ (youngest : ℕ) (sets : List (List ℕ)) where
+      -- one that isn't kept
+      pub noted_not : ((o : Object) → IsKeptLarge objects g places number o → ⊥) → IsLargeNoted youngest sets objects g places number
+      noted_not not = λ o kept. absurd (not o kept)
+
+      -- one that is a member of the set of the generation that it goes to
+      pub noted_going : (to : ℕ) → ((o : Object) → get objects.objects (large_word number) ≡ Some o → to ≡ (dest objects.config.shape (o.generation, o.step)).0) → has (members_of sets to) (large_word number) ≡ true → IsLargeNoted youngest sets objects g places number
+      noted_going to is member = λ o kept low high some. subst (λ h. has (members_of sets h) (large_word number) ≡ true) (is o kept.there) member

@@ -17,52 +17,69 @@ use Rattle.steps.specs.Words.{target_of_word}
 use Rattle.heap_objects.proofs.FieldSlots.{length-entries, entry_is}
 use Rattle.remembered_set.specs.Sets.{members_of}
 use Rattle.heap.specs.Growth.{AreGrown}
-use Rattle.heap.specs.Noted.{IsNoted, AreNoted, IsNotedAt}
+use Rattle.heap.specs.Noted.{IsNoted, AreNoted, IsNotedAt, AreFrom}
 use Rattle.heap.proofs.Grown.{grown_has}
 
-pub noted_still : (a b : List (List ℕ)) → AreGrown a b → (e : ℕ × Object) → IsNoted a e → IsNoted b e
-noted_still a b grown e noted = λ low high some. grown_has a b grown e.1.generation e.0 (noted low (omega (arith, high, grown.generations)) some)
+pub noted_still : (youngest : ℕ) (a b : List (List ℕ)) → AreGrown a b → (e : ℕ × Object) → IsNoted youngest a e → IsNoted youngest b e
+noted_still youngest a b grown e noted = λ low high some. grown_has a b grown e.1.generation e.0 (noted low (omega (arith, high, grown.generations)) some)
 
-pub all_noted_still : (a b : List (List ℕ)) (es : List (ℕ × Object)) → AreGrown a b → AreNoted a es → AreNoted b es
-all_noted_still a b es grown noted = λ k d lt. noted_still a b grown (get_or es k d) (noted k d lt)
+pub all_noted_still : (youngest : ℕ) (a b : List (List ℕ)) (es : List (ℕ × Object)) → AreGrown a b → AreNoted youngest a es → AreNoted youngest b es
+all_noted_still youngest a b es grown noted = λ k d lt. noted_still youngest a b grown (get_or es k d) (noted k d lt)
 
-pub noted_at_still : (a b : List (List ℕ)) (block : BlockValue) (k : ℕ) → AreGrown a b → IsNotedAt a block k → IsNotedAt b block k
-noted_at_still a b block k grown noted d = noted_still a b grown (get_or (block_objects block.number block) k d) (noted d)
+pub noted_at_still : (youngest : ℕ) (a b : List (List ℕ)) (block : BlockValue) (k : ℕ) → AreGrown a b → IsNotedAt youngest a block k → IsNotedAt youngest b block k
+noted_at_still youngest a b block k grown noted d = noted_still youngest a b grown (get_or (block_objects block.number block) k d) (noted d)
 
-module _ (sets : List (List ℕ)) (block : BlockValue) (k : ℕ) (raw : Raw) (is : slice_get block.objects k ≡ Some raw) where
+module _ (youngest : ℕ) (sets : List (List ℕ)) (block : BlockValue) (k : ℕ) (raw : Raw) (is : slice_get block.objects k ≡ Some raw) where
   entry : (d : ℕ × Object) → get_or (block_objects block.number block) k d ≡ (small_word block.number 0 + offset_of block.objects k, object_of block.generation block.step raw)
   entry d = entry_is (small_word block.number 0) block.generation block.step block.objects k raw d is
 
   -- an object without a pointer
-  pub noted_without : list_any is_some (map target_of_word raw.pointers) ≡ false → IsNotedAt sets block k
-  noted_without none d = subst (IsNoted sets) (sym (entry d)) (λ low high some. absurd (true≢false (sym some ∙ none)))
+  pub noted_without : list_any is_some (map target_of_word raw.pointers) ≡ false → IsNotedAt youngest sets block k
+  noted_without none d = subst (IsNoted youngest sets) (sym (entry d)) (λ low high some. absurd (true≢false (sym some ∙ none)))
 
-  pub noted_youngest : block.generation ≡ 0 → IsNotedAt sets block k
-  noted_youngest first d = subst (IsNoted sets) (sym (entry d)) (λ low high some. absurd (omega (arith, low, first)))
+  pub noted_youngest : block.generation ≤ youngest → IsNotedAt youngest sets block k
+  noted_youngest first d = subst (IsNoted youngest sets) (sym (entry d)) (λ low high some. absurd (omega (arith, low, first)))
 
-  pub noted_past : length sets ≤ block.generation → IsNotedAt sets block k
-  noted_past past d = subst (IsNoted sets) (sym (entry d)) (λ low high some. absurd (omega (arith, high, past)))
+  pub noted_past : length sets ≤ block.generation → IsNotedAt youngest sets block k
+  noted_past past d = subst (IsNoted youngest sets) (sym (entry d)) (λ low high some. absurd (omega (arith, high, past)))
 
-  pub noted_member : (word : ℕ) → word ≡ small_word block.number (offset_of block.objects k) → has (members_of sets block.generation) word ≡ true → IsNotedAt sets block k
+  pub noted_member : (word : ℕ) → word ≡ small_word block.number (offset_of block.objects k) → has (members_of sets block.generation) word ≡ true → IsNotedAt youngest sets block k
   noted_member word at member d =
       let same : word ≡ small_word block.number 0 + offset_of block.objects k = omega (arith, at) in
-      subst (IsNoted sets) (sym (entry d)) (λ low high some. subst (λ w. has (members_of sets block.generation) w ≡ true) same member)
+      subst (IsNoted youngest sets) (sym (entry d)) (λ low high some. subst (λ w. has (members_of sets block.generation) w ≡ true) same member)
 
 -- all objects of a block
-pub block_noted : (sets : List (List ℕ)) (block : BlockValue) (n : ℕ) → length block.objects ≤ n → ((k : ℕ) → k < n → IsNotedAt sets block k) → AreNoted sets (block_objects block.number block)
-block_noted sets block n le each = λ k d lt. each k (omega (arith, lt, length-entries (small_word block.number 0) block.generation block.step block.objects, le)) d
+pub block_noted : (youngest : ℕ) (sets : List (List ℕ)) (block : BlockValue) (n : ℕ) → length block.objects ≤ n → ((k : ℕ) → k < n → IsNotedAt youngest sets block k) → AreNoted youngest sets (block_objects block.number block)
+block_noted youngest sets block n le each = λ k d lt. each k (omega (arith, lt, length-entries (small_word block.number 0) block.generation block.step block.objects, le)) d
 
-pub block_each : (sets : List (List ℕ)) (block : BlockValue) → ((k : ℕ) (raw : Raw) → slice_get block.objects k ≡ Some raw → IsNotedAt sets block k) → AreNoted sets (block_objects block.number block)
-block_each sets block each = λ k d lt.
+pub block_each : (youngest : ℕ) (sets : List (List ℕ)) (block : BlockValue) → ((k : ℕ) (raw : Raw) → slice_get block.objects k ≡ Some raw → IsNotedAt youngest sets block k) → AreNoted youngest sets (block_objects block.number block)
+block_each youngest sets block each = λ k d lt.
     let none : Raw = record { pointers = []; plain = [] } in
     each k (get_or block.objects k none) (slice_get-get_or block.objects k none (omega (arith, lt, length-entries (small_word block.number 0) block.generation block.step block.objects))) d
 
--- one block more
-pub copies_noted : (a b : List (List ℕ)) (blocks : List BlockValue) (i : ℕ) (block : BlockValue) → i < length blocks → get_or blocks i block ≡ block → AreGrown a b → AreNoted a (copies_of (take i blocks)) → AreNoted b (block_objects block.number block) → AreNoted b (copies_of (take (i + 1) blocks))
-copies_noted a b blocks i block lt is grown so_far here =
-    let more : copies_of (take (i + 1) blocks) ≡ copies_of (take i blocks) ++ block_objects block.number block =
+-- the copies with one block more
+copies_more : (blocks : List BlockValue) (i : ℕ) (block : BlockValue) → i < length blocks → get_or blocks i block ≡ block → copies_of (take (i + 1) blocks) ≡ copies_of (take i blocks) ++ block_objects block.number block
+copies_more blocks i block lt is =
     ap copies_of (take_more blocks i block lt)
     ∙ ap (λ x. copies_of (take i blocks ++ x ∷ [])) is
     ∙ flat_map-append (λ x. block_objects x.number x) (take i blocks) (block ∷ [])
-    ∙ ap (λ es. copies_of (take i blocks) ++ es) (append-nil (block_objects block.number block)) in
-    rw more (All-append (IsNoted b) (copies_of (take i blocks)) (block_objects block.number block) (all_noted_still a b (copies_of (take i blocks)) grown so_far) here)
+    ∙ ap (λ es. copies_of (take i blocks) ++ es) (append-nil (block_objects block.number block))
+
+-- one block more that is noted
+pub copies_noted : (youngest : ℕ) (a b : List (List ℕ)) (blocks : List BlockValue) (i : ℕ) (block : BlockValue) → i < length blocks → get_or blocks i block ≡ block → AreGrown a b → AreNoted youngest a (copies_of (take i blocks)) → AreNoted youngest b (block_objects block.number block) → AreNoted youngest b (copies_of (take (i + 1) blocks))
+copies_noted youngest a b blocks i block lt is grown so_far here =
+    let more = copies_more blocks i block lt is in
+    rw more (All-append (IsNoted youngest b) (copies_of (take i blocks)) (block_objects block.number block) (all_noted_still youngest a b (copies_of (take i blocks)) grown so_far) here)
+
+-- a block's objects are of its generation
+block_from : (youngest : ℕ) (block : BlockValue) → youngest ≤ block.generation → AreFrom youngest (block_objects block.number block)
+block_from youngest block le = λ k d lt.
+    let none : Raw = record { pointers = []; plain = [] } in
+    let is = entry_is (small_word block.number 0) block.generation block.step block.objects k (get_or block.objects k none) d (slice_get-get_or block.objects k none (omega (arith, lt, length-entries (small_word block.number 0) block.generation block.step block.objects))) in
+    subst (λ e. youngest ≤ e.1.generation) (sym is) le
+
+-- one block more that has none of a younger generation
+pub copies_from : (a b : ℕ) (blocks : List BlockValue) (i : ℕ) (block : BlockValue) → i < length blocks → get_or blocks i block ≡ block → b ≤ a → b ≤ block.generation → AreFrom a (copies_of (take i blocks)) → AreFrom b (copies_of (take (i + 1) blocks))
+copies_from a b blocks i block lt is lower le so_far =
+    let more = copies_more blocks i block lt is in
+    rw more (All-append (λ e. b ≤ e.1.generation) (copies_of (take i blocks)) (block_objects block.number block) (λ k d low. omega (arith, so_far k d low, lower)) (block_from b block le))

@@ -1,5 +1,6 @@
--- Objects that may point to a younger generation and are members of the set of their own.
-use Rattle.std.specs.Prelude.{◌≡◌, ℕ, ◌<◌, ◌≤◌, List, length, Option, Some, None, IsTrue, IsSome, is_some, slice_index_or, All}
+-- Objects that may point to a younger one and are members of the set of their generation. `youngest` is a generation below which
+-- nothing stands when the collection has ended.
+use Rattle.std.specs.Prelude.{◌≡◌, ℕ, ◌+◌, ◌<◌, ◌≤◌, List, length, Option, Some, None, IsTrue, IsSome, is_some, slice_index_or, All}
 use Rattle.std.specs.List.{list_any}
 use Rattle.std.specs.FinMap.{get}
 use Rattle.model.specs.Graph.{Object}
@@ -13,22 +14,46 @@ use Rattle.heap_objects.specs.Objects.{ObjectsValue}
 use Rattle.heap_objects.specs.Collecting.{IsNumbered, at_step}
 use Rattle.remembered_set.specs.Sets.{members_of}
 
--- the object is a member where it isn't of the youngest generation and has a pointer that isn't nil
-abbrev pub IsNoted : List (List ℕ) → ℕ × Object → Type 0
-IsNoted sets e = 0 < e.1.generation → e.1.generation < length sets → IsTrue (list_any is_some e.1.pointers) → IsTrue (has (members_of sets e.1.generation) e.0)
+-- the object is a member where it is of an older generation than the youngest and has a pointer that isn't nil
+abbrev pub IsNoted : ℕ → List (List ℕ) → ℕ × Object → Type 0
+IsNoted youngest sets e = youngest < e.1.generation → e.1.generation < length sets → IsTrue (list_any is_some e.1.pointers) → IsTrue (has (members_of sets e.1.generation) e.0)
 
-abbrev pub AreNoted : List (List ℕ) → List (ℕ × Object) → Type 0
-AreNoted sets objects = All (IsNoted sets) objects
+abbrev pub AreNoted : ℕ → List (List ℕ) → List (ℕ × Object) → Type 0
+AreNoted youngest sets objects = All (IsNoted youngest sets) objects
 
 -- so it is with the k-th object of a block
-abbrev pub IsNotedAt : List (List ℕ) → BlockValue → ℕ → Type 0
-IsNotedAt sets block k = (e : ℕ × Object) → IsNoted sets (slice_index_or (block_objects block.number block) k e)
+abbrev pub IsNotedAt : ℕ → List (List ℕ) → BlockValue → ℕ → Type 0
+IsNotedAt youngest sets block k = (e : ℕ × Object) → IsNoted youngest sets (slice_index_or (block_objects block.number block) k e)
 
--- so it is with the large object of that number where a collection of the generations 0 to g keeps it, at its destination
-abbrev pub IsLargeNoted : List (List ℕ) → ObjectsValue → ℕ → List (Option Place) → ℕ → Type 0
-IsLargeNoted sets objects g places number =
-    (o : Object) (n : ℕ) → get objects.objects (large_word number) ≡ Some o → o.generation ≤ g → IsNumbered objects g (large_word number) n → IsSome (slice_index_or places n None)
-    → IsNoted sets (large_word number, at_step o (dest objects.config.shape (o.generation, o.step)))
+-- o is the large object of that number, and a collection of the generations 0 to g keeps it
+pub record IsKeptLarge (objects : ObjectsValue) (g : ℕ) (places : List (Option Place)) (number : ℕ) (o : Object) : Type 0 where
+  pub there : get objects.objects (large_word number) ≡ Some o
+  pub young : o.generation ≤ g
+  pub place : (n : ℕ) × IsNumbered objects g (large_word number) n × IsSome (slice_index_or places n None)
 
-abbrev pub AreLargeNoted : List (List ℕ) → ObjectsValue → ℕ → List (Option Place) → Type 0
-AreLargeNoted sets objects g places = (number : ℕ) → IsLargeNoted sets objects g places number
+-- a large object that is kept is noted where it goes
+abbrev pub IsLargeNoted : ℕ → List (List ℕ) → ObjectsValue → ℕ → List (Option Place) → ℕ → Type 0
+IsLargeNoted youngest sets objects g places number = (o : Object) → IsKeptLarge objects g places number o → IsNoted youngest sets (large_word number, at_step o (dest objects.config.shape (o.generation, o.step)))
+
+abbrev pub AreLargeNoted : ℕ → List (List ℕ) → ObjectsValue → ℕ → List (Option Place) → Type 0
+AreLargeNoted youngest sets objects g places = (number : ℕ) → IsLargeNoted youngest sets objects g places number
+
+-- none of these is of a younger generation
+abbrev pub AreFrom : ℕ → List (ℕ × Object) → Type 0
+AreFrom youngest objects = All (λ e. youngest ≤ e.1.generation) objects
+
+-- a large object that is kept goes to no younger generation
+abbrev pub IsLargeFrom : ℕ → ObjectsValue → ℕ → List (Option Place) → ℕ → Type 0
+IsLargeFrom youngest objects g places number = (o : Object) → IsKeptLarge objects g places number o → youngest ≤ (dest objects.config.shape (o.generation, o.step)).0
+
+abbrev pub AreLargeFrom : ℕ → ObjectsValue → ℕ → List (Option Place) → Type 0
+AreLargeFrom youngest objects g places = (number : ℕ) → IsLargeFrom youngest objects g places number
+
+-- what a collection of the generations 0 to g brings, the copies and the large objects that it keeps, is noted wherever
+-- something younger may stand
+pub record AreAllNoted (youngest : ℕ) (sets : List (List ℕ)) (objects : ObjectsValue) (g : ℕ) (places : List (Option Place)) (brought : List (ℕ × Object)) : Type 0 where
+  pub stays : youngest ≤ g + 1
+  pub copies_from : AreFrom youngest brought
+  pub large_from : AreLargeFrom youngest objects g places
+  pub copies : AreNoted youngest sets brought
+  pub large : AreLargeNoted youngest sets objects g places

@@ -219,3 +219,59 @@ fn a_heap_that_shrank_gives_memory_back(rt: HostRuntime) -> Result<(), Fail> {
     assert_eq!(rt; refusing.asked(), refusing.returned());
     Ok(())
 }
+
+/// Objects of one pointer, as many as asked for, with a root each.
+fn with_a_pointer<'a>(
+    alloc: Global,
+    heap: &mut Counting<'a>,
+    count: u32,
+) -> Result<Vec<RootId>, Fail> {
+    let mut roots = Vec::new(alloc);
+    for _object in 0..count {
+        roots.push(heap.allocate(0, 1, 2)?)?;
+    }
+    Ok(roots)
+}
+
+/// Has each object but the first lead to the one before it.
+fn link<'a>(heap: &mut Counting<'a>, roots: &[RootId]) -> Result<(), Fail> {
+    for at in 1..roots.len() {
+        heap.store(roots[at], 0, Some(roots[at - 1]))?;
+    }
+    Ok(())
+}
+
+/// Asserts that a collection that leaves nothing young asks for no memory to remember the old objects, which lead to each other.
+fn assert_none_noted<'a>(
+    rt: &impl Abort,
+    alloc: Global,
+    refusing: &'a Refusing<Global>,
+    heap: &mut Counting<'a>,
+) -> Result<(), Fail> {
+    let roots = with_a_pointer(alloc, heap, 1_000)?;
+    let _promoted = asked_with_lists(refusing, heap, 1)?;
+    let _anew = asked_with_lists(refusing, heap, 1)?;
+    let apart = asked_with_lists(refusing, heap, 1)?;
+    link(heap, roots.as_slice())?;
+    let linked = asked_with_lists(refusing, heap, 1)?;
+    assert!(rt; linked <= apart, "{linked} {apart}");
+    Ok(())
+}
+
+/// The same of a new heap.
+fn assert_none_noted_in_new(
+    rt: &impl Abort,
+    alloc: Global,
+    refusing: &Refusing<Global>,
+) -> Result<(), Fail> {
+    let mut heap = large_heap(refusing)?;
+    assert_none_noted(rt, alloc, refusing, &mut heap)
+}
+
+#[test]
+fn old_objects_that_lead_to_old_ones_are_not_noted(rt: HostRuntime) -> Result<(), Fail> {
+    let refusing = Refusing::new(rt.alloc(), NONE);
+    assert_none_noted_in_new(&rt, rt.alloc(), &refusing)?;
+    assert_eq!(rt; refusing.asked(), refusing.returned());
+    Ok(())
+}

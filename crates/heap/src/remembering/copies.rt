@@ -1,10 +1,10 @@
 //! The copies that a collection brings: those that may have a pointer to a younger object.
-ghost use Rattle.std.specs.Prelude.{◌≡◌, ◌<◌, ◌≤◌, length, map, is_some, OnOk};
+ghost use Rattle.std.specs.Prelude.{◌≡◌, ℕ, ◌<◌, ◌≤◌, length, map, is_some, OnOk};
 ghost use Rattle.std.specs.List.{list_any};
 ghost use Rattle.steps.specs.BlockObjects.{block_objects, copies_of};
 ghost use Rattle.steps.specs.Words.{target_of_word};
 ghost use Rattle.heap.specs.Growth.{AreGrown};
-ghost use Rattle.heap.specs.Noted.{AreNoted, IsNotedAt};
+ghost use Rattle.heap.specs.Noted.{AreFrom, AreNoted, IsNotedAt};
 
 use block_pool::Block;
 use layout::Place;
@@ -23,6 +23,18 @@ pub(crate) fn has_pointer(words: &[u64]) -> bool
     false
 }
 
+/// The lowest generation of the blocks, and `most` where that is lower: none of the copies is younger.
+pub(crate) fn youngest_of_copies<A: Allocator>(blocks: &[Block<A>], most: usize) -> usize
+    ensures most { result ≤ most }
+    ensures copies { AreFrom result (copies_of blocks.now) }
+{
+    let mut youngest = most;
+    for block in blocks {
+        youngest = youngest.min(block.generation() as usize);
+    }
+    youngest
+}
+
 /// Notes the `k`-th object of a block of that generation, where it has a pointer.
 fn note_object<A: Allocator + Clone>(
     sets: &mut Remembered<A>,
@@ -34,7 +46,7 @@ fn note_object<A: Allocator + Clone>(
     requires generation { generation < length sets.old }
     requires is { generation ≡ block.now.generation }
     ensures grown { AreGrown sets.old sets.new }
-    ensures noted { OnOk result (IsNotedAt sets.new block.now k) }
+    ensures noted { (youngest : ℕ) → OnOk result (IsNotedAt youngest sets.new block.now k) }
 {
     let object = block.object(k);
     if has_pointer(object.pointers) {
@@ -44,16 +56,17 @@ fn note_object<A: Allocator + Clone>(
     Ok(())
 }
 
-/// Notes the objects of a block that have a pointer, where they are not of the youngest generation.
+/// Notes the objects of a block that have a pointer, where they are older than the youngest generation.
 fn note_block<A: Allocator + Clone>(
     sets: &mut Remembered<A>,
+    youngest: usize,
     block: &Block<A>,
 ) -> Result<(), AllocError>
     ensures grown { AreGrown sets.old sets.new }
-    ensures noted { OnOk result (AreNoted sets.new (block_objects block.now.number block.now)) }
+    ensures noted { OnOk result (AreNoted youngest sets.new (block_objects block.now.number block.now)) }
 {
     let generation = block.generation() as usize;
-    if generation == 0 {
+    if generation <= youngest {
         return Ok(());
     }
     if generation >= sets.generations() {
@@ -65,17 +78,18 @@ fn note_block<A: Allocator + Clone>(
     Ok(())
 }
 
-/// Notes the copies in the blocks that have a pointer, where they are not of the youngest generation. At an error some
+/// Notes the copies in the blocks that have a pointer, where they are older than the youngest generation. At an error some
 /// may be noted.
 pub(crate) fn note_copies<A: Allocator + Clone>(
     sets: &mut Remembered<A>,
+    youngest: usize,
     blocks: &[Block<A>],
 ) -> Result<(), AllocError>
     ensures grown { AreGrown sets.old sets.new }
-    ensures noted { OnOk result (AreNoted sets.new (copies_of blocks.now)) }
+    ensures noted { OnOk result (AreNoted youngest sets.new (copies_of blocks.now)) }
 {
     for i in 0..blocks.len() {
-        note_block(sets, &blocks[i])?;
+        note_block(sets, youngest, &blocks[i])?;
     }
     Ok(())
 }

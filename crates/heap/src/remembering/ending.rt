@@ -1,5 +1,5 @@
 //! How a collection ends: objects, roots and remembered sets.
-ghost use Rattle.std.specs.Prelude.{◌≡◌, ◌+◌, length, sum_by, IfOk, OnOk, OnErr};
+ghost use Rattle.std.specs.Prelude.{◌≡◌, ℕ, ◌+◌, length, sum_by, IfOk, OnOk, OnErr};
 ghost use Rattle.model.specs.Graph.{IsClosed};
 ghost use Rattle.model.specs.LiveCount.{LiveCount};
 ghost use Rattle.steps.specs.BlockObjects.{copies_of};
@@ -12,11 +12,11 @@ ghost use Rattle.heap_objects.specs.Objects.{graph_in};
 ghost use Rattle.heap.specs.HeapView.{heap_with};
 ghost use Rattle.heap.specs.IsHeap.{IsHeap};
 ghost use Rattle.heap.specs.Growth.{AreGrown};
-ghost use Rattle.heap.specs.Noted.{AreNoted, AreLargeNoted};
+ghost use Rattle.heap.specs.Noted.{AreAllNoted};
 
-use crate::remembering::copies::note_copies;
+use crate::remembering::copies::{note_copies, youngest_of_copies};
 use crate::remembering::holders::keep_holders;
-use crate::remembering::large_copies::note_large;
+use crate::remembering::large_copies::{note_large, youngest_of_large};
 use crate::remembering::lens::{cut_back, lens};
 use crate::roots::Roots;
 use heap_objects::HeapObjects;
@@ -25,7 +25,8 @@ use std::alloc::{AllocError, Allocator};
 use steps::{Report, Settled};
 
 /// Notes what the collection brings back, where it may have a pointer to a younger object: the copies, and the large objects
-/// that it keeps. At an error some may be noted.
+/// that it keeps. Where it leaves nothing younger, as a collection that promotes all, it goes over blocks and not over
+/// objects. At an error some may be noted.
 fn note_all<A: Allocator + Clone>(
     objects: &HeapObjects<A>,
     sets: &mut Remembered<A>,
@@ -36,12 +37,15 @@ fn note_all<A: Allocator + Clone>(
     requires count { length settled.now.places ≡
         length (young_names (graph_in objects.now) settled.now.collection.generation) }
     ensures grown { AreGrown sets.old sets.new }
-    ensures copies { OnOk result (AreNoted sets.new (copies_of settled.now.blocks.items)) }
-    ensures large { OnOk result
-        (AreLargeNoted sets.new objects.now settled.now.collection.generation settled.now.places) }
+    ensures noted { OnOk result ((youngest : ℕ) × AreAllNoted youngest sets.new objects.now
+        settled.now.collection.generation settled.now.places (copies_of settled.now.blocks.items)) }
 {
-    note_copies(sets, &settled.blocks)?;
-    note_large(sets, objects, &settled.collection, &settled.places)
+    let collection = &settled.collection;
+    let older = collection.generation() as usize + 1;
+    let youngest = youngest_of_copies(&settled.blocks, older);
+    let youngest = youngest_of_large(objects, collection, &settled.places, youngest);
+    note_copies(sets, youngest, &settled.blocks)?;
+    note_large(sets, youngest, objects, collection, &settled.places)
 }
 
 /// Ends a collection: objects, roots and remembered sets make the heap that the workers brought back. Where memory runs out

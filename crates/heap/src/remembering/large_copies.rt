@@ -1,24 +1,80 @@
 //! The large objects that a collection keeps: those that may have a pointer to a younger object from where they go.
-ghost use Rattle.std.specs.Prelude.{◌≡◌, length, IsSome, OnOk};
+ghost use Rattle.std.specs.Prelude.{◌≡◌, ◌≤◌, length, Some, None, IsSome, IsSomeAnd, IfSome, OnOk};
 ghost use Rattle.std.specs.FinMap.{get};
+ghost use Rattle.model.specs.Graph.{Object};
+ghost use Rattle.model.specs.Destination.{dest};
+ghost use Rattle.layout.specs.ObjectRef.{raw_of};
 ghost use Rattle.layout.specs.Place.{large_word};
+ghost use Rattle.steps.specs.Words.{IsShownAs};
 ghost use Rattle.steps.specs.CollectionValue.{IsNumbering, young_names};
 ghost use Rattle.heap_objects.specs.Objects.{graph_in};
 ghost use Rattle.heap.specs.Growth.{AreGrown};
-ghost use Rattle.heap.specs.Noted.{IsLargeNoted, AreLargeNoted};
+ghost use Rattle.heap.specs.Noted.{IsKeptLarge, IsLargeNoted, AreLargeNoted, AreLargeFrom};
 
 use crate::remembering::copies::has_pointer;
 use forwarding::Forwards;
 use heap_objects::HeapObjects;
-use layout::{LargeNumber, Place};
+use layout::{LargeNumber, ObjectRef, Place};
 use remembered_set::Remembered;
 use std::alloc::{AllocError, Allocator};
 use steps::Collection;
 
+/// A large object and the generation that it goes to, where the collection keeps it.
+fn kept<'a, A: Allocator + Clone>(
+    objects: &'a HeapObjects<A>,
+    collection: &Collection<A>,
+    places: &Forwards<A>,
+    of: LargeNumber,
+) -> Option<(ObjectRef<'a>, usize)>
+    requires numbering { IsNumbering (graph_in objects.now) collection.now.generation collection.now.numbering }
+    requires count { length places.now ≡ length (young_names (graph_in objects.now) collection.now.generation) }
+    requires there { IsSome (get objects.now.objects (large_word of.number)) }
+    ensures none { result ≡ None → (o : Object) →
+        IsKeptLarge objects.now collection.now.generation places.now of.number o → ⊥ }
+    ensures object { IfSome result (λ kept. IsSomeAnd (get objects.now.objects (large_word of.number))
+        (λ o. IsShownAs o (raw_of kept.0))) }
+    ensures to { IfSome result (λ kept. (o : Object) → get objects.now.objects (large_word of.number) ≡ Some o →
+        kept.1 ≡ (dest objects.now.config.shape (o.generation, o.step)).0) }
+{
+    let (object, at, number) = objects.find(
+        collection.numbering(),
+        collection.generation(),
+        Place::Large(of),
+    );
+    if places.place(number?).is_none() {
+        return None;
+    }
+    Some((object, objects.config().dest(at).generation as usize))
+}
+
+/// The lowest generation that a large object goes to which the collection keeps, and `most` where that is lower.
+pub(crate) fn youngest_of_large<A: Allocator + Clone>(
+    objects: &HeapObjects<A>,
+    collection: &Collection<A>,
+    places: &Forwards<A>,
+    most: usize,
+) -> usize
+    requires numbering { IsNumbering (graph_in objects.now) collection.now.generation collection.now.numbering }
+    requires count { length places.now ≡ length (young_names (graph_in objects.now) collection.now.generation) }
+    ensures most { result ≤ most }
+    ensures large { AreLargeFrom result objects.now collection.now.generation places.now }
+{
+    let mut youngest = most;
+    let mut from = 0;
+    while let Some(of) = objects.next_large(from) {
+        if let Some((_object, to)) = kept(objects, collection, places, of) {
+            youngest = youngest.min(to);
+        }
+        from = of.number as usize + 1;
+    }
+    youngest
+}
+
 /// Notes a large object that the collection keeps and that has a pointer in the set of the generation that it goes to,
-/// where that is not the youngest.
+/// where that is older than the youngest.
 fn note_kept<A: Allocator + Clone>(
     sets: &mut Remembered<A>,
+    youngest: usize,
     objects: &HeapObjects<A>,
     collection: &Collection<A>,
     places: &Forwards<A>,
@@ -28,30 +84,26 @@ fn note_kept<A: Allocator + Clone>(
     requires count { length places.now ≡ length (young_names (graph_in objects.now) collection.now.generation) }
     requires there { IsSome (get objects.now.objects (large_word of.number)) }
     ensures grown { AreGrown sets.old sets.new }
-    ensures noted { OnOk result (IsLargeNoted sets.new objects.now collection.now.generation places.now of.number) }
+    ensures noted { OnOk result
+        (IsLargeNoted youngest sets.new objects.now collection.now.generation places.now of.number) }
 {
-    let place = Place::Large(of);
-    let (object, at, number) = objects.find(collection.numbering(), collection.generation(), place);
-    let Some(number) = number else {
+    let Some((object, to)) = kept(objects, collection, places, of) else {
         return Ok(());
     };
-    if places.place(number).is_none() {
-        return Ok(());
-    }
     if !has_pointer(object.pointers) {
         return Ok(());
     }
-    let to = objects.config().dest(at).generation as usize;
-    if to == 0 || to >= sets.generations() {
+    if to <= youngest || to >= sets.generations() {
         return Ok(());
     }
-    sets.note(to, place)
+    sets.note(to, Place::Large(of))
 }
 
 /// Notes the large objects that the collection keeps and that have a pointer, each in the set of the generation that it
 /// goes to, where that is not the youngest. At an error some may be noted.
 pub(crate) fn note_large<A: Allocator + Clone>(
     sets: &mut Remembered<A>,
+    youngest: usize,
     objects: &HeapObjects<A>,
     collection: &Collection<A>,
     places: &Forwards<A>,
@@ -59,11 +111,12 @@ pub(crate) fn note_large<A: Allocator + Clone>(
     requires numbering { IsNumbering (graph_in objects.now) collection.now.generation collection.now.numbering }
     requires count { length places.now ≡ length (young_names (graph_in objects.now) collection.now.generation) }
     ensures grown { AreGrown sets.old sets.new }
-    ensures noted { OnOk result (AreLargeNoted sets.new objects.now collection.now.generation places.now) }
+    ensures noted { OnOk result
+        (AreLargeNoted youngest sets.new objects.now collection.now.generation places.now) }
 {
     let mut from = 0;
     while let Some(of) = objects.next_large(from) {
-        note_kept(sets, objects, collection, places, of)?;
+        note_kept(sets, youngest, objects, collection, places, of)?;
         from = of.number as usize + 1;
     }
     Ok(())

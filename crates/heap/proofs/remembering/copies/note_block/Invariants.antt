@@ -7,5 +7,5 @@ use Rattle.heap.proofs.remembering.copies.note_block.Given as goal
 abbrev pub invariant-loop-k : goal.invariant-loop-k
 invariant-loop-k g l = record {
   grown : AreGrown l.fn.sets l.sets;
-  noted : (k : ℕ) → k < l.k → IsNotedAt l.sets l.block k;
+  noted : (k : ℕ) → k < l.k → IsNotedAt l.youngest l.sets l.block k;
 }

@@ -11,8 +11,8 @@ returns-in_err-note_block-clause-grown g c = grown_more _ _ _ c.loop-i.invariant
 pub loop-i-preserved : goal.loop-i-preserved
 loop-i-preserved g c = record {
   grown = grown_more _ _ _ c.loop-i.invariant.grown c.note_block.ensures.grown;
-  noted = copies_noted _ _ c.args.blocks.now c.loop-i.i c.index-blocks-i.result c.loop-i-test.true (sym c.index-blocks-i.is) c.note_block.ensures.grown c.loop-i.invariant.noted c.in_ok-note_block.ensures.noted;
+  noted = copies_noted c.args.youngest _ _ c.args.blocks.now c.loop-i.i c.index-blocks-i.result c.loop-i-test.true (sym c.index-blocks-i.is) c.note_block.ensures.grown c.loop-i.invariant.noted c.in_ok-note_block.ensures.noted;
 }
 
 pub returns-clause-noted : goal.returns-clause-noted
-returns-clause-noted g c = subst (λ bs. AreNoted c.loop-i.sets (copies_of bs)) (take_all c.loop-i.i c.args.blocks.now c.loop-i-test.false) c.loop-i.invariant.noted
+returns-clause-noted g c = subst (λ bs. AreNoted c.args.youngest c.loop-i.sets (copies_of bs)) (take_all c.loop-i.i c.args.blocks.now c.loop-i-test.false) c.loop-i.invariant.noted

@@ -8,5 +8,5 @@ use Rattle.heap.proofs.remembering.copies.note_copies.Given as goal
 abbrev pub invariant-loop-i : goal.invariant-loop-i
 invariant-loop-i g l = record {
   grown : AreGrown l.fn.sets l.sets;
-  noted : AreNoted l.sets (copies_of (take l.i l.blocks));
+  noted : AreNoted l.youngest l.sets (copies_of (take l.i l.blocks));
 }

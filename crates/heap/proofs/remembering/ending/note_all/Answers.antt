@@ -1,7 +1,7 @@
-use Rattle.std.proofs.Common.{Result, Ok, Err}
-use Rattle.std.specs.Prelude.{OnOk}
+use Rattle.std.proofs.Common.{◌≤◌, ◌+◌, arith}
+use Rattle.std.proofs.lemmas.Result.{on_ok_weaker}
 use Rattle.steps.specs.BlockObjects.{copies_of}
-use Rattle.heap.specs.Noted.{AreNoted}
+use Rattle.heap.specs.Noted.{AreFrom, AreNoted}
 use Rattle.heap.proofs.Grown.{grown_more}
 use Rattle.heap.proofs.NotedCopies.{all_noted_still}
 use Rattle.heap.proofs.remembering.ending.note_all.Goals as goal
@@ -9,11 +9,21 @@ use Rattle.heap.proofs.remembering.ending.note_all.Goals as goal
 pub returns-clause-grown : goal.returns-clause-grown
 returns-clause-grown g c = grown_more _ _ _ c.note_copies.ensures.grown c.note_large.ensures.grown
 
-always : {T E : Type 0} (r : Result T E) (X : Type 0) → X → OnOk r X
-always (Ok x) X is = is
-always (Err e) X is = tt
-
-pub returns-clause-copies : goal.returns-clause-copies
-returns-clause-copies g c =
-    let copies : AreNoted c.note_copies.new.sets (copies_of c.args.settled.now.blocks.items) = rw c.deref.ensures.value at c.in_ok-note_copies.ensures.noted in
-    always c.note_large.result (AreNoted c.note_large.new.sets (copies_of c.args.settled.now.blocks.items)) (all_noted_still c.note_copies.new.sets c.note_large.new.sets (copies_of c.args.settled.now.blocks.items) c.note_large.ensures.grown copies)
+pub returns-clause-noted : goal.returns-clause-noted
+returns-clause-noted g c =
+    let settled = c.args.settled.now in
+    let youngest = c.youngest_of_large-youngest.result in
+    let copies_from : AreFrom c.youngest_of_copies-youngest.result (copies_of settled.blocks.items) = rw c.deref.ensures.value at c.youngest_of_copies-youngest.ensures.copies in
+    let copies : AreNoted youngest c.note_copies.new.sets (copies_of settled.blocks.items) = rw c.deref-2.ensures.value at c.in_ok-note_copies.ensures.noted in
+    on_ok_weaker c.note_large.result
+    (λ large. (
+      youngest,
+      record {
+        stays = omega (arith, c.youngest_of_large-youngest.ensures.most, c.youngest_of_copies-youngest.ensures.most, c.generation.ensures);
+        copies_from = λ k d lt. omega (arith, copies_from k d lt, c.youngest_of_large-youngest.ensures.most);
+        large_from = c.youngest_of_large-youngest.ensures.large;
+        copies = all_noted_still youngest c.note_copies.new.sets c.note_large.new.sets (copies_of settled.blocks.items) c.note_large.ensures.grown copies;
+        large = large;
+      },
+    ))
+    c.note_large.ensures.noted

@@ -2,7 +2,7 @@ use Rattle.std.proofs.Common.{sym, subst, arith, ⊎_elim}
 use Rattle.std.proofs.lemmas.Bool.{cases_eq, cases_lt}
 use Rattle.heap.specs.Noted.{IsLargeNoted}
 use Rattle.heap.proofs.Grown.{grown_more}
-use Rattle.heap.proofs.LargeNoted.{large_still, noted_none}
+use Rattle.heap.proofs.LargeNoted.{large_still, kept_none, noted_not}
 use Rattle.heap.proofs.remembering.large_copies.note_large.Goals as goal
 
 pub returns-in_err-note_kept-clause-grown : goal.returns-in_err-note_kept-clause-grown
@@ -18,10 +18,10 @@ loop-of-preserved g c =
       grown = grown_more _ _ _ c.loop-of.invariant.grown c.note_kept.ensures.grown;
       low = omega (arith, c.in-Some.of.in_range);
       noted = λ number lt. ⊎_elim
-          (λ same. subst (IsLargeNoted c.note_kept.new.sets objects generation places) (sym same) c.in_ok-note_kept.ensures.noted)
+          (λ same. subst (IsLargeNoted c.args.youngest c.note_kept.new.sets objects generation places) (sym same) c.in_ok-note_kept.ensures.noted)
           (λ differ. ⊎_elim
-          (λ before. large_still objects generation places _ _ number c.note_kept.ensures.grown (c.loop-of.invariant.noted number before))
-          (λ after. noted_none objects generation places c.note_kept.new.sets number (next.lowest number after (omega (arith, lt, differ))))
+          (λ before. large_still objects generation places c.args.youngest _ _ number c.note_kept.ensures.grown (c.loop-of.invariant.noted number before))
+          (λ after. noted_not objects generation places number c.args.youngest c.note_kept.new.sets (kept_none objects generation places number (next.lowest number after (omega (arith, lt, differ)))))
           (cases_lt number c.loop-of.from))
           (cases_eq number c.in-Some.of.number);
     }
@@ -34,5 +34,5 @@ returns-clause-noted g c =
     let none = rw c.in_default.is at c.next_large.ensures in
     λ number. ⊎_elim
     (λ before. c.loop-of.invariant.noted number before)
-    (λ after. noted_none objects generation places c.loop-of.sets number (none number after))
+    (λ after. noted_not objects generation places number c.args.youngest c.loop-of.sets (kept_none objects generation places number (none number after)))
     (cases_lt number c.loop-of.from)

@@ -8,7 +8,7 @@ abbrev pub invariant-loop-of : goal.invariant-loop-of
 invariant-loop-of g l = record {
   grown : AreGrown l.fn.sets l.sets;
   low : l.from ≤ 65535;
-  noted : (number : ℕ) → number < l.from → IsLargeNoted l.sets l.objects l.collection.generation l.places number;
+  noted : (number : ℕ) → number < l.from → IsLargeNoted l.youngest l.sets l.objects l.collection.generation l.places number;
 }
 
 abbrev pub decreases-loop-of : goal.decreases-loop-of
