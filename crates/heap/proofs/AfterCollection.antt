@@ -1,14 +1,15 @@
 -- After a collection the remembered sets are exactly those of the objects.
-use Rattle.std.proofs.Common.{◌≡◌, ℕ, suc, ◌<◌, ◌≤◌, true, false, List, [], ◌∷◌, length, map, get_or, Option, Some, None, refl, sym, ap, subst, ◌∙◌, arith, ⊎_elim}
+use Rattle.std.proofs.Common.{◌≡◌, ℕ, suc, ◌+◌, ◌<◌, ◌≤◌, ◌⊎◌, inl, inr, Bool, true, false, List, [], ◌∷◌, length, map, get_or, Option, Some, None, refl, sym, ap, subst, ◌∙◌, arith, ⊎_elim}
 use Rattle.std.proofs.lemmas.Bool.{true≢false, cases_lt, cases_eq}
+use Rattle.std.proofs.lemmas.Bool.Decides.{nat_tests}
 use Rattle.std.proofs.lemmas.Option.{slice_get-map}
-use Rattle.std.specs.Prelude.{◌↔◌, IsTrue, IsSome, is_some, slice_get, slice_index_or, unwrap_or, nat_eq}
+use Rattle.std.specs.Prelude.{◌↔◌, ◌-◌, IsTrue, IsSome, is_some, slice_get, slice_index_or, unwrap_or, nat_eq, nat_lt}
 use Rattle.std.specs.Option.{option_map, option_map_or, option_and_then}
 use Rattle.std.specs.List.{IsDistinct}
 use Rattle.std.specs.Ordering.{nat_cmp}
 use Rattle.std.specs.FinMap.{get, find}
 use Rattle.model.specs.Graph.{Graph, Object, IsClosed, is_large}
-use Rattle.model.specs.Destination.{dest}
+use Rattle.model.specs.Destination.{Shape, oldest, dest}
 use Rattle.model.specs.Census.{points_younger}
 use Rattle.model.specs.Live.{Live, IsYoung}
 use Rattle.model.specs.Reached.{has}
@@ -17,7 +18,10 @@ use Rattle.model.proofs.LiveLemmas.{Live-young}
 use Rattle.model.proofs.Finds.{find_all}
 use Rattle.model.proofs.Options.{some_is, some_not_none}
 use Rattle.model.proofs.NatMap.{find_other, find_same}
+use Rattle.layout.specs.declared.place.SmallPlace.{SmallPlace}
+use Rattle.layout.specs.declared.place.LargeNumber.{LargeNumber}
 use Rattle.layout.specs.declared.place.Place.{Place}
+use Rattle.layout.specs.declared.place.Place.TheVariants.{Small, Large}
 use Rattle.layout.specs.Place.{place_word, large_word}
 use Rattle.block_pool.specs.BlockValue.{BlockValue}
 use Rattle.steps.specs.BlockObjects.{copies_of}
@@ -38,10 +42,20 @@ use Rattle.heap.specs.HeapView.{heap_of, heap_with}
 use Rattle.heap.specs.IsHeap.{IsHeap, AreHeapObjects}
 use Rattle.remembered_set.specs.Sets.{members_of}
 use Rattle.heap.specs.Growth.{AreGrown}
-use Rattle.heap.specs.Noted.{IsNoted, IsKeptLarge, AreAllNoted}
+use Rattle.heap.specs.Lowest.{MayLeadYounger}
+use Rattle.heap.specs.Noted.{IsCopyNoted, IsKeptLarge, AreAllNoted}
 use Rattle.heap.proofs.Grown.{grown_has}
-use Rattle.heap.proofs.Holding.{PointsTo, at_any, younger_from, younger_is, has_some, holder_is}
+use Rattle.heap.proofs.Holding.{PointsTo, at_any, younger_from, younger_is, holder_is}
 use Rattle.heap.proofs.WithSets.{free_with, free_without}
+
+-- an object goes at most one generation on
+dest_most : (shape : Shape) (h s : ℕ) → (dest shape (h, s)).0 ≤ h + 1
+dest_most shape h s = go (nat_lt h (oldest shape)) (nat_lt s (shape.steps - 1)) refl refl
+  where
+    go : (b c : Bool) → nat_lt h (oldest shape) ≡ b → nat_lt s (shape.steps - 1) ≡ c → (dest shape (h, s)).0 ≤ h + 1
+    go true true p q = rw (p, q) (omega arith)
+    go true false p q = rw (p, q) (omega arith)
+    go false c p q = let le : oldest shape ≤ h = grind (arith, nat_tests, p) in rw p (omega (arith, le))
 
 -- where an entry that is found stands
 record Stands (es : List (ℕ × Object)) (q : ℕ) (o : Object) : Type 0 where
@@ -83,8 +97,9 @@ module _ (objects objects' : ObjectsValue) (slots slots' : List (Option Place)) 
     (ended : IsEnded (heap_of objects slots) collection.generation (renaming_of (young_names (heap_of objects slots).graph collection.generation) won) (heap_of objects' slots'))
     (whole : AreHeapObjects (heap_of objects' slots'))
     (grown : AreGrown sets noted_sets)
+    (lowest : ℕ → ℕ)
     (youngest : ℕ)
-    (noted : AreAllNoted youngest noted_sets objects collection.generation places (copies_of blocks))
+    (noted : AreAllNoted lowest youngest noted_sets objects collection.generation places (copies_of blocks))
     (generations : length sets' ≡ length noted_sets)
     (members : (h n : ℕ) → h < length noted_sets → IsTrue (has (members_of sets' h) n) ↔ (IsTrue (has (members_of noted_sets h) n) × IsTrue (is_holder (graph_in objects') h n)))
     (once : (h : ℕ) → h < length noted_sets → IsDistinct nat_eq (members_of sets' h)) where
@@ -151,6 +166,55 @@ module _ (objects objects' : ObjectsValue) (slots slots' : List (Option Place)) 
       omega (arith, noted.stays, older.older, ap (λ x. x.generation) moved))
       from.1
 
+  -- a small object that stands there is a copy of no generation below what is said of its block, or it isn't collected
+  low_in_block : (name : ℕ) (o : Object) (at : SmallPlace) → get objects'.objects name ≡ Some o → name ≡ place_word (Small at) → (lowest at.block ≤ o.generation) ⊎ (collection.generation < o.generation)
+  low_in_block name o at there word =
+      let from = ended.graph.no_others name o there in
+      ⊎_elim
+      (λ live.
+      let young = Live-young old collection.generation from.0 live in
+      let placed = settled.renaming.all_live from.0 live in
+      let new : placed.0 ≡ name = sym (ap (λ p. unwrap_or p from.0) placed.1) ∙ from.2 in
+      let moved = some_is (sym (ended.graph.live from.0 young.object live young.there) ∙ ap (get objects'.objects) from.2 ∙ there) in
+      ⊎_elim
+      (λ large.
+      let same : from.0 ≡ name = sym (settled.renaming.large_stays from.0 young.object live young.there large) ∙ from.2 in
+      let high = (sound.places from.0 young.object young.there).large large in
+      absurd (omega (arith, same, word, high.is, at.block_in_range, at.offset_in_range)))
+      (λ copied.
+      let stands = found_stands (copies_of blocks) placed.0 o (copied ∙ ap Some moved) in
+      let e : ℕ × Object = (placed.0, o) in
+      inl (subst (λ x. x.0 ≡ place_word (Small at) → lowest at.block ≤ x.1.generation) (stands.is e) (noted.blocks stands.place e stands.in_range at) (new ∙ word)))
+      (settled.copies from.0 placed.0 young.object placed.1 young.there))
+      (λ older.
+      let same : from.0 ≡ name = sym (not_young from.0 older.object older.there older.older) ∙ from.2 in
+      let moved = some_is (sym (ended.graph.older from.0 older.object older older.there) ∙ ap (get objects'.objects) same ∙ there) in
+      inr (omega (arith, older.older, ap (λ x. x.generation) moved)))
+      from.1
+
+  -- a copy that points to a younger object has a pointer that may lead to one by its block
+  may_lead : (o : Object) → o.generation ≤ collection.generation + 1 → PointsTo (get objects'.objects) o → MayLeadYounger lowest o.generation o.pointers
+  may_lead o most points = by_size (is_large (heap_of objects' slots').config.block_words points.other) refl
+    where
+      by_size : (b : Bool) → is_large (heap_of objects' slots').config.block_words points.other ≡ b → MayLeadYounger lowest o.generation o.pointers
+      by_size true large =
+          let at = (whole.sound.places points.target points.other points.there).large large in
+          let of : LargeNumber = record { number = at.number; in_range = at.in_range } in
+          record { field = points.field; place = Large of; pointer = points.pointer ∙ ap (λ w. Some (Some w)) at.is; younger = tt }
+      by_size false small =
+          let at = (whole.sound.places points.target points.other points.there).small small in
+          let place : SmallPlace = record {
+            block = at.block;
+            offset = at.offset;
+            block_in_range = omega (arith, at.block_in_range, whole.sound.range.most_blocks);
+            offset_in_range = at.offset_in_range;
+          } in
+          let below : lowest at.block < o.generation = ⊎_elim
+          (λ low. omega (arith, low, points.younger))
+          (λ above. absurd (omega (arith, above, most, points.younger)))
+          (low_in_block points.target points.other place points.there at.is) in
+          record { field = points.field; place = Small place; pointer = points.pointer ∙ ap (λ w. Some (Some w)) at.is; younger = below }
+
   -- so what points to a younger object is older than the youngest
   is_older : (o : Object) → PointsTo (get objects'.objects) o → youngest < o.generation
   is_older o points = omega (arith, none_younger points.target points.other points.there, points.younger)
@@ -166,11 +230,12 @@ module _ (objects objects' : ObjectsValue) (slots slots' : List (Option Place)) 
       subst (λ n. has (members_of noted_sets o.generation) n ≡ true) (sym at.1) (subst (λ h. has (members_of noted_sets h) (large_word at.0) ≡ true) (sym same) member)
 
   -- a copy that points to a younger object was noted
-  small_noted : (name : ℕ) (was o : Object) → find nat_cmp name (copies_of blocks) ≡ Some (moved_to renaming (dest objects.config.shape (was.generation, was.step)) was) → moved_to renaming (dest objects.config.shape (was.generation, was.step)) was ≡ o → PointsTo (get objects'.objects) o → o.generation < length noted_sets → has (members_of noted_sets o.generation) name ≡ true
-  small_noted name was o copied moved points low =
+  small_noted : (name : ℕ) (was o : Object) → was.generation ≤ collection.generation → find nat_cmp name (copies_of blocks) ≡ Some (moved_to renaming (dest objects.config.shape (was.generation, was.step)) was) → moved_to renaming (dest objects.config.shape (was.generation, was.step)) was ≡ o → PointsTo (get objects'.objects) o → o.generation < length noted_sets → has (members_of noted_sets o.generation) name ≡ true
+  small_noted name was o young copied moved points low =
       let stands = found_stands (copies_of blocks) name o (copied ∙ ap Some moved) in
       let e : ℕ × Object = (name, o) in
-      subst (IsNoted youngest noted_sets) (stands.is e) (noted.copies stands.place e stands.in_range) (is_older o points) low (has_some (get objects'.objects) o points)
+      let most : o.generation ≤ collection.generation + 1 = omega (arith, ap (λ x. x.generation) moved, dest_most objects.config.shape was.generation was.step, young) in
+      subst (IsCopyNoted lowest youngest noted_sets) (stands.is e) (noted.copies stands.place e stands.in_range) (is_older o points) low (may_lead o most points)
 
   copy_noted : (name source : ℕ) (o : Object) → get objects'.objects name ≡ Some o → PointsTo (get objects'.objects) o → o.generation < length noted_sets → Live old collection.generation source → renamed renaming source ≡ name → has (members_of noted_sets o.generation) name ≡ true
   copy_noted name source o there points low live at =
@@ -182,7 +247,7 @@ module _ (objects objects' : ObjectsValue) (slots slots' : List (Option Place)) 
       (λ large.
       let same : source ≡ name = sym (settled.renaming.large_stays source young.object live young.there large) ∙ at in
       subst (λ n. has (members_of noted_sets o.generation) n ≡ true) same (large_noted source young.object o live young.there young.young large moved points low))
-      (λ copied. small_noted name young.object o (ap (λ k. find nat_cmp k (copies_of blocks)) (sym new) ∙ copied) moved points low)
+      (λ copied. small_noted name young.object o young.young (ap (λ k. find nat_cmp k (copies_of blocks)) (sym new) ∙ copied) moved points low)
       (settled.copies source placed.0 young.object placed.1 young.there)
 
   -- an older object that points to a younger one did so before

@@ -2,7 +2,7 @@
 use Rattle.std.proofs.Common.{◌≡◌, ℕ, zero, suc, ◌<◌, Bool, true, false, cond, List, [], ◌∷◌, Option, Some, None, refl, sym, ap, ◌∙◌, arith, ⊎_elim}
 use Rattle.std.proofs.lemmas.Bool.{true≢false, or_cases, or_left, or_right}
 use Rattle.std.proofs.lemmas.Bool.Decides.{nat_tests}
-use Rattle.std.specs.Prelude.{slice_get, is_some, nat_lt, nat_eq, option_and_then}
+use Rattle.std.specs.Prelude.{slice_get, nat_lt, nat_eq, option_and_then}
 use Rattle.std.specs.Option.{option_map_or}
 use Rattle.std.specs.List.{list_any}
 use Rattle.model.specs.Graph.{Graph, Object, object_at}
@@ -54,9 +54,6 @@ module _ (object : ℕ → Option Object) (o : Object) where
   younger_is found =
       let lower : nat_lt found.other.generation o.generation ≡ true = grind (arith, nat_tests, found.younger) in
       at_any (points_to (λ x. nat_lt x.generation o.generation) object) o.pointers found.field (Some found.target) found.pointer (ap (λ t. option_map_or (λ x. nat_lt x.generation o.generation) t false) found.there ∙ lower)
-
-  pub has_some : PointsTo object o → list_any is_some o.pointers ≡ true
-  has_some found = at_any is_some o.pointers found.field (Some found.target) found.pointer refl
 
 pub holder_is : (graph : Graph) (name : ℕ) (o : Object) → object_at graph name ≡ Some o → points_younger (object_at graph) o ≡ true → is_holder graph o.generation name ≡ true
 holder_is graph name o there younger =

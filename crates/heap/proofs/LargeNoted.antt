@@ -1,18 +1,17 @@
 -- Large objects that are noted where a collection takes them.
 use Rattle.std.proofs.Common.{◌≡◌, ℕ, true, false, List, get_or, Option, Some, None, sym, ap, subst, ◌∙◌}
 use Rattle.std.proofs.lemmas.Bool.{true≢false}
-use Rattle.std.specs.Prelude.{is_some, slice_index_or}
-use Rattle.std.specs.Option.{option_map}
+use Rattle.std.specs.Prelude.{is_some, slice_index_or, IsTrue}
+use Rattle.std.specs.List.{list_any}
 use Rattle.std.specs.FinMap.{get}
 use Rattle.model.specs.Graph.{Object}
 use Rattle.model.specs.Destination.{dest}
 use Rattle.model.specs.Live.{IsYoung}
 use Rattle.model.specs.Reached.{has}
-use Rattle.model.proofs.Options.{some_is, some_not_none}
+use Rattle.model.proofs.Options.{some_not_none}
 use Rattle.model.proofs.RisingKeys.{same_index, keys-filter_rise}
 use Rattle.layout.specs.declared.place.Place.{Place}
 use Rattle.layout.specs.Place.{large_word}
-use Rattle.steps.specs.StepPairs.{stands_at}
 use Rattle.steps.specs.CollectionValue.{young_names}
 use Rattle.heap_objects.specs.Objects.{ObjectsValue, graph_in}
 use Rattle.heap_objects.specs.Collecting.{IsNumbered, at_step}
@@ -23,7 +22,7 @@ use Rattle.heap.proofs.NotedCopies.{noted_still}
 
 module _ (objects : ObjectsValue) (g : ℕ) (places : List (Option Place)) where
   pub large_still : (youngest : ℕ) (a b : List (List ℕ)) (number : ℕ) → AreGrown a b → IsLargeNoted youngest a objects g places number → IsLargeNoted youngest b objects g places number
-  large_still youngest a b number grown noted = λ o kept. noted_still youngest a b grown (large_word number, at_step o (dest objects.config.shape (o.generation, o.step))) (noted o kept)
+  large_still youngest a b number grown noted = λ o kept. noted_still (IsTrue (list_any is_some o.pointers)) youngest a b grown (large_word number, at_step o (dest objects.config.shape (o.generation, o.step))) (noted o kept)
 
   module _ (number : ℕ) where
     -- there is none

@@ -24,6 +24,7 @@ pub mod SameSupport
 pub mod MemberSlots
 pub mod Grown
 pub mod NotedCopies
+pub mod LowestBlocks
 pub mod LargeNoted
 pub mod Pointing
 pub mod Holding

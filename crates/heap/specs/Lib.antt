@@ -13,6 +13,7 @@ pub mod Installed
 pub mod Ended
 -- Remembered sets that grow, and what a collection leaves of them.
 pub mod Growth
+pub mod Lowest
 pub mod Noted
 pub mod Commands
 pub mod Found

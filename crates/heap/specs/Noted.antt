@@ -1,5 +1,5 @@
 -- Objects that may point to a younger one and are members of the set of their generation. `youngest` is a generation below which
--- nothing stands when the collection has ended.
+-- nothing stands when the collection has ended, and `lowest` says of each block's number a generation below which nothing stands in it.
 use Rattle.std.specs.Prelude.{◌≡◌, ℕ, ◌+◌, ◌<◌, ◌≤◌, List, length, Option, Some, None, IsTrue, IsSome, is_some, slice_index_or, All}
 use Rattle.std.specs.List.{list_any}
 use Rattle.std.specs.FinMap.{get}
@@ -13,17 +13,22 @@ use Rattle.steps.specs.BlockObjects.{block_objects}
 use Rattle.heap_objects.specs.Objects.{ObjectsValue}
 use Rattle.heap_objects.specs.Collecting.{IsNumbered, at_step}
 use Rattle.remembered_set.specs.Sets.{members_of}
+use Rattle.heap.specs.Lowest.{AreLowest, MayLeadYounger}
 
--- the object is a member where it is of an older generation than the youngest and has a pointer that isn't nil
-abbrev pub IsNoted : ℕ → List (List ℕ) → ℕ × Object → Type 0
-IsNoted youngest sets e = youngest < e.1.generation → e.1.generation < length sets → IsTrue (list_any is_some e.1.pointers) → IsTrue (has (members_of sets e.1.generation) e.0)
+-- the object is a member where it is of an older generation than the youngest and has such a pointer
+abbrev pub IsNoted : Type 0 → ℕ → List (List ℕ) → ℕ × Object → Type 0
+IsNoted has_pointer youngest sets e = youngest < e.1.generation → e.1.generation < length sets → has_pointer → IsTrue (has (members_of sets e.1.generation) e.0)
 
-abbrev pub AreNoted : ℕ → List (List ℕ) → List (ℕ × Object) → Type 0
-AreNoted youngest sets objects = All (IsNoted youngest sets) objects
+-- a copy: a pointer that may lead to a younger object
+abbrev pub IsCopyNoted : (ℕ → ℕ) → ℕ → List (List ℕ) → ℕ × Object → Type 0
+IsCopyNoted lowest youngest sets e = IsNoted (MayLeadYounger lowest e.1.generation e.1.pointers) youngest sets e
+
+abbrev pub AreNoted : (ℕ → ℕ) → ℕ → List (List ℕ) → List (ℕ × Object) → Type 0
+AreNoted lowest youngest sets objects = All (IsCopyNoted lowest youngest sets) objects
 
 -- so it is with the k-th object of a block
-abbrev pub IsNotedAt : ℕ → List (List ℕ) → BlockValue → ℕ → Type 0
-IsNotedAt youngest sets block k = (e : ℕ × Object) → IsNoted youngest sets (slice_index_or (block_objects block.number block) k e)
+abbrev pub IsNotedAt : (ℕ → ℕ) → ℕ → List (List ℕ) → BlockValue → ℕ → Type 0
+IsNotedAt lowest youngest sets block k = (e : ℕ × Object) → IsCopyNoted lowest youngest sets (slice_index_or (block_objects block.number block) k e)
 
 -- o is the large object of that number, and a collection of the generations 0 to g keeps it
 pub record IsKeptLarge (objects : ObjectsValue) (g : ℕ) (places : List (Option Place)) (number : ℕ) (o : Object) : Type 0 where
@@ -31,9 +36,9 @@ pub record IsKeptLarge (objects : ObjectsValue) (g : ℕ) (places : List (Option
   pub young : o.generation ≤ g
   pub place : (n : ℕ) × IsNumbered objects g (large_word number) n × IsSome (slice_index_or places n None)
 
--- a large object that is kept is noted where it goes
+-- a large object that is kept is noted where it goes, if it has a pointer that isn't nil
 abbrev pub IsLargeNoted : ℕ → List (List ℕ) → ObjectsValue → ℕ → List (Option Place) → ℕ → Type 0
-IsLargeNoted youngest sets objects g places number = (o : Object) → IsKeptLarge objects g places number o → IsNoted youngest sets (large_word number, at_step o (dest objects.config.shape (o.generation, o.step)))
+IsLargeNoted youngest sets objects g places number = (o : Object) → IsKeptLarge objects g places number o → IsNoted (IsTrue (list_any is_some o.pointers)) youngest sets (large_word number, at_step o (dest objects.config.shape (o.generation, o.step)))
 
 abbrev pub AreLargeNoted : ℕ → List (List ℕ) → ObjectsValue → ℕ → List (Option Place) → Type 0
 AreLargeNoted youngest sets objects g places = (number : ℕ) → IsLargeNoted youngest sets objects g places number
@@ -51,9 +56,10 @@ AreLargeFrom youngest objects g places = (number : ℕ) → IsLargeFrom youngest
 
 -- what a collection of the generations 0 to g brings, the copies and the large objects that it keeps, is noted wherever
 -- something younger may stand
-pub record AreAllNoted (youngest : ℕ) (sets : List (List ℕ)) (objects : ObjectsValue) (g : ℕ) (places : List (Option Place)) (brought : List (ℕ × Object)) : Type 0 where
+pub record AreAllNoted (lowest : ℕ → ℕ) (youngest : ℕ) (sets : List (List ℕ)) (objects : ObjectsValue) (g : ℕ) (places : List (Option Place)) (brought : List (ℕ × Object)) : Type 0 where
   pub stays : youngest ≤ g + 1
   pub copies_from : AreFrom youngest brought
   pub large_from : AreLargeFrom youngest objects g places
-  pub copies : AreNoted youngest sets brought
+  pub blocks : AreLowest lowest brought
+  pub copies : AreNoted lowest youngest sets brought
   pub large : AreLargeNoted youngest sets objects g places

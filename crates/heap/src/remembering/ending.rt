@@ -25,9 +25,10 @@ use std::alloc::{AllocError, Allocator};
 use steps::{Report, Settled};
 
 /// Notes what the collection brings back, where it may have a pointer to a younger object: the copies, and the large objects
-/// that it keeps. Where it leaves nothing younger, as a collection that promotes all, it goes over blocks and not over
-/// objects. At an error some may be noted.
+/// that it keeps. Where it leaves nothing younger, as a collection that promotes all, it goes over blocks and large objects,
+/// and not over copies. At an error some may be noted.
 fn note_all<A: Allocator + Clone>(
+    alloc: A,
     objects: &HeapObjects<A>,
     sets: &mut Remembered<A>,
     settled: &Settled<A>,
@@ -37,14 +38,14 @@ fn note_all<A: Allocator + Clone>(
     requires count { length settled.now.places ≡
         length (young_names (graph_in objects.now) settled.now.collection.generation) }
     ensures grown { AreGrown sets.old sets.new }
-    ensures noted { OnOk result ((youngest : ℕ) × AreAllNoted youngest sets.new objects.now
+    ensures noted { OnOk result ((lowest : ℕ → ℕ) × (youngest : ℕ) × AreAllNoted lowest youngest sets.new objects.now
         settled.now.collection.generation settled.now.places (copies_of settled.now.blocks.items)) }
 {
     let collection = &settled.collection;
     let older = collection.generation() as usize + 1;
     let youngest = youngest_of_copies(&settled.blocks, older);
     let youngest = youngest_of_large(objects, collection, &settled.places, youngest);
-    note_copies(sets, youngest, &settled.blocks)?;
+    note_copies(alloc, sets, youngest, &settled.blocks)?;
     note_large(sets, youngest, objects, collection, &settled.places)
 }
 
@@ -80,8 +81,9 @@ pub fn commit<A: Allocator + Clone>(
         ((objects.new ≡ objects.old) × (roots.new ≡ roots.old) × (sets.new ≡ sets.old)) }
 {
     let _before = objects.free_count();
+    let own = alloc.clone()?;
     let lens = lens(sets);
-    let Ok(()) = note_all(objects, sets, &settled) else {
+    let Ok(()) = note_all(own, objects, sets, &settled) else {
         cut_back(sets, lens.as_slice());
         return Err(AllocError);
     };

@@ -1,23 +1,35 @@
 //! The large objects that a collection keeps: those that may have a pointer to a younger object from where they go.
-ghost use Rattle.std.specs.Prelude.{◌≡◌, ◌≤◌, length, Some, None, IsSome, IsSomeAnd, IfSome, OnOk};
+ghost use Rattle.std.specs.Prelude.{◌≡◌, ℕ, ◌≤◌, length, map, Some, None, is_some, IsSome, IsSomeAnd, IfSome, OnOk};
+ghost use Rattle.std.specs.List.{list_any};
 ghost use Rattle.std.specs.FinMap.{get};
 ghost use Rattle.model.specs.Graph.{Object};
 ghost use Rattle.model.specs.Destination.{dest};
 ghost use Rattle.layout.specs.ObjectRef.{raw_of};
 ghost use Rattle.layout.specs.Place.{large_word};
-ghost use Rattle.steps.specs.Words.{IsShownAs};
+ghost use Rattle.steps.specs.Words.{IsShownAs, target_of_word};
 ghost use Rattle.steps.specs.CollectionValue.{IsNumbering, young_names};
 ghost use Rattle.heap_objects.specs.Objects.{graph_in};
 ghost use Rattle.heap.specs.Growth.{AreGrown};
 ghost use Rattle.heap.specs.Noted.{IsKeptLarge, IsLargeNoted, AreLargeNoted, AreLargeFrom};
 
-use crate::remembering::copies::has_pointer;
 use forwarding::Forwards;
 use heap_objects::HeapObjects;
 use layout::{LargeNumber, ObjectRef, Place};
 use remembered_set::Remembered;
 use std::alloc::{AllocError, Allocator};
 use steps::Collection;
+
+/// Whether some pointer with these words isn't nil.
+fn has_pointer(words: &[u64]) -> bool
+    ensures { result ≡ list_any is_some (map target_of_word words.now) }
+{
+    for word in words {
+        if *word != 0 {
+            return true;
+        }
+    }
+    false
+}
 
 /// A large object and the generation that it goes to, where the collection keeps it.
 fn kept<'a, A: Allocator + Clone>(
@@ -31,6 +43,8 @@ fn kept<'a, A: Allocator + Clone>(
     requires there { IsSome (get objects.now.objects (large_word of.number)) }
     ensures none { result ≡ None → (o : Object) →
         IsKeptLarge objects.now collection.now.generation places.now of.number o → ⊥ }
+    ensures some { IfSome result (λ kept. (o : Object) × IsKeptLarge
+        objects.now collection.now.generation places.now of.number o) }
     ensures object { IfSome result (λ kept. IsSomeAnd (get objects.now.objects (large_word of.number))
         (λ o. IsShownAs o (raw_of kept.0))) }
     ensures to { IfSome result (λ kept. (o : Object) → get objects.now.objects (large_word of.number) ≡ Some o →
@@ -58,6 +72,8 @@ pub(crate) fn youngest_of_large<A: Allocator + Clone>(
     requires count { length places.now ≡ length (young_names (graph_in objects.now) collection.now.generation) }
     ensures most { result ≤ most }
     ensures large { AreLargeFrom result objects.now collection.now.generation places.now }
+    ensures greatest { (bound : ℕ) → bound ≤ most →
+        AreLargeFrom bound objects.now collection.now.generation places.now → bound ≤ result }
 {
     let mut youngest = most;
     let mut from = 0;

@@ -4,6 +4,7 @@ mod ending;
 mod holders;
 mod large_copies;
 mod lens;
+mod lowest;
 mod old_slots;
 
 pub use ending::commit;

@@ -4,7 +4,7 @@ use Rattle.std.specs.List.{list_any}
 use Rattle.steps.specs.Words.{target_of_word}
 use Rattle.heap_objects.proofs.GraphObjects.{target-some}
 use Rattle.heap_objects.proofs.Remembering.{any-more, any-here}
-use Rattle.heap.proofs.remembering.copies.has_pointer.Goals as goal
+use Rattle.heap.proofs.remembering.large_copies.has_pointer.Goals as goal
 
 pub returns-then-word-ne0 : goal.returns-then-word-ne0
 returns-then-word-ne0 c =
