@@ -125,15 +125,15 @@ fn blocks_given_up_are_the_next_ones(rt: HostRuntime) -> Result<(), Fail> {
     Ok(())
 }
 
-/// Two generations in large blocks.
-fn large_heap(refusing: &Refusing<Global>) -> Result<Counting<'_>, Fail> {
+/// Two generations, of which the younger has so many steps, in large blocks.
+fn large_heap(refusing: &Refusing<Global>, steps: u64) -> Result<Counting<'_>, Fail> {
     let sizes = Sizes {
         block_words: 512,
         blocks: 60_000,
         mutators: 1,
         nursery_blocks: 64,
         generations: 2,
-        steps: 1,
+        steps,
     };
     let Ok(config) = Config::new(sizes) else {
         return Err(Fail::from("bad sizes"));
@@ -208,7 +208,7 @@ fn assert_shrinks<'a>(
 
 /// The same of a new heap.
 fn assert_new_shrinks(rt: &impl Abort, refusing: &Refusing<Global>) -> Result<(), Fail> {
-    let mut heap = large_heap(refusing)?;
+    let mut heap = large_heap(refusing, 1)?;
     assert_shrinks(rt, refusing, &mut heap)
 }
 
@@ -241,7 +241,16 @@ fn link<'a>(heap: &mut Counting<'a>, roots: &[RootId]) -> Result<(), Fail> {
     Ok(())
 }
 
-/// Asserts that a collection that leaves nothing young asks for no memory to remember the old objects, which lead to each other.
+/// Collects all beside an object that was just made, and tells how many requests for memory that took.
+fn asked_beside_young<'a>(
+    refusing: &'a Refusing<Global>,
+    heap: &mut Counting<'a>,
+) -> Result<u64, Fail> {
+    let _young = heap.allocate(0, 0, 1)?;
+    asked_with_lists(refusing, heap, 1)
+}
+
+/// Asserts that a collection asks for no memory to remember old objects that lead to each other.
 fn assert_none_noted<'a>(
     rt: &impl Abort,
     alloc: Global,
@@ -249,29 +258,33 @@ fn assert_none_noted<'a>(
     heap: &mut Counting<'a>,
 ) -> Result<(), Fail> {
     let roots = with_a_pointer(alloc, heap, 1_000)?;
-    let _promoted = asked_with_lists(refusing, heap, 1)?;
-    let _anew = asked_with_lists(refusing, heap, 1)?;
-    let apart = asked_with_lists(refusing, heap, 1)?;
+    for _collection in 0..3 {
+        let _anew = asked_beside_young(refusing, heap)?;
+    }
+    let apart = asked_beside_young(refusing, heap)?;
     link(heap, roots.as_slice())?;
-    let linked = asked_with_lists(refusing, heap, 1)?;
+    let linked = asked_beside_young(refusing, heap)?;
     assert!(rt; linked <= apart, "{linked} {apart}");
     Ok(())
 }
 
-/// The same of a new heap.
+/// The same of a new heap. With one step the young object becomes old too, with two it stays young.
 fn assert_none_noted_in_new(
     rt: &impl Abort,
     alloc: Global,
     refusing: &Refusing<Global>,
+    steps: u64,
 ) -> Result<(), Fail> {
-    let mut heap = large_heap(refusing)?;
+    let mut heap = large_heap(refusing, steps)?;
     assert_none_noted(rt, alloc, refusing, &mut heap)
 }
 
 #[test]
 fn old_objects_that_lead_to_old_ones_are_not_noted(rt: HostRuntime) -> Result<(), Fail> {
-    let refusing = Refusing::new(rt.alloc(), NONE);
-    assert_none_noted_in_new(&rt, rt.alloc(), &refusing)?;
-    assert_eq!(rt; refusing.asked(), refusing.returned());
+    for steps in 1..3 {
+        let refusing = Refusing::new(rt.alloc(), NONE);
+        assert_none_noted_in_new(&rt, rt.alloc(), &refusing, steps)?;
+        assert_eq!(rt; refusing.asked(), refusing.returned());
+    }
     Ok(())
 }

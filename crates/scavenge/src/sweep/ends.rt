@@ -31,7 +31,7 @@ fn held_for<A: Allocator>(hand: &Hand<A>, config: Config, most: usize) -> Option
 }
 
 impl<A: Allocator> Workspace<A> {
-    /// Opens the workspace for a sweep over the block in hand, which copies into the block for the same destination, with room
+    /// Opens the workspace for a sweep over the block in hand, which copies into the block for one destination, with room
     /// for what the two bring. `Err` gives it back: the start list isn't finished, something is proposed, no block is held in
     /// hand with something unscanned, there is none to copy into, or memory ran out.
     #[inline(always)]
@@ -44,9 +44,10 @@ impl<A: Allocator> Workspace<A> {
             return Err(self);
         }
         let room = self.scanned.capacity() - self.scanned.len();
-        let Some(destination) = held_for(&self.hand, self.config, room) else {
+        let Some(held) = held_for(&self.hand, self.config, room) else {
             return Err(self);
         };
+        let destination = self.allocation.last_or(held);
         if self.won.capacity() - self.won.len() - self.won_room < self.config.block_words() {
             return Err(self);
         }

@@ -28,13 +28,16 @@ pub fn going_from(config: Config, from: StepId) -> Going
 
 /// Whether small objects go to destination 0 wherever they stand: in a heap of one generation, or of two with one step.
 pub fn has_one_destination(config: Config) -> bool
-    ensures { result ≡ true → AllGo config.shape 0 }
+    ensures { IsTrue result ↔ AllGo config.shape 0 }
 {
-    match config.generations() {
-        1 => true,
-        2 => config.steps() == 1,
-        _ => false,
+    let generations = config.generations();
+    if generations > 2 {
+        return false;
     }
+    if generations == 1 {
+        return true;
+    }
+    config.steps() == 1
 }
 
 /// Where the small objects of a generation and step go, by what is known of the last ones.

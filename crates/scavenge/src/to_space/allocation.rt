@@ -1,5 +1,5 @@
 //! The blocks that a worker copies into.
-ghost use Rattle.std.specs.Prelude.{◌≡◌, ◌+◌, ◌≤◌, ◌<◌, ◌++◌, ◌∷◌, [], true, Some, None, length, slice_get, slice_set, nat_lt, replicate, IfOk, IsSome, IsSomeAnd, IsTrue, ◌↔◌};
+ghost use Rattle.std.specs.Prelude.{◌≡◌, ◌+◌, ◌≤◌, ◌<◌, ◌++◌, ◌∷◌, [], true, Some, None, length, slice_get, slice_set, nat_lt, replicate, IfOk, IsSome, IsSomeAnd, IsTrue, ◌↔◌, ◌⊎◌};
 ghost use Rattle.std.specs.Option.{option_map};
 ghost use Rattle.layout.specs.Object.{Raw, raw_size};
 ghost use Rattle.layout.specs.ObjectRef.{raw_of};
@@ -18,6 +18,8 @@ use std::marker::Model;
 #[derive(Drop)]
 pub struct AllocationBlocks<A: Allocator = Global> {
     blocks: Vec<Option<Block<A>>, A>,
+    /// The destination for which an object was pushed last.
+    last: usize,
 }
 
 impl<A: Allocator> Model for AllocationBlocks<A> {
@@ -69,7 +71,7 @@ impl<A: Allocator> AllocationBlocks<A> {
         for _ in 0..count {
             blocks.push_reserved(None);
         }
-        Ok(AllocationBlocks { blocks })
+        Ok(AllocationBlocks { blocks, last: 0 })
     }
 
     /// How many destinations there are.
@@ -97,6 +99,16 @@ impl<A: Allocator> AllocationBlocks<A> {
             Some(slot) => slot.is_some(),
             None => false,
         }
+    }
+
+    /// The destination for which an object was pushed last, or this one where no block is there for that.
+    pub fn last_or(&self, other: usize) -> usize
+        ensures { (result ≡ other) ⊎ IsSome (slot_at self.now result) }
+    {
+        if self.has_block(self.last) {
+            return self.last;
+        }
+        other
     }
 
     /// Takes out the block for a destination.
@@ -202,6 +214,7 @@ impl<A: Allocator> AllocationBlocks<A> {
         if d >= self.blocks.len() {
             unreachable!();
         }
+        self.last = d;
         let slot = &mut self.blocks[d];
         match slot {
             Some(block) => push(block, object),
@@ -246,7 +259,7 @@ impl<A: Allocator> AllocationBlocks<A> {
     pub fn into_blocks(self) -> Vec<Option<Block<A>>, A>
         ensures { result.items ≡ self }
     {
-        let AllocationBlocks { blocks } = self;
+        let AllocationBlocks { blocks, last: _ } = self;
         blocks
     }
 }

@@ -17,12 +17,12 @@ unreachable-requires g c =
 
 pub take-requires : goal.take-requires
 take-requires g c =
-    let there = some_is (slot_at c.self.inside.allocation c.in-Some.destination) (c.has_block.ensures.0 c.if-not-has_block.false) in
-    there_below c.self.inside.allocation c.in-Some.destination there.0 there.1
+    let there = some_is (slot_at c.self.inside.allocation c.last_or-destination.result) (c.has_block.ensures.0 c.if-not-has_block.false) in
+    there_below c.self.inside.allocation c.last_or-destination.result there.0 there.1
 
 pub unreachable-requires-in_default-take : goal.unreachable-requires-in_default-take
 unreachable-requires-in_default-take g c =
-    let there = some_is (slot_at c.self.inside.allocation c.in-Some.destination) (c.has_block.ensures.0 c.if-not-has_block.false) in
+    let there = some_is (slot_at c.self.inside.allocation c.last_or-destination.result) (c.has_block.ensures.0 c.if-not-has_block.false) in
     let e : None ≡ Some there.0 = sym c.in_default-take.is ∙ c.take.ensures.old ∙ there.1 in
     cc
 
@@ -32,14 +32,14 @@ cursor_of-cursor-requires g c =
 
 pub invariant_of-result : goal.invariant_of-result
 invariant_of-result g c =
-    let there : slot_at c.self.inside.allocation c.in-Some.destination ≡ Some c.in-Some-take.into = sym c.take.ensures.old ∙ c.in-Some-take.is in
-    let same : with_block c.take.new.self c.in-Some.destination c.in-Some-take.into ≡ c.self.inside.allocation = ap (λ xs. with_block xs c.in-Some.destination c.in-Some-take.into) c.take.ensures.table ∙ put_back c.self.inside.allocation c.in-Some.destination c.in-Some-take.into there in
+    let there : slot_at c.self.inside.allocation c.last_or-destination.result ≡ Some c.in-Some-take.into = sym c.take.ensures.old ∙ c.in-Some-take.is in
+    let same : with_block c.take.new.self c.last_or-destination.result c.in-Some-take.into ≡ c.self.inside.allocation = ap (λ xs. with_block xs c.last_or-destination.result c.in-Some-take.into) c.take.ensures.table ∙ put_back c.self.inside.allocation c.last_or-destination.result c.in-Some-take.into there in
     let none = none_is c.self.inside.proposed (sym c.is_some.ensures ∙ c.if-is_some.false) in
-    let short = length-put c.self.inside.allocation c.in-Some.destination None in
-    let made = subst (OnSome (IsMade c.self.inside.config)) there (c.self.invariant.1.in_slots c.in-Some.destination) in
+    let short = length-put c.self.inside.allocation c.last_or-destination.result None in
+    let made = subst (OnSome (IsMade c.self.inside.config)) there (c.self.invariant.1.in_slots c.last_or-destination.result) in
     let few : length c.in-Holding.held.objects ≤ c.capacity.result - c.len.result = subst (λ h. OnSome (λ (b : BlockValue). length b.objects ≤ c.capacity.result - c.len.result) (held_in h)) c.in-Holding.is (c.in-Some.ensures.few refl) in
-    let only : c.if-destination-eq0.is_only ≡ true → AllGo c.self.inside.config.shape c.in-Some.destination = elim c.if-destination-eq0.branch [
-      | then-destination-eq0 w ↦ λ is. subst (AllGo c.self.inside.config.shape) (sym w.if-destination-eq0.true) (w.has_one_destination-is_only.ensures (sym w.is_only-is ∙ is))
+    let only : c.if-destination-eq0.is_only ≡ true → AllGo c.self.inside.config.shape c.last_or-destination.result = elim c.if-destination-eq0.branch [
+      | then-destination-eq0 w ↦ λ is. subst (AllGo c.self.inside.config.shape) (sym w.if-destination-eq0.true) (w.has_one_destination-is_only.ensures.0 (sym w.is_only-is ∙ is))
       | else-destination-eq0 w ↦ λ is. absurd (w.if-destination-eq0.false (eqb-true _ _ (sym w.is_only-is ∙ is)))
     ] in
     rw same (
@@ -48,7 +48,7 @@ invariant_of-result g c =
       subst (λ h. AreMade c.self.inside.config c.self.inside.allocation c.self.inside.aside.items c.self.inside.done.items (held_in h)) c.in-Holding.is c.self.invariant.1,
       rw none at c.self.invariant.2,
       c.self.invariant.3,
-      omega (arith, ap length c.take.ensures.table, short, there_below c.self.inside.allocation c.in-Some.destination c.in-Some-take.into there),
+      omega (arith, ap length c.take.ensures.table, short, there_below c.self.inside.allocation c.last_or-destination.result c.in-Some-take.into there),
       omega (arith, c.if-self-len.false, c.len.ensures),
       c.cursor_of-cursor.ensures,
       c.going_from-going.ensures.going,
@@ -59,7 +59,7 @@ invariant_of-result g c =
 
 pub returns-clause-ok : goal.returns-clause-ok
 returns-clause-ok g c =
-    let there : slot_at c.self.inside.allocation c.in-Some.destination ≡ Some c.in-Some-take.into = sym c.take.ensures.old ∙ c.in-Some-take.is in
-    let same : with_block c.take.new.self c.in-Some.destination c.in-Some-take.into ≡ c.self.inside.allocation = ap (λ xs. with_block xs c.in-Some.destination c.in-Some-take.into) c.take.ensures.table ∙ put_back c.self.inside.allocation c.in-Some.destination c.in-Some-take.into there in
+    let there : slot_at c.self.inside.allocation c.last_or-destination.result ≡ Some c.in-Some-take.into = sym c.take.ensures.old ∙ c.in-Some-take.is in
+    let same : with_block c.take.new.self c.last_or-destination.result c.in-Some-take.into ≡ c.self.inside.allocation = ap (λ xs. with_block xs c.last_or-destination.result c.in-Some-take.into) c.take.ensures.table ∙ put_back c.self.inside.allocation c.last_or-destination.result c.in-Some-take.into there in
     let none = none_is c.self.inside.proposed (sym c.is_some.ensures ∙ c.if-is_some.false) in
     rw same (rw (c.in-Holding.is, none) at (c.self.view_is ∙ c.reserve_sweep.ensures))
