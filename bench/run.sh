@@ -85,6 +85,7 @@ copies_of_all() {
   copies tree 800000 10
   copies mixed 80000 100
   generations=2 copies old 80000 100
+  generations=2 copies beside 80000 100
   copies sizes 80000 100
 }
 

@@ -3,6 +3,8 @@
 #   traces.sh graph [OBJECTS] [COLLECTIONS]   objects of 4 words that share and form cycles, all reached from one name, collected again and again
 #   traces.sh tree [NODES] [COLLECTIONS]      a binary tree of such objects, reached from its root
 #   traces.sh old [NODES] [COLLECTIONS]       the same tree of two generations, all old, collected with them
+#   traces.sh beside [NODES] [COLLECTIONS]    the same, and an object made before each collection, which two steps leave young
+#   traces.sh levels [NODES] [COLLECTIONS]    a tree of which each second level has survived one collection more
 #   traces.sh sizes [NODES] [COLLECTIONS]     such a tree whose objects have 0 to 5 words beside two pointers
 #   traces.sh mixed [NODES] [COLLECTIONS]     the same tree, laid out in random order by a name for each node, in that order
 #   traces.sh wide [OBJECTS] [COLLECTIONS]    so many such objects with a name each, that lead to two earlier ones in random order
@@ -49,6 +51,32 @@ old() {
   tree "$1" 3 | sed '$d'
   awk -v collections="$2" 'BEGIN {
     for (i = 0; i < collections; i++) print "collect 1"
+    print "census"
+  }'
+}
+
+# beside: with one step nothing is young after a collection, as of `old`
+beside() {
+  tree "$1" 3 | sed '$d'
+  awk -v collections="$2" 'BEGIN {
+    for (i = 0; i < collections; i++) {
+      if (i > 1) printf "drop y%d\n", i - 2
+      printf "new y%d 0 2 1\ncollect 1\n", i
+    }
+    print "census"
+  }'
+}
+
+# levels: all pointers lead from a level to the other kind
+levels() {
+  awk -v nodes="$1" -v collections="$2" 'BEGIN {
+    for (i = 1; i <= nodes; i++) level[i] = i == 1 ? 0 : 1 - level[int(i / 2)]
+    for (i = 1; i <= nodes; i++) if (level[i] == 0) printf "new n%d 0 2 1\n", i
+    print "collect 0"
+    for (i = 1; i <= nodes; i++) if (level[i] == 1) printf "new n%d 0 2 1\n", i
+    for (i = 2; i <= nodes; i++) printf "set n%d %d n%d\n", int(i / 2), i % 2, i
+    for (i = 2; i <= nodes; i++) printf "drop n%d\n", i
+    for (i = 0; i < collections; i++) print "collect 0"
     print "census"
   }'
 }
@@ -201,6 +229,8 @@ case "${1:-}" in
   graph) graph "${2:-8000}" "${3:-1000}" ;;
   tree) tree "${2:-80000}" "${3:-100}" ;;
   old) old "${2:-80000}" "${3:-100}" ;;
+  beside) beside "${2:-80000}" "${3:-100}" ;;
+  levels) levels "${2:-7000}" "${3:-1}" ;;
   sizes) sizes "${2:-80000}" "${3:-100}" ;;
   mixed) mixed "${2:-80000}" "${3:-100}" ;;
   wide) wide "${2:-500000}" "${3:-20}" ;;
@@ -212,5 +242,5 @@ case "${1:-}" in
   empty) empty "${2:-20000}" ;;
   large) large "${2:-100001}" "${3:-1000}" ;;
   commands) commands "${2:-100}" ;;
-  *) sed -n '2,19s/^# //p' "$0" >&2; exit 2 ;;
+  *) sed -n '2,21s/^# //p' "$0" >&2; exit 2 ;;
 esac
