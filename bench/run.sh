@@ -37,19 +37,39 @@ if command -v ghc > /dev/null; then
   ghc=$work/live_tree
 fi
 
+# clocked COMMAND..: its wall time in nanoseconds
+clocked() {
+  local start
+  start=$(date +%s%N)
+  taskset -c 0 "$@" > /dev/null
+  echo $(($(date +%s%N) - start))
+}
+
 # seconds COMMAND.. : wall time of the fastest of five runs, of more while they have taken less than two seconds, or of fewer
 # once they have taken forty
 seconds() {
-  local best='' start end runs=0 all=0
+  local best='' each runs=0 all=0
   while [ "$all" -lt 40000000000 ] && { [ "$runs" -lt 5 ] || [ "$all" -lt 2000000000 ]; }; do
-    start=$(date +%s%N)
-    taskset -c 0 "$@" > /dev/null
-    end=$(date +%s%N)
-    if [ -z "$best" ] || [ $((end - start)) -lt "$best" ]; then best=$((end - start)); fi
+    each=$(clocked "$@")
+    if [ -z "$best" ] || [ "$each" -lt "$best" ]; then best=$each; fi
     runs=$((runs + 1))
-    all=$((all + end - start))
+    all=$((all + each))
   done
   awk -v n="$best" 'BEGIN { printf "%.4f", n / 1e9 }'
+}
+
+# in_turns WHICH COMMAND..: each command prints a number, and all are run in turn, five times, so that a slow minute slows all.
+# The least or the most of each
+in_turns() {
+  local which=$1 round command
+  shift
+  for round in 1 2 3 4 5; do
+    for command in "$@"; do printf '%s ' "$($command)"; done
+    echo
+  done | awk -v which="$which" '{
+    for (i = 1; i <= NF; i++) if (NR == 1 || (which == "least" ? $i < best[i] : $i > best[i])) best[i] = $i
+    count = NF
+  } END { for (i = 1; i <= count; i++) print best[i] }'
 }
 
 gctrace() { "$program" run --generations "$generations" --nursery 64 --blocks "$blocks" < "$1"; }
@@ -61,21 +81,22 @@ export program plain blocks generations
 
 measure() { seconds bash -c "$1 \"\$1\"" measure "$2"; }
 
-# rate PROGRAM: millions of objects a second, by the time that the collections add
-rate() {
-  awk -v made="$(measure "$1" "$work/made")" -v all="$(measure "$1" "$work/all")" -v copied="$2" 'BEGIN { printf "%.2f", copied / (all - made) / 1e6 }'
-}
+# run_of PROGRAM TRACE: how long that takes
+run_of() { clocked bash -c "$1 \"\$1\"" measure "$work/$2"; }
 
-# copies TRACE OBJECTS COLLECTIONS
+# copies TRACE OBJECTS COLLECTIONS: millions of objects a second, by the time that the collections add
 copies() {
-  local own other=''
+  local times
   "$here/traces.sh" "$1" "$2" 0 > "$work/made"
   "$here/traces.sh" "$1" "$2" "$3" > "$work/all"
-  own=$(rate gctrace $(($2 * $3)))
-  [ -n "$plain" ] && other=$(rate beside $(($2 * $3)))
-  awk -v name="$1" -v objects="$2" -v own="$own" -v other="$other" 'BEGIN {
-    printf "%s of %d objects: %.2f million objects a second", name, objects, own
-    if (other != "") printf "; plain %.2f, so %.2f of it", other, own / other
+  if [ -n "$plain" ]; then
+    times=$(in_turns least 'run_of gctrace made' 'run_of gctrace all' 'run_of beside made' 'run_of beside all')
+  else
+    times=$(in_turns least 'run_of gctrace made' 'run_of gctrace all')
+  fi
+  echo $times | awk -v name="$1" -v objects="$2" -v copied="$(($2 * $3))" '{
+    printf "%s of %d objects: %.2f million objects a second", name, objects, copied / ($2 - $1) * 1e3
+    if (NF > 2) printf "; plain %.2f, so %.2f of it", copied / ($4 - $3) * 1e3, ($4 - $3) / ($2 - $1)
     print "" }'
 }
 
@@ -96,44 +117,42 @@ last_rate() {
     $2 == "collected" { ends[++count] = $1 }
     END { printf "%.2f", nodes * collections / (ends[count] - ends[count - collections]) / 1e6 }'
 }
-live_rate() { last_rate 0 "$@"; }
 
-# ghc_rate PROCESSORS SHAPE NODES COLLECTIONS THREADS: the best of five runs
-ghc_rate() {
-  for _ in 1 2 3 4 5; do taskset -c "$1" "$ghc" "$2" "$3" "$4" +RTS "-N$5"; done | awk '$1 > best { best = $1 } END { printf "%.2f", best / 1e6 }'
-}
+# ghc_rate PROCESSORS SHAPE NODES COLLECTIONS THREADS
+ghc_rate() { taskset -c "$1" "$ghc" "$2" "$3" "$4" +RTS "-N$5" | awk '{ printf "%.2f", $1 / 1e6 }'; }
 
-# live NODES COLLECTIONS
+# live NODES COLLECTIONS: the best of five runs of each program, in turn
 live() {
-  local own other='' theirs=''
+  local rates
   "$here/traces.sh" tree "$1" "$2" > "$work/all"
-  own=$(live_rate gctrace "$1" "$2")
-  [ -n "$plain" ] && other=$(live_rate beside "$1" "$2")
-  [ -n "$ghc" ] && theirs=$(ghc_rate 0 tree "$1" "$2" 1)
-  awk -v nodes="$1" -v own="$own" -v other="$other" -v theirs="$theirs" 'BEGIN {
-    printf "live tree of %d nodes: %.2f million objects a second", nodes, own
-    if (other != "") printf "; plain %.2f, so %.2f of it", other, own / other
-    if (theirs != "") printf "; ghc %.2f, so %.2f of it", theirs, own / theirs
+  rates=$(in_turns most "last_rate 0 gctrace $1 $2" "${plain:+last_rate 0 beside $1 $2}" "${ghc:+ghc_rate 0 tree $1 $2 1}")
+  echo $rates | awk -v nodes="$1" -v plain="$plain" -v ghc="$ghc" '{
+    printf "live tree of %d nodes: %.2f million objects a second", nodes, $1
+    if (plain != "") printf "; plain %.2f, so %.2f of it", $2, $1 / $2
+    if (ghc != "") printf "; ghc %.2f, so %.2f of it", $NF, $1 / $NF
     else printf "; no ghc here to compare with"
     print "" }'
 }
 
-# by_threads SHAPE OBJECTS COLLECTIONS: objects a second by 1, 2 and 4 threads over word cells, and by 4 over boxed ones
+# by N CELLS SHAPE OBJECTS COLLECTIONS: the rate of so many threads over cells of that kind
+by() { threads=$1 cells=$2 last_rate "$all" threaded "$4" "$5"; }
+
+# by_threads SHAPE OBJECTS COLLECTIONS: objects a second by 1, 2 and 4 threads over word cells, and by 4 over boxed ones; the best
+# of five runs of each, in turn
 by_threads() {
-  local all first='' own theirs
+  local rates own=() theirs=() n
   all=0-$(($(nproc --all) - 1))
   "$here/traces.sh" "$1" "$2" "$3" > "$work/all"
-  for run in 1:word 2:word 4:word 4:box; do
-    own=$(threads=${run%:*} cells=${run#*:} last_rate "$all" threaded "$2" "$3")
-    theirs=''
-    [ -n "$ghc" ] && [ "$run" != 4:box ] && theirs=$(ghc_rate "$all" "$1" "$2" "$3" "${run%:*}")
-    [ -z "$first" ] && first=$own
-    awk -v name="$1" -v objects="$2" -v run="$run" -v own="$own" -v first="$first" -v theirs="$theirs" 'BEGIN {
-      split(run, of, ":")
-      printf "%s of %d objects, %d threads, %s cells: %.2f million objects a second, %.2f times one thread", name, objects, of[1], of[2], own, own / first
-      if (theirs != "") printf "; ghc %.2f", theirs
-      print "" }'
-  done
+  for n in '1 word' '2 word' '4 word' '4 box'; do own+=("by $n $1 $2 $3"); done
+  for n in ${ghc:+1 2 4}; do theirs+=("ghc_rate $all $1 $2 $3 $n"); done
+  rates=$(in_turns most "${own[@]}" "${theirs[@]}")
+  echo $rates | awk -v name="$1" -v objects="$2" '{
+    split("1 2 4 4", threads); split("word word word box", cells)
+    for (i = 1; i <= 4; i++) {
+      printf "%s of %d objects, %d threads, %s cells: %.2f million objects a second, %.2f times one thread", name, objects, threads[i], cells[i], $i, $i / $1
+      if (i < 4 && NF > 4) printf "; ghc %.2f, %.2f times one", $(4 + i), $(4 + i) / $5
+      print ""
+    } }'
 }
 
 # each PROGRAM COLLECTIONS: microseconds for a collection, by the time that the collections add
@@ -250,7 +269,7 @@ collections_of_little() {
 
 case "${1:-}" in
   copies) copies_of_all; exit ;;
-  live) live "${2:-2000000}" 20; exit ;;
+  live) live "${2:-2000000}" $((40000000 / ${2:-2000000})); exit ;;
   young) collections_of_little "${2:-100000}"; exit ;;
   large) collections_of_large; exit ;;
   events) collections_by_events "${2:-100000}" 20; exit ;;

@@ -1,7 +1,7 @@
 -- A worker that looks and races at once.
 use Rattle.std.proofs.Common.{◌≡◌, ℕ, ◌≤◌, nat_le, true, false, cond, ⊎_elim, List, [], ◌∷◌, Option, Some, None, refl, sym, ap, subst, ◌∙◌}
 use Rattle.std.proofs.lemmas.Bool.Decides.{leb_tells}
-use Rattle.std.specs.Prelude.{MatchOption, IsSomeAnd}
+use Rattle.std.specs.Prelude.{MatchOption, IsSomeAnd, not, ◌&&◌}
 use Rattle.std.specs.Option.{option_map, option_map_or}
 use Rattle.model.specs.Config.{Config}
 use Rattle.model.specs.Graph.{Object, object_at, is_large}
@@ -117,3 +117,11 @@ proposes_there heap old name d raw config shown small of fits =
         worker = copied ∙ ap (λ (w : Worker). (let x : WorkspaceValue = record old { worker = w } in x)) (look_no_draw (objects_of heap) old.worker name d 0 small draw of);
       };
     }
+
+-- a copy that doesn't fit where the last ones stand wants a block
+pub wants_block : (heap : HeapValue) (old : WorkspaceValue) (name : ℕ) (raw : Raw) → old.config ≡ heap.config → IsSomeAnd (object_at heap.graph name) (λ o. IsShownAs o raw) → is_large_name (objects_of heap) name ≡ false
+    → has_place_for old.config.block_words (raw_size raw) (allocation_at old.worker (destination_of (objects_of heap) name)) ≡ false → draws_for (objects_of heap) old.worker name ≡ true
+wants_block heap old name raw config shown small full =
+    let block = allocation_at old.worker (destination_of (objects_of heap) name) in
+    let seen = fits_alike heap name (raw_size raw) block (facts heap name raw shown).words ∙ ap (λ (k : Config). has_place_for k.block_words (raw_size raw) block) (sym config) in
+    ap (λ b. not b && not (fits_in (objects_of heap) name block)) small ∙ ap (λ b. not false && not b) (seen ∙ full)

@@ -2,6 +2,7 @@
 
 -- What a worker may rely on: where it begins, its destinations, the blocks that it has open, what it won.
 pub mod Starts
+pub mod StartSlots
 pub mod Destinations
 pub mod OpenBlocks
 pub mod Unchanged
@@ -27,6 +28,7 @@ mod AtOnce
 pub mod Swept
 pub mod CursorLemmas
 pub mod CopyRaces
+mod SmallRaces
 mod Goings
 mod SweepRoom
 mod SweepLeft

@@ -1,7 +1,7 @@
 -- When a worker of an opened collection may look at a slot, race, and draw a block, and what a step leaves as it was.
 use Rattle.std.specs.Prelude.{◌≡◌, ◌<◌, ℕ, List, [], ◌∷◌, ◌++◌, Option, None, IsSome, true}
 use Rattle.std.specs.List.{All, Contains}
-use Rattle.model.specs.Graph.{IsClosed}
+use Rattle.model.specs.Graph.{IsClosed, object_at}
 use Rattle.layout.specs.declared.place.Place.{Place}
 use Rattle.block_pool.specs.ClaimsValue.{Source, SeatValue, IsSeatOf}
 use Rattle.block_pool.specs.Drawn.{times_in}
@@ -10,6 +10,7 @@ use Rattle.heap.specs.CollectionValue.{CollectionValue, IsOpened}
 use Rattle.heap.specs.NamesArePlaces.{NamesArePlaces}
 use Rattle.workers.specs.WorkerSteps.{current_slot}
 use Rattle.workers.specs.Ready.{CanFinish, IsUntouched}
+use Rattle.workers.specs.Joined.{Each}
 use Rattle.scavenge.specs.Shown.{WorkspaceValue}
 use Rattle.scavenge.specs.Slots.{seen}
 use Rattle.scavenge.specs.Told.{StillKnows}
@@ -20,6 +21,10 @@ pub record IsOpenFor (heap : HeapValue) (c : CollectionValue) (v : WorkspaceValu
   pub closed : IsClosed heap.graph
   pub places : NamesArePlaces heap.graph
   pub config : v.config ≡ heap.config
+
+-- each of the names is that of an object
+abbrev pub AreThere : HeapValue → List ℕ → Type 0
+AreThere heap names = Each (λ name. IsSome (object_at heap.graph name)) names
 
 -- nothing is proposed, and the current slot, where there is one, is as it was in the original and can be finished
 pub record MayLook (heap : HeapValue) (c : CollectionValue) (v : WorkspaceValue) : Type 0 where

@@ -1,10 +1,10 @@
 //! A sweep races for an object, and copies it where it has won.
-ghost use Rattle.std.specs.Prelude.{◌≡◌, ◌<◌, ◌+◌, ◌++◌, ◌∷◌, [], Some, None, true, false, length, slice_index};
+ghost use Rattle.std.specs.Prelude.{◌≡◌, ◌<◌, Some, None, true, false, length, slice_index};
 ghost use Rattle.std.specs.Option.{option_map};
 ghost use Rattle.model.specs.Graph.{object_at};
 ghost use Rattle.layout.specs.Object.{Raw, raw_size};
-ghost use Rattle.layout.specs.Place.{place_word, small_word};
-ghost use Rattle.block_pool.specs.BlockValue.{BeginsAt, used_of};
+ghost use Rattle.layout.specs.Place.{small_word};
+ghost use Rattle.block_pool.specs.BlockValue.{BeginsAt};
 ghost use Rattle.forwarding.specs.KeepsPasses.{KeepsPasses};
 ghost use Rattle.heap.specs.StepPairs.{step_pair, stands_at};
 ghost use Rattle.workers.specs.Setting.{destination_of};
@@ -17,22 +17,13 @@ ghost use Rattle.scavenge.specs.Told.{RacesAt};
 
 use crate::sweep::going::goes_into;
 use crate::sweep::sweep::Sweep;
+use crate::to_space::place_behind;
 use block_pool::Block;
 use forwarding::{Cells, Outcome};
 use heap::{Heap, PackedPlace, Won};
 use layout::{Place, SmallPlace};
 use std::alloc::Allocator;
 use steps::StepId;
-
-/// The place behind the last object of a block.
-#[inline(always)]
-fn place_behind<A: Allocator>(block: &Block<A>) -> Place
-    requires { used_of block.now < block.now.words }
-    ensures { place_word result ≡ small_word block.now.number (used_of block.now) }
-{
-    let _words = block.words();
-    Place::small(block.number() as u16, block.used() as u16)
-}
 
 impl<A: Allocator + Clone> Sweep<A> {
     /// Races for the object with this number, which stands at that place in a block of the heap, where its copy goes to the block

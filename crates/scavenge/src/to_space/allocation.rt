@@ -1,14 +1,14 @@
 //! The blocks that a worker copies into.
-ghost use Rattle.std.specs.Prelude.{◌≡◌, ◌+◌, ◌≤◌, ◌<◌, ◌++◌, ◌∷◌, [], true, Some, None, length, slice_get, slice_set, nat_lt, replicate, IfOk, IsSome, IsSomeAnd, IsTrue, ◌↔◌, ◌⊎◌};
+ghost use Rattle.std.specs.Prelude.{◌≡◌, ◌+◌, ◌≤◌, ◌<◌, ◌++◌, ◌∷◌, [], true, Some, None, length, slice_get, slice_set, nat_lt, replicate, is_some, IfOk, IfSome, IsSome, IsSomeAnd, IsTrue, ◌↔◌, ◌⊎◌};
 ghost use Rattle.std.specs.Option.{option_map};
 ghost use Rattle.layout.specs.Object.{Raw, raw_size};
 ghost use Rattle.layout.specs.ObjectRef.{raw_of};
 ghost use Rattle.layout.specs.Place.{place_word, small_word, IsPointer};
-ghost use Rattle.block_pool.specs.BlockValue.{BlockValue, offset_of, used_of, with_pointer_word, without_last};
+ghost use Rattle.block_pool.specs.BlockValue.{BlockValue, BeginsAt, offset_of, used_of, with_pointer_word, without_last};
 ghost use Rattle.workers.specs.Joined.{OnSome};
 ghost use Rattle.scavenge.specs.Fronts.{slot_at, is_unscanned, raw_field, front_raw, front_field, fits_at};
 
-use crate::to_space::fronts::{front_pointer, pass_front, write_front};
+use crate::to_space::fronts::{front_pointer, pass_front, place_behind, write_front};
 use block_pool::Block;
 use layout::{ObjectRef, Place};
 use std::alloc::{AllocError, Allocator, Global};
@@ -218,6 +218,52 @@ impl<A: Allocator> AllocationBlocks<A> {
         let slot = &mut self.blocks[d];
         match slot {
             Some(block) => push(block, object),
+            None => unreachable!(),
+        }
+    }
+
+    /// The place behind the last object of the block for a destination, where an object of `size` words fits there.
+    #[inline(always)]
+    pub fn place_for(&self, d: usize, size: usize) -> Option<Place>
+        requires { 0 < size }
+        ensures fits { is_some result ≡ fits_at size (slot_at self.now d) }
+        ensures place { IfSome result (λ place. (block : BlockValue) → slot_at self.now d ≡ Some block →
+            place_word place ≡ small_word block.number (used_of block)) }
+    {
+        if d >= self.blocks.len() {
+            return None;
+        }
+        match &self.blocks[d] {
+            Some(block) => {
+                if !block.fits(size) {
+                    return None;
+                }
+                Some(place_behind(block))
+            }
+            None => None,
+        }
+    }
+
+    /// Puts a copy of an object of another block, which begins there at an offset in words and takes so many, at the end of the
+    /// block for a destination, and notes, for contracts alone, what it is a copy of.
+    #[inline(always)]
+    pub fn push_from(&mut self, d: usize, from: &Block<A>, offset: usize, size: usize, origin: u64)
+        requires fits { fits_at size (slot_at self.old d) ≡ true }
+        requires object { (raw : Raw) × BeginsAt from.now offset raw × (size ≡ raw_size raw) }
+        ensures { (block : BlockValue) (raw : Raw) → slot_at self.old d ≡ Some block → BeginsAt from.now offset raw →
+            self.new ≡ slice_set self.old d (Some (record block
+            { objects = block.objects ++ raw ∷ []; origins = block.origins ++ origin ∷ [] })) }
+    {
+        if d >= self.blocks.len() {
+            unreachable!();
+        }
+        self.last = d;
+        let slot = &mut self.blocks[d];
+        match slot {
+            Some(block) => {
+                let _ = block.push_copy(from, offset, size);
+                block.note_origin(origin);
+            }
             None => unreachable!(),
         }
     }

@@ -1,9 +1,9 @@
-//! The first unscanned object of a block.
+//! The first unscanned object of a block, and the place behind the last.
 ghost use Rattle.std.specs.Prelude.{◌≡◌, ◌+◌, ◌<◌, Some, length, slice_get, slice_set, nat_lt};
 ghost use Rattle.std.specs.Option.{option_map};
 ghost use Rattle.layout.specs.Object.{Raw};
 ghost use Rattle.layout.specs.Place.{place_word, small_word, IsPointer};
-ghost use Rattle.block_pool.specs.BlockValue.{offset_of, with_pointer_word};
+ghost use Rattle.block_pool.specs.BlockValue.{offset_of, used_of, with_pointer_word};
 ghost use Rattle.workers.specs.Joined.{OnSome};
 ghost use Rattle.scavenge.specs.Fronts.{raw_field, front_raw, front_field};
 
@@ -51,4 +51,14 @@ pub fn pass_front<A: Allocator>(block: &mut Block<A>) -> (Place, bool)
     block.advance_front();
     let more = block.front() < block.len();
     (place, more)
+}
+
+/// The place behind the last object of a block.
+#[inline(always)]
+pub fn place_behind<A: Allocator>(block: &Block<A>) -> Place
+    requires { used_of block.now < block.now.words }
+    ensures { place_word result ≡ small_word block.now.number (used_of block.now) }
+{
+    let _words = block.words();
+    Place::small(block.number() as u16, block.used() as u16)
 }

@@ -3,4 +3,4 @@ mod allocation;
 mod fronts;
 
 pub use allocation::AllocationBlocks;
-pub use fronts::{front_pointer, pass_front, write_front};
+pub use fronts::{front_pointer, pass_front, place_behind, write_front};
