@@ -3,8 +3,9 @@ use Rattle.std.proofs.Common.{◌≡◌, None, sym, ap, subst, ◌∙◌}
 use Rattle.std.specs.Prelude.{IsSome}
 use Rattle.steps.specs.HeapValue.{HeapValue}
 use Rattle.steps.specs.CollectionValue.{CollectionValue, IsOpened}
-use Rattle.scavenge.specs.MayStep.{IsOpenFor, MayLook, MayRace}
-use Rattle.one_worker.specs.SerialValue.{SerialValue}
+use Rattle.scavenge.specs.MayStep.{IsOpenFor, MayLook, MayRace, AreThere}
+use Rattle.scavenge.proofs.StartSlots.{starts_there}
+use Rattle.one_worker.specs.SerialValue.{SerialValue, destinations_in}
 use Rattle.one_worker.specs.IsSerial.{IsSerial}
 use Rattle.one_worker.proofs.Looked.{closed_of, places_of, untouched_of, can_look}
 use Rattle.one_worker.proofs.Raced.{few_of}
@@ -32,3 +33,8 @@ module _ (v : SerialValue) (k : IsSerial v) where
       few = few_of v k;
       untouched = untouched_of v k heap c same_heap same_collection;
     }
+
+    pub starts_in : AreThere heap v.workspace.worker.starts
+    starts_in =
+        subst (λ (h : HeapValue). AreThere h v.workspace.worker.starts) (sym same_heap)
+        (starts_there v.heap v.collection k.ready (destinations_in v) 1 0 v.workspace.worker k.worked.history k.worked.run k.worked.taken)

@@ -29,10 +29,11 @@ use Rattle.steps.specs.NamesArePlaces.{NamesArePlaces}
 use Rattle.heap.proofs.SoundHeap.{heap_closed, heap_places}
 use Rattle.workers.specs.WorkerSteps.{CanLook, current_slot}
 use Rattle.scavenge.specs.ReadyToCollect.{IsReadyToCollect}
-use Rattle.scavenge.specs.MayStep.{IsOpenFor, MayLook, MayRace}
+use Rattle.scavenge.specs.MayStep.{IsOpenFor, MayLook, MayRace, AreThere}
 use Rattle.scavenge.proofs.Destinations.{destination_below, numbers_below}
 use Rattle.scavenge.proofs.Unchanged.{some_there}
 use Rattle.scavenge.proofs.Starts.{targets_live}
+use Rattle.scavenge.proofs.StartSlots.{starts_there}
 use Rattle.workers_in_threads.specs.SharingValue.{SharingValue, setting_for, setting_in, worker_of, begins}
 use Rattle.workers_in_threads.specs.IsSharing.{IsSharing, HasWorked}
 
@@ -116,6 +117,9 @@ module _ {C P A : Type 0} {fits : C → P → Type 0} {limit : C → ℕ} {known
 
   pub may_look_in : v.workspace.worker.proposal ≡ None → MayLook v.heap v.collection v.workspace
   may_look_in none = record { proposal = none; slot = slot_in none; few = few_in; untouched = untouched_in }
+
+  pub starts_in : AreThere v.heap v.workspace.worker.starts
+  starts_in = starts_there v.heap v.collection k.ready (dest_count v.heap.config.shape v.collection.generation) v.workers v.seat.index v.workspace.worker k.worked.history k.worked.run k.worked.handed
 
   pub may_race_in : IsSome v.workspace.worker.proposal → MayRace v.workspace
   may_race_in some = record { proposal = some; slot = ready_in.race some; few = few_in }

@@ -10,7 +10,7 @@ use Rattle.one_worker.proofs.Evacuation.{goes_once, goes_twice, stays, left_why,
 use Rattle.scavenge.specs.Shown.{WorkspaceValue}
 use Rattle.scavenge.specs.declared.evacuating.Evacuated.{Evacuated}
 use Rattle.scavenge.specs.declared.evacuating.Evacuated.TheVariants.{Looked, Raced}
-use Rattle.one_worker.proofs.MaySteps.{open_for, may_look}
+use Rattle.one_worker.proofs.MaySteps.{open_for, may_look, starts_in}
 use Rattle.one_worker.proofs.serial.SerialCollection.evacuate.Goals as goal
 
 two_ways : {r : Evacuated} → r ≡ Looked → r ≡ Raced → ⊥
@@ -28,6 +28,10 @@ pub evacuate-requires-clause-worker : goal.evacuate-requires-clause-worker
 evacuate-requires-clause-worker g c =
     may_look _ c.self.invariant c.args.heap.now c.args.collection.now (c.requires.heap ∙ ap (λ (v : SerialValue). v.heap) (sym c.self.view_is)) (c.requires.collection ∙ ap (λ (v : SerialValue). v.collection) (sym c.self.view_is))
     (subst (λ (v : SerialValue). v.workspace.worker.proposal ≡ None) (sym c.self.view_is) c.requires.proposal)
+
+pub evacuate-requires-clause-starts : goal.evacuate-requires-clause-starts
+evacuate-requires-clause-starts g c =
+    starts_in _ c.self.invariant c.args.heap.now c.args.collection.now (c.requires.heap ∙ ap (λ (v : SerialValue). v.heap) (sym c.self.view_is)) (c.requires.collection ∙ ap (λ (v : SerialValue). v.collection) (sym c.self.view_is))
 
 pub invariant_of-self : goal.invariant_of-self
 invariant_of-self g c =

@@ -1,11 +1,14 @@
 use Rattle.std.proofs.Common.{◌≡◌, ◌≤◌, None, sym, subst, inl, inr}
 use Rattle.workers_in_threads.specs.SharingValue.{SharingValue}
-use Rattle.workers_in_threads.proofs.Readiness.{open_in, may_look_in}
+use Rattle.workers_in_threads.proofs.Readiness.{open_in, may_look_in, starts_in}
 use Rattle.workers_in_threads.proofs.Evacuation.{evacuated_keeps}
 use Rattle.workers_in_threads.proofs.sharing_worker.worker.SharingWorker.evacuate.Goals as goal
 
 pub evacuate-requires-clause-open : goal.evacuate-requires-clause-open
 evacuate-requires-clause-open g c = open_in _ c.self.invariant
+
+pub evacuate-requires-clause-starts : goal.evacuate-requires-clause-starts
+evacuate-requires-clause-starts g c = starts_in _ c.self.invariant
 
 pub evacuate-requires-clause-worker : goal.evacuate-requires-clause-worker
 evacuate-requires-clause-worker g c = may_look_in _ c.self.invariant (subst (λ (v : SharingValue g.row.C.Denot g.row.C-Pass.Denot g.row.A.Denot). v.workspace.worker.proposal ≡ None) (sym c.self.view_is) c.requires.proposal)
