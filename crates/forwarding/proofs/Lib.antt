@@ -9,6 +9,7 @@ pub mod Agreeing
 pub mod PassLaws
 -- Words that settling answers with show the places that they are the words of.
 pub mod ShownPlace
+pub mod ShortWords
 pub mod Closing
 -- Plain cells keep what they are, and settle.
 pub mod PlainKeeps

@@ -1,5 +1,5 @@
 -- What each of two steps leaves as it was, both do.
-use Rattle.std.proofs.Common.{◌≡◌, ℕ, ◌∙◌}
+use Rattle.std.proofs.Common.{ℕ, ◌∙◌}
 use Rattle.forwarding.specs.KeepsPasses.{KeepsPasses}
 
 module _ {Cells Pass : Type 0} (count : Cells → ℕ) (is_pass is_home : Cells → Pass → Type 0) (differ : Pass → Pass → Type 0) (a b c : Cells) (p q r : Pass) where

@@ -1,5 +1,5 @@
 -- A race of plain cells keeps what holds of the passes.
-use Rattle.std.proofs.Common.{◌≡◌, ◌≢◌, ℕ, ◌<◌, List, [], ◌∷◌, ◌++◌, set, length, get_or, Some, None, refl, sym, ap, ◌∙◌, arith, eq-eqb, ne_eqb, length-set, get_or-set_same, get_or-set_other}
+use Rattle.std.proofs.Common.{◌≡◌, ◌≢◌, ℕ, ◌<◌, List, [], ◌∷◌, ◌++◌, set, length, map, get_or, Some, None, refl, sym, ap, ◌∙◌, arith, eq-eqb, ne_eqb, length-set, get_or-set_same, get_or-set_other}
 use Rattle.std.specs.Prelude.{Option}
 use Rattle.std.proofs.lemmas.List.{get_or-map, length-map, map-set}
 use Rattle.std.proofs.lemmas.List.Elements.{All-push, All-weaker, All-set}
@@ -12,6 +12,7 @@ use Rattle.forwarding.specs.Learned.{Learns}
 use Rattle.forwarding.specs.Settled.{Pairs}
 use Rattle.forwarding.specs.Plain.{PlainValue, PlainPassValue, place_of, by_of, IsWinOf, IsFit, IsWonBelow, word_of, ArePlainCells}
 use Rattle.forwarding.specs.Minds.{filled}
+use Rattle.forwarding.specs.ShortWords.{long_word}
 use Rattle.forwarding.proofs.PairLemmas.{none_unless, wins_of-append, wins_of-itself, wins_of-another}
 
 pub by_of-itself : (number : ℕ) (held : Held) → number ≡ held.winner → by_of number (Some held) ≡ 1
@@ -74,14 +75,19 @@ others_fit held passes at winner place p fit empty l differ =
           (λ ne. sym (ap (by_of p.number) (get_or-set_other held at name mine None ne)));
     }
 
--- the name's word is that of the place held
-pub shows : (words : List ℕ) (held : List (Option Held)) (passes name word : ℕ) → ArePlainCells words held passes → name < length held → word ≡ get_or words name word
-    → pointer_word (place_of (get_or held name None)) ≡ word
-shows words held passes name word are below at = sym (at ∙ (ap (λ (ws : List ℕ). get_or ws name word) are.shown ∙ get_or-map word_of held name None word below))
+pub as_many_words : (words : List ℕ) (held : List (Option Held)) (passes : ℕ) → ArePlainCells (map long_word words) held passes → length words ≡ length held
+as_many_words words held passes are = sym (length-map words long_word) ∙ (ap length are.shown ∙ length-map held word_of)
+
+-- the name's word is the short one of that of the place held
+pub shows : (words : List ℕ) (held : List (Option Held)) (passes name word : ℕ) → ArePlainCells (map long_word words) held passes → name < length held → word ≡ get_or words name word
+    → pointer_word (place_of (get_or held name None)) ≡ long_word word
+shows words held passes name word are below at =
+    let there : name < length words = omega (arith, below, as_many_words words held passes are) in
+    sym (ap long_word at ∙ (sym (get_or-map long_word words name word 0 there) ∙ (ap (λ (ws : List ℕ). get_or ws name 0) are.shown ∙ get_or-map word_of held name None 0 below)))
 
 -- what is read off it is the place held
-pub reads : (words : List ℕ) (held : List (Option Held)) (passes name word : ℕ) (r : Option Place) → ArePlainCells words held passes → name < length held → word ≡ get_or words name word
-    → ((pointer : Option Place) → pointer_word pointer ≡ word → r ≡ pointer) → r ≡ place_of (get_or held name None)
+pub reads : (words : List ℕ) (held : List (Option Held)) (passes name word : ℕ) (r : Option Place) → ArePlainCells (map long_word words) held passes → name < length held → word ≡ get_or words name word
+    → ((pointer : Option Place) → pointer_word pointer ≡ long_word word → r ≡ pointer) → r ≡ place_of (get_or held name None)
 reads words held passes name word r are below at is = is (place_of (get_or held name None)) (shows words held passes name word are below at)
 
 pub none_held : (o : Option Held) → None ≡ place_of o → o ≡ None
@@ -125,13 +131,12 @@ learns_nothing held known name empty fits = record {
 }
 
 -- the cells after a race that is won
-pub cells_set : (words : List ℕ) (held : List (Option Held)) (passes at number : ℕ) (place : Place) → number < passes → ArePlainCells words held passes → ArePlainCells (set words at (place_word place)) (filled held number at place) passes
-cells_set words held passes at number place l are =
+pub cells_set : (words : List ℕ) (held : List (Option Held)) (passes at number word : ℕ) (place : Place) → long_word word ≡ place_word place → number < passes → ArePlainCells (map long_word words) held passes
+    → ArePlainCells (map long_word (set words at word)) (filled held number at place) passes
+cells_set words held passes at number word place is l are =
     let mine : Held = record { place = place; winner = number } in record {
-      shown = ap (λ (ws : List ℕ). set ws at (place_word place)) are.shown ∙ sym (map-set word_of held at (Some mine));
+      shown = map-set long_word words at word ∙ (ap (λ (w : ℕ). set (map long_word words) at w) is
+          ∙ (ap (λ (ws : List ℕ). set ws at (place_word place)) are.shown ∙ sym (map-set word_of held at (Some mine))));
       few = (let n = length-set held at (Some mine) in let f = are.few in omega arith);
       winners = All-set (IsWonBelow passes) held at (Some mine) l are.winners;
     }
-
-pub as_many_words : (words : List ℕ) (held : List (Option Held)) (passes : ℕ) → ArePlainCells words held passes → length words ≡ length held
-as_many_words words held passes are = ap length are.shown ∙ length-map held word_of

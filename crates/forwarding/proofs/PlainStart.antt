@@ -1,5 +1,5 @@
 -- Plain cells and passes as they are made.
-use Rattle.std.proofs.Common.{◌≡◌, ℕ, zero, suc, List, map, ◌+◌, ◌/◌, ◌≢◌, Some, ◌<◌, ◌≤◌, ◌^◌, [], ◌∷◌, ◌++◌, All, length, get_or, None, replicate, refl, sym, ap, ◌∙◌, subst, arith}
+use Rattle.std.proofs.Common.{◌≡◌, ℕ, zero, suc, List, map, ◌+◌, ◌<◌, ◌≤◌, ◌^◌, [], ◌∷◌, ◌++◌, All, length, get_or, None, replicate, refl, sym, ap, ◌∙◌, subst, arith}
 use Rattle.std.specs.Prelude.{Option}
 use Rattle.std.specs.List.{AllPairs}
 use Rattle.std.proofs.lemmas.List.{length-replicate, get_or-replicate, get_or_past}
@@ -8,9 +8,8 @@ use Rattle.std.proofs.lemmas.List.FromFn.{length-map-range_with_len, get_or-map-
 use mathlib.Core.Logic.{dite}
 use native.Mathlib.Decide.{dec_le}
 use Rattle.layout.specs.declared.place.Place.{Place}
-use Rattle.layout.specs.declared.place.Place.TheVariants.{Small, Large}
-use Rattle.layout.specs.Place.{pointer_word}
 use Rattle.forwarding.specs.declared.plain_cells.held.Held.{Held}
+use Rattle.forwarding.specs.ShortWords.{long_word}
 use Rattle.forwarding.specs.Plain.{PlainPassValue, by_of, IsWinOf, IsFit, Differ, empty_cells, fresh_pass, fresh_passes, IsWonBelow, word_of, ArePlainCells}
 
 pub length-fresh_passes : (count n many : ℕ) → length (fresh_passes count n many) ≡ many
@@ -48,19 +47,13 @@ fresh_differ count n i j d less below e =
     let same : i ≡ j = sym a ∙ (e ∙ b) in
     omega arith
 
-map-nothing : (n : ℕ) → replicate n 0 ≡ map word_of (replicate n None)
+map-nothing : (n : ℕ) → map long_word (replicate n 0) ≡ map word_of (replicate n None)
 map-nothing zero = refl
 map-nothing (suc n) = ap (λ (ws : List ℕ). 0 ∷ ws) (map-nothing n)
 
-pub empty_are : (count n : ℕ) → count < 2 ^ 32 → ArePlainCells (replicate count 0) (replicate count None) n
+pub empty_are : (count n : ℕ) → count < 2 ^ 32 → ArePlainCells (map long_word (replicate count 0)) (replicate count None) n
 empty_are count n l = record {
   shown = map-nothing count;
   few = (let m = length-replicate {A = Option Held} count None in omega arith);
   winners = All-replicate (IsWonBelow n) count None tt;
 }
-
--- a word that is not 0, and below the first of a large object, has its block's number and one in its upper part
-pub has_block : (word : ℕ) (pointer : Option Place) → pointer_word pointer ≡ word → word ≢ 0 → word < 9223372036854775808 → 1 ≤ word / 65536
-has_block word None is nonzero low = absurd (nonzero (sym is))
-has_block word (Some (Small at)) is nonzero low = omega arith
-has_block word (Some (Large of)) is nonzero low = absurd (omega arith)

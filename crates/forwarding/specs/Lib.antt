@@ -7,6 +7,7 @@ pub mod Settled
 pub mod Known
 -- The words that settling answers with.
 pub mod Forwards
+pub mod ShortWords
 pub mod ShownWords
 -- Plain cells as contracts see them.
 pub mod Plain

@@ -83,11 +83,7 @@ IsWonBelow passes (Some held) = held.winner < passes
 abbrev pub word_of : Option Held → ℕ
 word_of held = pointer_word (place_of held)
 
--- the word is 0 or that of a place
-abbrev pub IsPointer : ℕ → Type 0
-IsPointer word = (pointer : Option Place) × (pointer_word pointer ≡ word)
-
--- What holds of the cells: the words are those of what they hold
+-- What holds of the cells: the words, of which they have the short ones, are those of what they hold
 pub record ArePlainCells (words : List ℕ) (held : List (Option Held)) (passes : ℕ) : Type 0 where
   pub shown : words ≡ map word_of held
   pub few : length held < 2 ^ 32

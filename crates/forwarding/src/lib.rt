@@ -8,6 +8,7 @@ mod looking;
 mod plain_cells;
 mod settled_pairs;
 mod shared_cells;
+mod short_words;
 mod word_cells;
 
 pub use box_cells::{BoxCells, BoxPass};

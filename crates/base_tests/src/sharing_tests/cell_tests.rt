@@ -182,12 +182,12 @@ fn a_pass_alone_settles_what_it_won(rt: HostRuntime) -> Result<(), Fail> {
 #[test]
 fn cells_in_used_memory_hold_nothing(rt: HostRuntime) -> Result<(), Fail> {
     let (a, b) = (Place::small(1, 2), Place::large(0));
-    let used = vec![in rt.alloc(); b.to_word(); 3]?;
+    let used = vec![in rt.alloc(); 65536u32; 3]?;
     let (stays, forwards) = raced_alone(CellMemory::of(used), a, b)?;
     assert!(rt; stays);
     assert!(rt; is_second(&forwards, a));
 
-    let used = vec![in rt.alloc(); b.to_word(); 3]?;
+    let used = vec![in rt.alloc(); 65536u32; 3]?;
     let (stays, forwards) = raced_words(rt.alloc(), CellMemory::of(used), a, b)?;
     assert!(rt; stays);
     assert!(rt; is_second(&forwards, a));

@@ -5,10 +5,11 @@ ghost use Rattle.forwarding.specs.Noted.{IsStep, IsSoundNotes, place_of};
 ghost use Rattle.forwarding.specs.Settled.{ones};
 ghost use Rattle.std.specs.List.{sum_by};
 ghost use Rattle.layout.specs.Place.{pointer_word};
+ghost use Rattle.forwarding.specs.ShortWords.{long_word};
 
 use crate::box_cells::bid::Bid;
 use crate::box_cells::box_cells::BoxPass;
-use layout::word_of;
+use crate::short_words::short_word_of;
 use once_cell::race::Note;
 use std::alloc::{AllocError, Allocator};
 
@@ -97,13 +98,16 @@ impl BoxPass {
         count
     }
 
-    // The word of the place that the pass knows for each name.
-    pub(crate) fn words<B: Allocator>(&self, alloc: B) -> Result<Vec<u64, B>, AllocError>
-        ensures { IfOk result (λ v. v.items ≡ map (λ known. pointer_word (place_of known)) self.now.known) }
+    // The short word of the place that the pass knows for each name.
+    pub(crate) fn words<B: Allocator>(&self, alloc: B) -> Result<Vec<u32, B>, AllocError>
+        ensures { IfOk result (λ v. map long_word v.items ≡ map (λ known. pointer_word (place_of known)) self.now.known) }
     {
         let mut words = Vec::with_capacity(alloc, self.known.len())?;
         for known in &self.known {
-            words.push_reserved(word_of(known.map(|bid| bid.place)));
+            words.push_reserved(match known {
+                Some(bid) => short_word_of(bid.place),
+                None => 0,
+            });
         }
         Ok(words)
     }

@@ -2,8 +2,11 @@
 ghost use Rattle.std.specs.Prelude.{◌≡◌, ◌<◌, Some, None, length, map, slice_get, slice_index_or, slice_set};
 ghost use Rattle.forwarding.specs.Forwards.{shown_place};
 ghost use Rattle.forwarding.specs.ShownWords.{words_in};
+ghost use Rattle.forwarding.specs.ShortWords.{long_word};
+ghost use Rattle.layout.specs.Place.{place_word};
 
-use crate::cell_memory::CellMemory;
+use crate::cell_memory::{CellMemory, Zeros};
+use crate::short_words::{long_word_of, short_word_of};
 use crate::word_cells::ClosedWords;
 use layout::Place;
 use std::alloc::{Allocator, Global};
@@ -24,7 +27,8 @@ pub enum SettleError {
 /// Where the words of the names lie.
 #[derive(Drop)]
 pub(crate) enum Words<A: Allocator> {
-    Listed(Vec<u64, A>),
+    /// Short words, with memory for word cells to come.
+    Listed(Vec<u32, A>, Option<Zeros<A>>),
     /// Where threads shared them, with memory for cells to come.
     Closed(ClosedWords<A>, CellMemory<A>),
 }
@@ -53,7 +57,7 @@ impl<A: Allocator> Words<A> {
         ensures { result ≡ length (words_in self.now) }
     {
         match self {
-            Words::Listed(words) => words.len(),
+            Words::Listed(words, _) => words.len(),
             Words::Closed(words, _) => words.len(),
         }
     }
@@ -64,30 +68,31 @@ impl<A: Allocator> Words<A> {
         ensures { slice_get (words_in self.now) name ≡ Some result }
     {
         match self {
-            Words::Listed(words) => words[name as usize],
+            Words::Listed(words, _) => long_word_of(words[name as usize]),
             Words::Closed(words, _) => words.word(name),
         }
     }
 
-    /// Changes the word of the name.
-    fn set(&mut self, name: u32, word: u64)
+    /// Gives the name the word of the place.
+    fn set(&mut self, name: u32, place: Place)
         requires { name < length (words_in self.old) }
-        ensures { words_in self.new ≡ slice_set (words_in self.old) name word }
+        ensures { words_in self.new ≡ slice_set (words_in self.old) name (place_word place) }
     {
         match self {
-            Words::Listed(words) => words[name as usize] = word,
-            Words::Closed(words, _) => words.set(name, word),
+            Words::Listed(words, _) => words[name as usize] = short_word_of(place),
+            Words::Closed(words, _) => words.set(name, place.to_word()),
         }
     }
 }
 
 impl<A: Allocator> Forwards<A> {
-    /// The answer that gives each name the place whose word has its number. It takes no memory.
-    pub fn of(words: Vec<u64, A>) -> Self
-        ensures { result ≡ map shown_place words.items }
+    /// The answer that gives each name the place whose short word has its number. It takes no memory, and keeps that of word
+    /// cells to come.
+    pub(crate) fn of(words: Vec<u32, A>, zeros: Option<Zeros<A>>) -> Self
+        ensures { result ≡ map shown_place (map long_word words.items) }
     {
         Forwards {
-            words: Words::Listed(words),
+            words: Words::Listed(words, zeros),
         }
     }
 
@@ -122,13 +127,13 @@ impl<A: Allocator> Forwards<A> {
         requires { name < length self.old }
         ensures { self.new ≡ slice_set self.old name (Some place) }
     {
-        self.words.set(name, place.to_word());
+        self.words.set(name, place);
     }
 
-    /// The memory of words, for cells to come.
+    /// The memory of the cells, for cells to come.
     pub fn into_memory(self) -> CellMemory<A> {
         match self.words {
-            Words::Listed(words) => CellMemory::of(words),
+            Words::Listed(words, zeros) => CellMemory { words, zeros },
             Words::Closed(_, memory) => memory,
         }
     }

@@ -5,7 +5,6 @@ mod plain_cells;
 mod plain_ends;
 mod plain_pass;
 mod remembered;
-mod words;
 
 pub use crate::plain_cells::plain_cells::PlainCells;
 pub use crate::plain_cells::plain_pass::PlainPass;

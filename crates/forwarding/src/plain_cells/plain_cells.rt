@@ -2,33 +2,38 @@
 ghost use Rattle.std.specs.Prelude.{◌≡◌};
 ghost use Rattle.forwarding.specs.Minds.{filled};
 
+use crate::cell_memory::Zeros;
 use crate::cells::{Cells, Outcome};
 use crate::plain_cells::minds::{Filled, Holdings};
 use crate::plain_cells::plain_pass::PlainPass;
 use crate::plain_cells::remembered::Remembered;
-use crate::plain_cells::words::place_in;
+use crate::short_words::{place_in, short_word_of};
 use layout::Place;
 use std::alloc::{AllocError, Allocator, Global};
 use std::marker::Model;
 
 /// Cells of one thread, with passes for several workers. A look gives what was won, and a race is won exactly when
-/// nothing was. A cell is one word: 0, or the word of the place that was won. A look reads it and writes nothing; a
+/// nothing was. A cell is four bytes: 0, or the short word of the place that was won. A look reads it and writes nothing; a
 /// race reads it, and writes it where it was 0.
 #[derive(Drop)]
 pub struct PlainCells<A: Allocator = Global> {
-    pub(crate) words: Vec<u64, A>,
+    pub(crate) words: Vec<u32, A>,
+    /// Kept for word cells to come.
+    pub(crate) zeros: Option<Zeros<A>>,
     pub(crate) passes: usize,
     pub(crate) held: Remembered<Holdings>,
 }
 
 impl<A: Allocator> Model for PlainCells<A> {
+    ghost use Rattle.std.specs.Prelude.{map};
     ghost use Rattle.forwarding.specs.Plain.{PlainValue, ArePlainCells};
+    ghost use Rattle.forwarding.specs.ShortWords.{long_word};
 
     ghost Value = { PlainValue };
 
     ghost view = { λ c. record { held = c.held.value; passes = c.passes } };
 
-    ghost invariant = { λ c. ArePlainCells c.words.items c.held.value c.passes };
+    ghost invariant = { λ c. ArePlainCells (map long_word c.words.items) c.held.value c.passes };
 }
 
 /// The name's cell holds the place, which the pass has won. This is remembered for contracts alone.
@@ -95,7 +100,7 @@ impl<A: Allocator> Cells for PlainCells<A> {
                 Ok(Outcome::Lost(first))
             }
             None => {
-                self.words[at] = place.to_word();
+                self.words[at] = short_word_of(place);
                 self.held = holding(&self.held, pass, name, place);
                 pass.learn(name, place);
                 pass.win(name, place);

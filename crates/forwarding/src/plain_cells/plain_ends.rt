@@ -24,7 +24,8 @@ impl<A: Allocator> PlainCells<A> {
         memory.clear_to(count as usize)?;
         let held = Remembered::of::<u32, Empty>(&count);
         Ok(PlainCells {
-            words: memory.into_words(),
+            words: memory.words,
+            zeros: memory.zeros,
             passes,
             held,
         })
@@ -97,7 +98,7 @@ impl<A: Allocator> PlainCells<A> {
         ensures never_unsettled { result ≢ Err SettleError.Unsettled }
     {
         let _ = passes;
-        Ok(Forwards::of(self.words))
+        Ok(Forwards::of(self.words, self.zeros))
     }
 
     /// As `settle`, with the pass that `alone` gave with these cells.
@@ -110,6 +111,6 @@ impl<A: Allocator> PlainCells<A> {
         ensures agree { Agree known_by (pass ∷ []) }
     {
         let _ = pass;
-        Forwards::of(self.words)
+        Forwards::of(self.words, self.zeros)
     }
 }

@@ -93,8 +93,9 @@ impl<A: Allocator> WordCells<A> {
     {
         let plan = Plan { count, passes };
         let made = Vec::with_capacity(alloc.clone()?, passes)?;
-        memory.clear_to(count as usize + 1)?;
-        let (table, seat) = Table::of_words(alloc, memory.words(), &plan)?;
+        let zeros = memory.take_zeros(alloc.clone()?, count as usize + 1)?;
+        let (table, seat) = Table::of_words(alloc, zeros.as_slice(), &plan)?;
+        memory.zeros = Some(zeros);
         let made = deal(&table, seat, made, passes);
         let cells = WordCells {
             table,

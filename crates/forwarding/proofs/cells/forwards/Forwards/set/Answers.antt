@@ -1,5 +1,6 @@
-use Rattle.std.proofs.Common.{◌∙◌, ap, sym, Some, set, map}
+use Rattle.std.proofs.Common.{◌∙◌, ap, refl, Some, set, map}
 use Rattle.std.proofs.lemmas.List.{map-set}
+use Rattle.layout.specs.Place.{place_word}
 use Rattle.forwarding.specs.Forwards.{shown_place}
 use Rattle.forwarding.specs.ShownWords.{words_in}
 use Rattle.forwarding.proofs.ShownPlace.{shown_by}
@@ -7,5 +8,5 @@ use Rattle.forwarding.proofs.cells.forwards.Forwards.set.Goals as goal
 
 pub returns : goal.returns
 returns g c =
-    rw (← c.self.view_is, c.set.ensures) (map-set shown_place (words_in c.self.inside.words) c.args.name c.to_word.result
-    ∙ ap (set (map shown_place (words_in c.self.inside.words)) c.args.name) (shown_by c.to_word.result (Some c.args.place) (sym c.to_word.ensures)))
+    rw (← c.self.view_is, c.set.ensures) (map-set shown_place (words_in c.self.inside.words) c.args.name (place_word c.args.place)
+    ∙ ap (set (map shown_place (words_in c.self.inside.words)) c.args.name) (shown_by (place_word c.args.place) (Some c.args.place) refl))

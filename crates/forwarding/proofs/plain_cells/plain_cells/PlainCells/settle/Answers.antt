@@ -1,4 +1,5 @@
 use Rattle.std.proofs.Common.{◌≡◌, ◌∙◌, subst, map}
+use Rattle.forwarding.specs.ShortWords.{long_word}
 use Rattle.forwarding.specs.Plain.{PlainValue, ArePlainCells, place_of}
 use Rattle.forwarding.proofs.PlainSettled.{settles_as, they_agree, exact_as}
 use Rattle.forwarding.proofs.plain_cells.plain_cells.PlainCells.settle.Goals as goal
@@ -8,10 +9,10 @@ returns-clause-exact g c = subst (λ (v : PlainValue). c.of.result ≡ map place
 
 pub returns-clause-settled : goal.returns-clause-settled
 returns-clause-settled g c =
-    let are : ArePlainCells c.self.inside.words.items c.args.self.held c.args.self.passes = subst (λ (v : PlainValue). ArePlainCells c.self.inside.words.items v.held v.passes) c.self.view_is c.self.invariant in
+    let are : ArePlainCells (map long_word c.self.inside.words.items) c.args.self.held c.args.self.passes = subst (λ (v : PlainValue). ArePlainCells (map long_word c.self.inside.words.items) v.held v.passes) c.self.view_is c.self.invariant in
     settles_as c.args.self _ _ are c.requires.fits c.requires.apart c.requires.all c.of.result (returns-clause-exact g c)
 
 pub returns-clause-agree : goal.returns-clause-agree
 returns-clause-agree g c =
-    let are : ArePlainCells c.self.inside.words.items c.args.self.held c.args.self.passes = subst (λ (v : PlainValue). ArePlainCells c.self.inside.words.items v.held v.passes) c.self.view_is c.self.invariant in
+    let are : ArePlainCells (map long_word c.self.inside.words.items) c.args.self.held c.args.self.passes = subst (λ (v : PlainValue). ArePlainCells (map long_word c.self.inside.words.items) v.held v.passes) c.self.view_is c.self.invariant in
     they_agree c.args.self c.args.passes.items _ are c.requires.fits c.requires.apart c.requires.all

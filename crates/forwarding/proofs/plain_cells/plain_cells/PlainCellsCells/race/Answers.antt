@@ -1,6 +1,6 @@
-use Rattle.std.proofs.Common.{refl, sym, ap, ◌∙◌, arith, rules}
+use Rattle.std.proofs.Common.{None, refl, sym, ap, ◌∙◌, arith, rules, get_or-set_same, get_or-set_other}
 use Rattle.forwarding.proofs.PairLemmas.{none_unless}
-use Rattle.forwarding.specs.Plain.{PlainPassValue}
+use Rattle.forwarding.specs.Plain.{PlainPassValue, place_of}
 use Rattle.forwarding.proofs.PlainKeeps.{shows, reads, none_held, learner_fits, learns, winner_fits, others_fit, cells_set}
 use Rattle.forwarding.proofs.plain_cells.plain_cells.PlainCellsCells.race.Goals as goal
 
@@ -10,7 +10,7 @@ place_in-requires g c = (_, shows _ _ _ c.args.name _ c.self.invariant (rw (← 
 pub invariant_of-self : goal.invariant_of-self
 invariant_of-self g c =
     let fit = rw (← c.self.view_is) at c.requires.pass in
-    rw (c.to_word.ensures, c.holding.ensures) (cells_set _ _ _ _ _ _ fit.mine.0 c.self.invariant)
+    rw c.holding.ensures (cells_set _ _ _ _ _ _ _ c.short_word_of.ensures fit.mine.0 c.self.invariant)
 
 pub returns-in-Some-clause-keeps : goal.returns-in-Some-clause-keeps
 returns-in-Some-clause-keeps g c =
@@ -56,6 +56,12 @@ returns-in-None-clause-keeps g c =
       apart_back = search rules;
       limit = search rules;
     }
+
+pub returns-in-None-clause-exact : goal.returns-in-None-clause-exact
+returns-in-None-clause-exact g c =
+    let below = rw (← c.self.view_is) at c.requires.name in
+    let is = reads _ _ _ c.args.name _ _ c.self.invariant below c.index.ensures c.place_in.ensures in
+    rw (← c.self.view_is, c.holding.ensures) (sym (sym c.in-None.is ∙ is), ap place_of (get_or-set_same _ c.args.name _ None below), (λ other ne. ap place_of (get_or-set_other _ c.args.name other _ None ne)), refl)
 
 pub returns-in-None-clause-known : goal.returns-in-None-clause-known
 returns-in-None-clause-known g c =
