@@ -1,8 +1,10 @@
 -- Words that are copied from one list to another, and an object among them.
-use Rattle.std.proofs.Common.{◌≡◌, ℕ, ◌+◌, ◌-◌, ◌*◌, ◌%◌, ◌<◌, ◌≤◌, List, [], ◌∷◌, ◌++◌, length, get_or, set, take, drop, refl, sym, ap, ◌∙◌, arith}
-use Rattle.std.proofs.lemmas.List.{drop-set-add, take_more_set, take_more, get_or-drop, length-drop, length-take, drop-drop}
+use Rattle.std.proofs.Common.{◌≡◌, ℕ, ◌+◌, ◌-◌, ◌*◌, ◌%◌, zero, suc, ◌<◌, ◌≤◌, List, [], ◌∷◌, ◌++◌, length, get_or, set, take, drop, refl, sym, ap, ◌∙◌, subst, arith, length-set}
+use mathlib.Core.Logic.{dite}
+use native.Mathlib.Decide.{ℕ_discrete, dec_le}
+use Rattle.std.proofs.lemmas.List.{drop-set-add, take_more_set, take_more, get_or-drop, get_or-take, length-drop, length-take, drop-drop}
 use Rattle.layout.specs.Header.{header_word}
-use Rattle.block_pool.specs.Words.{pointers_of, plain_of, span, raw_at, IsWritten}
+use Rattle.block_pool.specs.Words.{pointers_of, plain_of, span, raw_at, AreCopied, IsWritten}
 use Rattle.block_pool.proofs.WordLemmas.{window-agree, take-agree, is_written}
 
 -- one word more is the same
@@ -16,6 +18,45 @@ copied_next ws fs at offset i room there before =
     ∙ ap (λ xs. xs ++ v ∷ []) before
     ∙ ap (λ x. take i (drop offset fs) ++ x ∷ []) (sym (get_or-drop offset fs i 0))
     ∙ sym (take_more (drop offset fs) i 0 in_fs)
+
+set_again : (xs : List ℕ) (i : ℕ) → set xs i (get_or xs i 0) ≡ xs
+set_again [] i = refl
+set_again (x ∷ xs) zero = refl
+set_again (x ∷ xs) (suc i) = ap (λ (ys : List ℕ). x ∷ ys) (set_again xs i)
+
+-- one of the words that are copied, or the next one
+pub copied_again : (ws fs : List ℕ) (at offset i m : ℕ) → at + i < length ws → offset + i < length fs → i ≤ m → AreCopied m ws at fs offset
+    → AreCopied m (set ws (at + i) (get_or fs (offset + i) 0)) at fs offset × AreCopied (i + 1) (set ws (at + i) (get_or fs (offset + i) 0)) at fs offset
+copied_again ws fs at offset i m room there le before = dite (ℕ_discrete i m)
+    (λ is. let next = copied_next ws fs at offset i room there (subst (λ (k : ℕ). AreCopied k ws at fs offset) (sym is) before) in
+    (subst (λ (k : ℕ). AreCopied k (set ws (at + i) (get_or fs (offset + i) 0)) at fs offset) is (take-agree (drop offset fs) (drop at (set ws (at + i) (get_or fs (offset + i) 0))) (i + 1) i next (omega arith)), next))
+    (λ ne. let below : i < m = omega arith in
+    let word : get_or fs (offset + i) 0 ≡ get_or ws (at + i) 0 =
+    sym (get_or-drop offset fs i 0) ∙ (sym (get_or-take m (drop offset fs) i 0 below) ∙ (ap (λ (xs : List ℕ). get_or xs i 0) (sym before) ∙ (get_or-take m (drop at ws) i 0 below ∙ get_or-drop at ws i 0))) in
+    let same : set ws (at + i) (get_or fs (offset + i) 0) ≡ ws = ap (set ws (at + i)) word ∙ set_again ws (at + i) in
+    subst (λ (us : List ℕ). AreCopied m us at fs offset × AreCopied (i + 1) us at fs offset) (sym same) (before, take-agree (drop offset fs) (drop at ws) m (i + 1) before (omega arith)))
+
+-- the same by other names for the places
+copied_at : (ws fs : List ℕ) (at offset i m to from next : ℕ) → to ≡ at + i → from ≡ offset + i → next ≡ i + 1 → to < length ws → from < length fs → i ≤ m → AreCopied m ws at fs offset
+    → AreCopied m (set ws to (get_or fs from 0)) at fs offset × AreCopied next (set ws to (get_or fs from 0)) at fs offset
+copied_at ws fs at offset i m to from next is_to is_from is_next room there le before =
+    subst (λ (t : ℕ). AreCopied m (set ws t (get_or fs from 0)) at fs offset × AreCopied next (set ws t (get_or fs from 0)) at fs offset) (sym is_to)
+    (subst (λ (f : ℕ). AreCopied m (set ws (at + i) (get_or fs f 0)) at fs offset × AreCopied next (set ws (at + i) (get_or fs f 0)) at fs offset) (sym is_from)
+    (subst (λ (n : ℕ). AreCopied m (set ws (at + i) (get_or fs (offset + i) 0)) at fs offset × AreCopied n (set ws (at + i) (get_or fs (offset + i) 0)) at fs offset) (sym is_next)
+    (copied_again ws fs at offset i m (omega arith) (omega arith) le before)))
+
+-- two of them, one after the other
+pub copied_two : (ws fs : List ℕ) (at offset i m : ℕ) → at + i + 2 ≤ length ws → offset + i + 2 ≤ length fs → i ≤ m → AreCopied m ws at fs offset
+    → AreCopied m (set (set ws (at + i) (get_or fs (offset + i) 0)) (at + i + 1) (get_or fs (offset + i + 1) 0)) at fs offset
+    × AreCopied (i + 2) (set (set ws (at + i) (get_or fs (offset + i) 0)) (at + i + 1) (get_or fs (offset + i + 1) 0)) at fs offset
+copied_two ws fs at offset i m room there le before =
+    let us : List ℕ = set ws (at + i) (get_or fs (offset + i) 0) in
+    let first = copied_again ws fs at offset i m (omega arith) (omega arith) le before in
+    let long : length us ≡ length ws = length-set ws (at + i) (get_or fs (offset + i) 0) in
+    let second = copied_at us fs at offset (i + 1) (i + 1) (at + i + 1) (offset + i + 1) (i + 2) (omega arith) (omega arith) (omega arith) (omega arith) (omega arith) (omega arith) first.1 in
+    dite (dec_le m (i + 1))
+    (λ (low : m ≤ i + 1). (take-agree (drop offset fs) (drop at (set us (at + i + 1) (get_or fs (offset + i + 1) 0))) (i + 2) m second.1 (omega arith), second.1))
+    (λ high. let third = copied_at us fs at offset (i + 1) m (at + i + 1) (offset + i + 1) (i + 2) (omega arith) (omega arith) (omega arith) (omega arith) (omega arith) (omega arith) first.0 in third)
 
 -- the header, with another ordinal
 header_again : (h ordinal : ℕ) → h % 281474976710656 + ordinal * 281474976710656 ≡ header_word (pointers_of h) (plain_of h) ordinal

@@ -45,6 +45,10 @@ pub record IsSoundBlock (words offsets : List ℕ) (len used front number : ℕ)
   pub words_from : 16 ≤ length words
   pub words_to : length words ≤ 512
 
+-- so many words from a place on are those from another place on
+abbrev pub AreCopied : ℕ → List ℕ → ℕ → List ℕ → ℕ → Type 0
+AreCopied count words at from offset = take count (drop at words) ≡ take count (drop offset from)
+
 -- an object was written from a place on, and the words before it were kept
 pub record IsWritten (old new : List ℕ) (at ordinal : ℕ) (object : Raw) : Type 0 where
   pub kept : take at new ≡ take at old

@@ -1,10 +1,10 @@
 //! An object written into words, and read back.
-ghost use Rattle.std.specs.Prelude.{◌≡◌, ◌+◌, ◌<◌, ◌≤◌, length, take, drop, replicate, get_or};
+ghost use Rattle.std.specs.Prelude.{◌≡◌, ℕ, ◌+◌, ◌<◌, ◌≤◌, length, take, drop, replicate, get_or};
 ghost use Rattle.layout.specs.Header.{size_of};
 ghost use Rattle.layout.specs.Object.{raw_size};
 ghost use Rattle.layout.specs.ObjectRef.{raw_of};
 ghost use Rattle.block_pool.specs.BlockValue.{new_object};
-ghost use Rattle.block_pool.specs.Words.{raw_at, span, ordinal_of, IsWritten};
+ghost use Rattle.block_pool.specs.Words.{raw_at, span, ordinal_of, AreCopied, IsWritten};
 
 use layout::{Header, ObjectRef};
 
@@ -65,25 +65,29 @@ pub(crate) fn size_at(words: &[u64], at: usize) -> usize
 fn copy_next(words: &mut [u64], at: usize, from: &[u64], offset: usize, i: usize)
     requires room { at + i < length words.old }
     requires there { offset + i < length from.now }
-    requires before { take i (drop at words.old) ≡ take i (drop offset from.now) }
+    requires before { AreCopied i words.old at from.now offset }
     ensures kept { take at words.new ≡ take at words.old }
-    ensures copied { take (i + 1) (drop at words.new) ≡ take (i + 1) (drop offset from.now) }
+    ensures copied { AreCopied (i + 1) words.new at from.now offset }
 {
     words[at + i] = from[offset + i];
 }
 
-/// Copies two words to a place.
+/// Copies two words behind a place, from the one with that index on, which may be among those that are copied. Both are read
+/// before one is written.
 #[inline(always)]
-fn copy_two(words: &mut [u64], at: usize, from: &[u64], offset: usize)
-    requires room { at + 2 ≤ length words.old }
-    requires there { offset + 2 ≤ length from.now }
+fn copy_two(words: &mut [u64], at: usize, from: &[u64], offset: usize, i: usize)
+    requires room { at + i + 2 ≤ length words.old }
+    requires there { offset + i + 2 ≤ length from.now }
     requires few { length words.old ≤ 512 }
     requires few_there { length from.now ≤ 512 }
     ensures kept { take at words.new ≡ take at words.old }
-    ensures copied { take 2 (drop at words.new) ≡ take 2 (drop offset from.now) }
+    ensures copied { (m : ℕ) → i ≤ m → AreCopied m words.old at from.now offset →
+        AreCopied m words.new at from.now offset × AreCopied (i + 2) words.new at from.now offset }
 {
-    copy_next(words, at, from, offset, 0);
-    copy_next(words, at, from, offset, 1);
+    let first = from[offset + i];
+    let second = from[offset + i + 1];
+    words[at + i] = first;
+    words[at + i + 1] = second;
 }
 
 /// Copies so many words to a place, one after the other.
@@ -94,15 +98,49 @@ fn copy_many(words: &mut [u64], at: usize, from: &[u64], offset: usize, count: u
     requires few { length words.old ≤ 512 }
     requires few_there { length from.now ≤ 512 }
     ensures kept { take at words.new ≡ take at words.old }
-    ensures copied { take count (drop at words.new) ≡ take count (drop offset from.now) }
+    ensures copied { AreCopied count words.new at from.now offset }
 {
     for i in 0..count {
         copy_next(words, at, from, offset, i);
     }
 }
 
-/// Copies so many words to a place: one to four, as most objects have, with no loop, and more in a function of its own, which
-/// would want the registers of the loop that this one is a part of.
+/// Copies two to four words to a place: the first two, and the last two, which may be among them.
+#[inline(always)]
+fn copy_few(words: &mut [u64], at: usize, from: &[u64], offset: usize, count: usize)
+    requires two { 2 ≤ count }
+    requires four { count ≤ 4 }
+    requires room { at + count ≤ length words.old }
+    requires there { offset + count ≤ length from.now }
+    requires few { length words.old ≤ 512 }
+    requires few_there { length from.now ≤ 512 }
+    ensures kept { take at words.new ≡ take at words.old }
+    ensures copied { AreCopied count words.new at from.now offset }
+{
+    copy_two(words, at, from, offset, 0);
+    copy_two(words, at, from, offset, count - 2);
+}
+
+/// Copies five to eight words to a place: the first four, and the last four, which may be among them.
+#[inline(always)]
+fn copy_some(words: &mut [u64], at: usize, from: &[u64], offset: usize, count: usize)
+    requires five { 5 ≤ count }
+    requires eight { count ≤ 8 }
+    requires room { at + count ≤ length words.old }
+    requires there { offset + count ≤ length from.now }
+    requires few { length words.old ≤ 512 }
+    requires few_there { length from.now ≤ 512 }
+    ensures kept { take at words.new ≡ take at words.old }
+    ensures copied { AreCopied count words.new at from.now offset }
+{
+    copy_two(words, at, from, offset, 0);
+    copy_two(words, at, from, offset, 2);
+    copy_two(words, at, from, offset, count - 4);
+    copy_two(words, at, from, offset, count - 2);
+}
+
+/// Copies so many words to a place: one to eight, as most objects have, with no loop and one branch for many sizes, and more in a
+/// function of its own, which would want the registers of the loop that this one is a part of.
 #[inline(always)]
 fn copy_words(words: &mut [u64], at: usize, from: &[u64], offset: usize, count: usize)
     requires room { at + count ≤ length words.old }
@@ -110,21 +148,14 @@ fn copy_words(words: &mut [u64], at: usize, from: &[u64], offset: usize, count: 
     requires few { length words.old ≤ 512 }
     requires few_there { length from.now ≤ 512 }
     ensures kept { take at words.new ≡ take at words.old }
-    ensures copied { take count (drop at words.new) ≡ take count (drop offset from.now) }
+    ensures copied { AreCopied count words.new at from.now offset }
 {
-    if count == 3 {
-        copy_two(words, at, from, offset);
-        copy_next(words, at, from, offset, 2);
+    if count >= 2 && count <= 4 {
+        copy_few(words, at, from, offset, count);
         return;
     }
-    if count == 2 {
-        copy_two(words, at, from, offset);
-        return;
-    }
-    if count == 4 {
-        copy_two(words, at, from, offset);
-        copy_next(words, at, from, offset, 2);
-        copy_next(words, at, from, offset, 3);
+    if count >= 5 && count <= 8 {
+        copy_some(words, at, from, offset, count);
         return;
     }
     if count == 1 {

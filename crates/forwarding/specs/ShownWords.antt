@@ -5,5 +5,5 @@ use Rattle.forwarding.specs.declared.cells.forwards.Words.TheVariants.{Listed, C
 use Rattle.forwarding.specs.ShortWords.{long_word}
 
 abbrev pub words_in : {A : Type 0} → Words A → List ℕ
-words_in (Listed words zeros) = map long_word words.items
-words_in (Closed words memory) = words
+words_in (Listed words) = map long_word words.items
+words_in (Closed words zeros) = words

@@ -4,7 +4,7 @@ ghost use Rattle.std.specs.Prelude.{◌≡◌, [], IfOk, OnOk, replicate};
 use std::alloc::{AllocError, Allocator, Global};
 use std::marker::Model;
 
-/// Words that are all 0.
+/// Words that are all 0, which word cells are copied from.
 #[derive(Drop)]
 pub(crate) struct Zeros<A: Allocator> {
     words: Vec<u64, A>,
@@ -45,14 +45,20 @@ impl<A: Allocator> Zeros<A> {
     }
 }
 
-/// Memory that cells leave for the cells of a later collection. What stands in it has no meaning, and cells of either kind find
-/// there what they were laid out from.
+/// What cells were laid out in.
+#[derive(Drop)]
+enum Lists<A: Allocator> {
+    /// The short words of plain cells. What stands in them has no meaning.
+    Short(Vec<u32, A>),
+    /// What word cells were copied from.
+    Zeros(Zeros<A>),
+}
+
+/// Memory that cells leave for the cells of a later collection. Cells of the same kind are laid out in it again, and those of
+/// another ask for new memory. It is memory alone: no contract sees what it has.
 #[derive(Drop)]
 pub struct CellMemory<A: Allocator = Global> {
-    /// For the cells of one thread.
-    pub(crate) words: Vec<u32, A>,
-    /// What word cells are copied from, once there were such.
-    pub(crate) zeros: Option<Zeros<A>>,
+    lists: Lists<A>,
 }
 
 impl<A: Allocator> CellMemory<A> {
@@ -61,37 +67,49 @@ impl<A: Allocator> CellMemory<A> {
         CellMemory::of(Vec::new(alloc))
     }
 
-    /// The memory of these words.
+    /// The memory of these words, for plain cells.
     pub fn of(words: Vec<u32, A>) -> Self {
-        CellMemory { words, zeros: None }
+        CellMemory {
+            lists: Lists::Short(words),
+        }
+    }
+
+    /// The memory of these zeros, for word cells.
+    pub(crate) fn of_zeros(zeros: Zeros<A>) -> Self {
+        CellMemory {
+            lists: Lists::Zeros(zeros),
+        }
     }
 
     /// For how many words of eight bytes there is room.
     pub fn capacity(&self) -> usize {
-        let zeros = match &self.zeros {
-            Some(zeros) => zeros.words.capacity(),
-            None => 0,
-        };
-        zeros.saturating_add(self.words.capacity() / 2)
+        match &self.lists {
+            Lists::Short(words) => words.capacity() / 2,
+            Lists::Zeros(zeros) => zeros.words.capacity(),
+        }
     }
 
-    /// Makes the words so many, all 0. An error says that memory ran out.
-    pub(crate) fn clear_to(&mut self, count: usize) -> Result<(), AllocError>
-        ensures { OnOk result (self.new.words.items ≡ replicate count 0) }
-    {
-        self.words.clear();
-        self.words.resize(count, 0)
+    /// Words with whatever stands in them, as plain cells left them, or else none, which grow by that allocator.
+    pub(crate) fn into_words(self, alloc: A) -> Vec<u32, A> {
+        match self.lists {
+            Lists::Short(words) => words,
+            Lists::Zeros(_) => Vec::new(alloc),
+        }
     }
 
-    /// Takes out so many words of eight bytes that are 0; where there were none, they grow by that allocator. An error says
-    /// that memory ran out.
-    pub(crate) fn take_zeros(&mut self, alloc: A, count: usize) -> Result<Zeros<A>, AllocError>
+    /// The zeros that word cells left, or else none, which grow by that allocator.
+    fn zeros(self, alloc: A) -> Zeros<A> {
+        match self.lists {
+            Lists::Short(_) => Zeros::none(alloc),
+            Lists::Zeros(zeros) => zeros,
+        }
+    }
+
+    /// So many zeros, for which it asks that allocator where no word cells left any. An error says that memory ran out.
+    pub(crate) fn into_zeros(self, alloc: A, count: usize) -> Result<Zeros<A>, AllocError>
         ensures { IfOk result (λ zeros. zeros ≡ replicate count 0) }
     {
-        let mut zeros = match self.zeros.take() {
-            Some(zeros) => zeros,
-            None => Zeros::none(alloc),
-        };
+        let mut zeros = self.zeros(alloc);
         zeros.resize(count)?;
         Ok(zeros)
     }

@@ -30,7 +30,7 @@ impl<A: Allocator + Clone> SerialCollection<A> {
         let free = collection.free().share()?;
         let (claims, draws) = Claims::alone(alloc.clone()?, free)?;
         let memory = spare.cells(alloc.clone()?);
-        let (cells, pass) = PlainCells::alone_within(memory, collection.cells())?;
+        let (cells, pass) = PlainCells::alone_within(alloc.clone()?, memory, collection.cells())?;
         let key = CopiesKey::new(heap, collection.generation());
         let (queues, seat) = PlainPending::alone(alloc.clone()?, &key)?;
         let mut workspace = Workspace::new(alloc, heap, collection, 0, 1)?;

@@ -163,8 +163,13 @@ fn first_of_two_stays(
 
 /// Whether name 1 of plain cells within that memory holds the first place after a pass alone raced for it with two, and the
 /// places that it settles on.
-fn raced_alone(memory: CellMemory, a: Place, b: Place) -> Result<(bool, Forwards), AllocError> {
-    let (mut cells, mut pass) = PlainCells::alone_within(memory, 2)?;
+fn raced_alone(
+    alloc: Global,
+    memory: CellMemory,
+    a: Place,
+    b: Place,
+) -> Result<(bool, Forwards), AllocError> {
+    let (mut cells, mut pass) = PlainCells::alone_within(alloc, memory, 2)?;
     let stays = first_of_two_stays(&mut cells, &mut pass, a, b)?;
     Ok((stays, cells.settle_alone(pass)))
 }
@@ -183,7 +188,7 @@ fn a_pass_alone_settles_what_it_won(rt: HostRuntime) -> Result<(), Fail> {
 fn cells_in_used_memory_hold_nothing(rt: HostRuntime) -> Result<(), Fail> {
     let (a, b) = (Place::small(1, 2), Place::large(0));
     let used = vec![in rt.alloc(); 65536u32; 3]?;
-    let (stays, forwards) = raced_alone(CellMemory::of(used), a, b)?;
+    let (stays, forwards) = raced_alone(rt.alloc(), CellMemory::of(used), a, b)?;
     assert!(rt; stays);
     assert!(rt; is_second(&forwards, a));
 
@@ -201,7 +206,7 @@ fn memory_that_cells_leave_serves_either_kind(rt: HostRuntime) -> Result<(), Fai
     assert!(rt; stays);
     assert!(rt; is_second(&of_words, a));
 
-    let (stays, of_plain) = raced_alone(of_words.into_memory(), b, a)?;
+    let (stays, of_plain) = raced_alone(rt.alloc(), of_words.into_memory(), b, a)?;
     assert!(rt; stays);
     assert!(rt; is_second(&of_plain, b));
 

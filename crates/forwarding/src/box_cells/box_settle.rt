@@ -70,7 +70,7 @@ impl BoxCells {
             return Err(SettleError::Unsettled);
         }
         match all.words(alloc) {
-            Ok(words) => Ok(Forwards::of(words, None)),
+            Ok(words) => Ok(Forwards::of(words)),
             Err(_) => Err(SettleError::NoMemory),
         }
     }

@@ -27,10 +27,10 @@ pub enum SettleError {
 /// Where the words of the names lie.
 #[derive(Drop)]
 pub(crate) enum Words<A: Allocator> {
-    /// Short words, with memory for word cells to come.
-    Listed(Vec<u32, A>, Option<Zeros<A>>),
-    /// Where threads shared them, with memory for cells to come.
-    Closed(ClosedWords<A>, CellMemory<A>),
+    /// Short words.
+    Listed(Vec<u32, A>),
+    /// Where threads shared them, with zeros for cells to come.
+    Closed(ClosedWords<A>, Zeros<A>),
 }
 
 /// The place of each name that was won: its word by number, and 0 for each other name.
@@ -57,7 +57,7 @@ impl<A: Allocator> Words<A> {
         ensures { result ≡ length (words_in self.now) }
     {
         match self {
-            Words::Listed(words, _) => words.len(),
+            Words::Listed(words) => words.len(),
             Words::Closed(words, _) => words.len(),
         }
     }
@@ -68,7 +68,7 @@ impl<A: Allocator> Words<A> {
         ensures { slice_get (words_in self.now) name ≡ Some result }
     {
         match self {
-            Words::Listed(words, _) => long_word_of(words[name as usize]),
+            Words::Listed(words) => long_word_of(words[name as usize]),
             Words::Closed(words, _) => words.word(name),
         }
     }
@@ -79,29 +79,28 @@ impl<A: Allocator> Words<A> {
         ensures { words_in self.new ≡ slice_set (words_in self.old) name (place_word place) }
     {
         match self {
-            Words::Listed(words, _) => words[name as usize] = short_word_of(place),
+            Words::Listed(words) => words[name as usize] = short_word_of(place),
             Words::Closed(words, _) => words.set(name, place.to_word()),
         }
     }
 }
 
 impl<A: Allocator> Forwards<A> {
-    /// The answer that gives each name the place whose short word has its number. It takes no memory, and keeps that of word
-    /// cells to come.
-    pub(crate) fn of(words: Vec<u32, A>, zeros: Option<Zeros<A>>) -> Self
+    /// The answer that gives each name the place whose short word has its number. It takes no memory.
+    pub(crate) fn of(words: Vec<u32, A>) -> Self
         ensures { result ≡ map shown_place (map long_word words.items) }
     {
         Forwards {
-            words: Words::Listed(words, zeros),
+            words: Words::Listed(words),
         }
     }
 
-    /// The same of the words that threads shared. It keeps memory for cells to come.
-    pub(crate) fn of_closed(words: ClosedWords<A>, memory: CellMemory<A>) -> Self
+    /// The same of the words that threads shared. It keeps zeros for cells to come.
+    pub(crate) fn of_closed(words: ClosedWords<A>, zeros: Zeros<A>) -> Self
         ensures { result ≡ map shown_place words }
     {
         Forwards {
-            words: Words::Closed(words, memory),
+            words: Words::Closed(words, zeros),
         }
     }
 
@@ -133,8 +132,8 @@ impl<A: Allocator> Forwards<A> {
     /// The memory of the cells, for cells to come.
     pub fn into_memory(self) -> CellMemory<A> {
         match self.words {
-            Words::Listed(words, zeros) => CellMemory { words, zeros },
-            Words::Closed(_, memory) => memory,
+            Words::Listed(words) => CellMemory::of(words),
+            Words::Closed(_, zeros) => CellMemory::of_zeros(zeros),
         }
     }
 }

@@ -2,7 +2,6 @@
 ghost use Rattle.std.specs.Prelude.{◌≡◌};
 ghost use Rattle.forwarding.specs.Minds.{filled};
 
-use crate::cell_memory::Zeros;
 use crate::cells::{Cells, Outcome};
 use crate::plain_cells::minds::{Filled, Holdings};
 use crate::plain_cells::plain_pass::PlainPass;
@@ -18,8 +17,6 @@ use std::marker::Model;
 #[derive(Drop)]
 pub struct PlainCells<A: Allocator = Global> {
     pub(crate) words: Vec<u32, A>,
-    /// Kept for word cells to come.
-    pub(crate) zeros: Option<Zeros<A>>,
     pub(crate) passes: usize,
     pub(crate) held: Remembered<Holdings>,
 }

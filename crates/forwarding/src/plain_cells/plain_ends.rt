@@ -1,5 +1,5 @@
 //! Plain cells as they are made, and what they answer in the end.
-ghost use Rattle.std.specs.Prelude.{◌≡◌, ◌≢◌, ◌∷◌, [], None, Err, All, length, map, slice_index_or, IsOk, IfOk, OnOk};
+ghost use Rattle.std.specs.Prelude.{◌≡◌, ◌≢◌, ◌∷◌, [], None, Err, All, length, map, replicate, slice_index_or, IsOk, IfOk, OnOk};
 ghost use Rattle.std.specs.List.{AllPairs};
 ghost use Rattle.forwarding.specs.Settled.{Agree, IsSettled};
 ghost use Rattle.forwarding.specs.Plain.{IsFit, Differ, known_by, place_of, empty_cells, fresh_pass, fresh_passes};
@@ -12,20 +12,24 @@ use crate::plain_cells::plain_pass::PlainPass;
 use crate::plain_cells::remembered::Remembered;
 use std::alloc::{AllocError, Allocator};
 
+/// So many zeros, in the memory of these words as far as it goes. An error says that memory ran out.
+fn zeros_in<A: Allocator>(mut words: Vec<u32, A>, count: usize) -> Result<Vec<u32, A>, AllocError>
+    ensures { IfOk result (λ zeros. zeros.items ≡ replicate count 0) }
+{
+    words.clear();
+    words.resize(count, 0)?;
+    Ok(words)
+}
+
 impl<A: Allocator> PlainCells<A> {
-    /// Cells that hold nothing, of so many passes, in that memory as far as it goes.
-    fn empty(
-        mut memory: CellMemory<A>,
-        count: u32,
-        passes: usize,
-    ) -> Result<PlainCells<A>, AllocError>
+    /// Cells that hold nothing, of so many passes, in the memory of these words as far as it goes.
+    fn empty(words: Vec<u32, A>, count: u32, passes: usize) -> Result<PlainCells<A>, AllocError>
         ensures { IfOk result (λ cells. cells ≡ empty_cells count passes) }
     {
-        memory.clear_to(count as usize)?;
+        let words = zeros_in(words, count as usize)?;
         let held = Remembered::of::<u32, Empty>(&count);
         Ok(PlainCells {
-            words: memory.words,
-            zeros: memory.zeros,
+            words,
             passes,
             held,
         })
@@ -52,7 +56,7 @@ impl<A: Allocator> PlainCells<A> {
         for number in 0..passes {
             made.push_reserved(PlainPass::new(count, passes, number));
         }
-        let cells = PlainCells::empty(CellMemory::none(alloc), count, passes)?;
+        let cells = PlainCells::empty(Vec::new(alloc), count, passes)?;
         Ok((cells, made))
     }
 
@@ -64,11 +68,13 @@ impl<A: Allocator> PlainCells<A> {
         // What follows for the pass.
         ensures fits { IfOk result (λ r. IsFit r.0 r.1) }
     {
-        PlainCells::alone_within(CellMemory::none(alloc), count)
+        let cells = PlainCells::empty(Vec::new(alloc), count, 1)?;
+        Ok((cells, PlainPass::new(count, 1, 0)))
     }
 
-    /// The same in the memory that is given, whatever stands in it, with more where it is too little.
+    /// The same in the memory that is given, whatever stands in it, with more by the allocator where it is too little.
     pub fn alone_within(
+        alloc: A,
         memory: CellMemory<A>,
         count: u32,
     ) -> Result<(PlainCells<A>, PlainPass), AllocError>
@@ -78,7 +84,7 @@ impl<A: Allocator> PlainCells<A> {
         // What follows for the pass.
         ensures fits { IfOk result (λ r. IsFit r.0 r.1) }
     {
-        let cells = PlainCells::empty(memory, count, 1)?;
+        let cells = PlainCells::empty(memory.into_words(alloc), count, 1)?;
         Ok((cells, PlainPass::new(count, 1, 0)))
     }
 
@@ -98,7 +104,7 @@ impl<A: Allocator> PlainCells<A> {
         ensures never_unsettled { result ≢ Err SettleError.Unsettled }
     {
         let _ = passes;
-        Ok(Forwards::of(self.words, self.zeros))
+        Ok(Forwards::of(self.words))
     }
 
     /// As `settle`, with the pass that `alone` gave with these cells.
@@ -111,6 +117,6 @@ impl<A: Allocator> PlainCells<A> {
         ensures agree { Agree known_by (pass ∷ []) }
     {
         let _ = pass;
-        Forwards::of(self.words, self.zeros)
+        Forwards::of(self.words)
     }
 }

@@ -80,7 +80,7 @@ impl<A: Allocator> WordCells<A> {
     /// nothing to be cleared. They ask for more where it is too little.
     pub fn within(
         alloc: A,
-        mut memory: CellMemory<A>,
+        memory: CellMemory<A>,
         count: u32,
         passes: usize,
     ) -> Result<(WordCells<A>, Vec<WordPass, A>), AllocError>
@@ -93,15 +93,10 @@ impl<A: Allocator> WordCells<A> {
     {
         let plan = Plan { count, passes };
         let made = Vec::with_capacity(alloc.clone()?, passes)?;
-        let zeros = memory.take_zeros(alloc.clone()?, count as usize + 1)?;
+        let zeros = memory.into_zeros(alloc.clone()?, count as usize + 1)?;
         let (table, seat) = Table::of_words(alloc, zeros.as_slice(), &plan)?;
-        memory.zeros = Some(zeros);
         let made = deal(&table, seat, made, passes);
-        let cells = WordCells {
-            table,
-            plan,
-            memory,
-        };
+        let cells = WordCells { table, plan, zeros };
         Ok((cells, made))
     }
 
@@ -119,13 +114,9 @@ impl<A: Allocator> WordCells<A> {
         ensures agree { OnOk result (Agree (λ p. known_in p.known) passes.items) }
         ensures never_unsettled { result ≢ Err SettleError.Unsettled }
     {
-        let WordCells {
-            table,
-            plan,
-            memory,
-        } = self;
+        let WordCells { table, plan, zeros } = self;
         let seat = gather(&table, passes);
         let words = ClosedWords::of(table.close_with(seat), plan.count);
-        Ok(Forwards::of_closed(words, memory))
+        Ok(Forwards::of_closed(words, zeros))
     }
 }

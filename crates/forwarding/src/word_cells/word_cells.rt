@@ -5,7 +5,7 @@ ghost use Rattle.layout.specs.Place.{place_word, pointer_word};
 ghost use Rattle.forwarding.specs.Known.{known_in};
 ghost use Rattle.forwarding.specs.Learned.{Learns, RaceEnds, place_after};
 
-use crate::cell_memory::CellMemory;
+use crate::cell_memory::Zeros;
 use crate::cells::Outcome;
 use crate::word_cells::plays::{Look, Mind, Plan, Race, Rule};
 use atomic_table::{Seat, Table};
@@ -19,8 +19,8 @@ use std::marker::Model;
 pub struct WordCells<A: Allocator = Global> {
     pub(crate) table: Table<(), Mind, Plan, Rule, A>,
     pub(crate) plan: Plan,
-    /// What the table was laid out from, kept for cells to come.
-    pub(crate) memory: CellMemory<A>,
+    /// What the table was copied from, kept for cells to come.
+    pub(crate) zeros: Zeros<A>,
 }
 
 impl<A: Allocator> Model for WordCells<A> {
