@@ -68,10 +68,10 @@ module _ (v : SerialValue) (k : IsSerial v) (heap : HeapValue) (c : CollectionVa
   -- a slot is left for the same cause
   pub left_why : evacuates.IsUncopied heap c Gives v.workspace.worker → IsUncopied v
   left_why u =
-      let of : HasNumber v.heap v.collection u.name u.number = subst (λ h. HasNumber h v.collection u.name u.number) same_heap (subst (λ d. HasNumber heap d u.name u.number) same_collection u.of) in
+      let of : HasNumber v.heap v.collection u.leads.name u.leads.number = subst (λ h. HasNumber h v.collection u.leads.name u.leads.number) same_heap (subst (λ d. HasNumber heap d u.leads.name u.leads.number) same_collection u.leads.of) in
       record {
-        name = u.name;
-        slot = sym (slot_here v k heap c same_heap same_collection pass) ∙ u.slot;
-        empty = sym (k.cells.shown u.name u.number of) ∙ ap (cell_of (setting_in v) (Some u.name)) (sym u.given);
-        wants = subst (λ h. WantsMore (objects_of h) v.workspace.worker u.name) same_heap u.wants;
+        name = u.leads.name;
+        slot = sym (slot_here v k heap c same_heap same_collection pass) ∙ u.leads.slot;
+        empty = sym (k.cells.shown u.leads.name u.leads.number of) ∙ ap (cell_of (setting_in v) (Some u.leads.name)) (sym u.leads.given);
+        wants = subst (λ h. WantsMore (objects_of h) v.workspace.worker u.leads.name) same_heap u.wants;
       }

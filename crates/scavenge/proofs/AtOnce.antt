@@ -1,5 +1,5 @@
 -- A worker that looks and races at once.
-use Rattle.std.proofs.Common.{◌≡◌, ℕ, ◌≤◌, nat_le, true, false, cond, ⊎_elim, List, [], ◌∷◌, Option, Some, None, refl, sym, ap, subst, ◌∙◌}
+use Rattle.std.proofs.Common.{◌≡◌, ℕ, ◌≤◌, nat_le, true, false, cond, ⊎_elim, Option, Some, None, refl, sym, ap, subst, ◌∙◌}
 use Rattle.std.proofs.lemmas.Bool.Decides.{leb_tells}
 use Rattle.std.specs.Prelude.{MatchOption, IsSomeAnd, not, ◌&&◌}
 use Rattle.std.specs.Option.{option_map, option_map_or}
@@ -10,17 +10,15 @@ use Rattle.layout.specs.declared.place.Place.{Place}
 use Rattle.layout.specs.Object.{Raw, raw_size}
 use Rattle.block_pool.specs.BlockValue.{BlockValue, BeginsAt}
 use Rattle.block_pool.specs.ClaimsValue.{SeatValue}
-use Rattle.heap.specs.declared.found.Found.{Found}
-use Rattle.heap.specs.Found.{IsFound, IsFoundIn, HasNumber}
+use Rattle.heap.specs.Found.{IsFoundIn, HasNumber}
 use Rattle.heap.specs.StepPairs.{stands_at}
 use Rattle.heap.specs.HeapValue.{HeapValue}
 use Rattle.heap.specs.Words.{IsShownAs, LiesIn}
 use Rattle.heap.specs.CollectionValue.{CollectionValue}
 use Rattle.workers.specs.Block.{Block}
 use Rattle.workers.specs.Setting.{Setting, fits_in, is_collected, is_large_name, destination_of}
-use Rattle.workers.specs.Worker.{Worker, allocation_at, Proposal, Hand, Nothing, Open, Holding, HoldingLarge}
+use Rattle.workers.specs.Worker.{Worker, allocation_at}
 use Rattle.workers.specs.WorkerSteps.{propose_into, draws_for, current_slot, cell_wanted, collected_target, draw_at, after_look, look_slot, look_at, finish_slot}
-use Rattle.workers.specs.Ready.{CanWrite, CanFinish}
 use Rattle.scavenge.specs.Shown.{WorkspaceValue, has_place_for, with_copy_proposed}
 use Rattle.scavenge.specs.Slots.{seen, objects_of, Looks, IsTold, cell_of, seat_after}
 use Rattle.scavenge.specs.Evacuates.{ProposesThere}
@@ -30,20 +28,6 @@ use Rattle.scavenge.proofs.Placing.{Facts, facts, fits_alike, same_copy, no_draw
 pub there_of : (setting : Setting) (name : ℕ) (o : Option Block) → fits_in setting name o ≡ true → (block : Block) × (o ≡ Some block)
 there_of setting name None f = absurd (let q : false ≡ true = f in cc)
 there_of setting name (Some block) f = (block, refl)
-
--- a proposal leaves the slot as it is
-pub can_proposed : (w : Worker) (p : Option Proposal) → CanFinish w w.starts → CanFinish (record w { proposal = p }) w.starts
-can_proposed w p h = on_starts w.starts h
-  where
-    on_hand : (hand : Hand) → CanWrite w hand → CanWrite (record w { proposal = p }) hand
-    on_hand Nothing k = k
-    on_hand (Open d) k = k
-    on_hand (Holding b) k = k
-    on_hand (HoldingLarge n) k = k
-
-    on_starts : (xs : List ℕ) → CanFinish w xs → CanFinish (record w { proposal = p }) xs
-    on_starts [] k = on_hand w.hand k
-    on_starts (x ∷ xs) k = k
 
 -- what is older isn't collected
 old_object : (heap : HeapValue) (c : CollectionValue) (name : ℕ) (object : Object) → object_at heap.graph name ≡ Some object → (IsYoung heap.graph c.generation name → ⊥) → is_collected (seen heap c) name ≡ false
@@ -58,10 +42,6 @@ pub small_there : (heap : HeapValue) (c : CollectionValue) (name offset : ℕ) (
 small_there heap c name offset block at number f = ap (λ o. option_map_or (is_large heap.config.block_words) o false) f.there ∙ f.small
 
 -- what has no number isn't collected
-pub is_old : (heap : HeapValue) (c : CollectionValue) (name : ℕ) (found : Found) → found.number ≡ None → IsFound heap c name found → is_collected (seen heap c) name ≡ false
-is_old heap c name found is f =
-    old_object heap c name f.object f.there (subst (λ o. MatchOption o (IsYoung heap.graph c.generation name → ⊥) (λ n. IsYoung heap.graph c.generation name × HasNumber heap c name n)) is f.number)
-
 pub old_there : (heap : HeapValue) (c : CollectionValue) (name offset : ℕ) (block : BlockValue) (at : ℕ × ℕ) (found : Option ℕ) → found ≡ None → IsFoundIn heap c name offset block at found → is_collected (seen heap c) name ≡ false
 old_there heap c name offset block at found is f =
     old_object heap c name f.object f.there (subst (λ o. MatchOption o (IsYoung heap.graph c.generation name → ⊥) (λ n. IsYoung heap.graph c.generation name × HasNumber heap c name n)) is f.number)

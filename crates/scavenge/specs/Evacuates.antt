@@ -18,14 +18,18 @@ use Rattle.scavenge.specs.Told.{Races}
 abbrev pub WantsMore : Setting → Worker → ℕ → Type 0
 WantsMore setting w name = (is_large_name setting name ≡ true) ⊎ (draws_for setting w name ≡ true)
 
--- the current slot's object has no copy yet, and its copy can't go there
-pub record IsUncopied (heap : HeapValue) (c : CollectionValue) (gives : ℕ → Option Place → Type 0) (w : Worker) : Type 0 where
+-- the current slot leads to an object of which the cells show no copy
+pub record LeadsToUncopied (heap : HeapValue) (c : CollectionValue) (gives : ℕ → Option Place → Type 0) (w : Worker) : Type 0 where
   pub name : ℕ
   pub number : ℕ
   pub slot : current_slot (seen heap c) w ≡ Some (Some name)
   pub of : HasNumber heap c name number
   pub given : gives number None
-  pub wants : WantsMore (objects_of heap) w name
+
+-- and its copy can't go there
+pub record IsUncopied (heap : HeapValue) (c : CollectionValue) (gives : ℕ → Option Place → Type 0) (w : Worker) : Type 0 where
+  pub leads : LeadsToUncopied heap c gives w
+  pub wants : WantsMore (objects_of heap) w leads.name
 
 -- a copy of the object with this name was proposed, at the end of the block that stood there: none was drawn
 pub record ProposesThere (setting : Setting) (name : ℕ) (old new : WorkspaceValue) : Type 0 where

@@ -1,4 +1,4 @@
-//! The current slot's object is evacuated: looked at, and copied and raced for at once.
+//! The current slot's object is evacuated: looked at, raced for, and copied by the one that wins.
 ghost use Rattle.std.specs.Prelude.{◌≡◌, ◌≤◌, ◌≢◌, ◌⊎◌, Some, None, IsSome, IsSomeAnd};
 ghost use Rattle.std.specs.Option.{option_map};
 ghost use Rattle.model.specs.Graph.{object_at};

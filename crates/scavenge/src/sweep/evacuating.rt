@@ -1,4 +1,4 @@
-//! The current slot's object is evacuated in a sweep: looked at, and copied and raced for at once.
+//! The current slot's object is evacuated in a sweep: looked at, raced for, and copied by the one that wins.
 ghost use Rattle.std.specs.Prelude.{◌≡◌, ◌<◌, ◌≤◌, ◌≢◌, ◌⊎◌, [], Some, None, IsSome, IsSomeAnd, if◌then◌else◌};
 ghost use Rattle.std.specs.Option.{option_map};
 ghost use Rattle.model.specs.Graph.{IsClosed, object_at};
@@ -14,7 +14,7 @@ ghost use Rattle.workers.specs.WorkerSteps.{current_slot};
 ghost use Rattle.workers.specs.Ready.{IsUntouched};
 ghost use Rattle.scavenge.specs.Slots.{seen, objects_of, Looks};
 ghost use Rattle.scavenge.specs.MayStep.{IsOpenFor, MayLook, OnlyLooks};
-ghost use Rattle.scavenge.specs.Evacuates.{LooksAndRaces};
+ghost use Rattle.scavenge.specs.Evacuates.{LeadsToUncopied, LooksAndRaces};
 ghost use Rattle.scavenge.specs.Swept.{left_in_hand};
 ghost use Rattle.scavenge.specs.declared.evacuating.Evacuated.TheVariants.{Left, NoSlot, Looked, Raced};
 
@@ -62,6 +62,8 @@ impl<A: Allocator + Clone> Sweep<A> {
         ensures looks { OnlyLooks C.won C.known cells.old pass.old cells.new pass.new }
         ensures ends { (result ≡ Left) ⊎ (result ≡ Looked) }
         ensures left { result ≡ Left → self.new ≡ self.old }
+        ensures left_why { result ≡ Left →
+            LeadsToUncopied heap.now collection.now (C.look_gives cells.old) self.old.worker }
         ensures looked { result ≡ Looked → (seat : SeatValue) →
             Looks heap.now collection.now (C.look_gives cells.old) (C.known pass.old)
             (C.known pass.new) seat seat self.old self.new }
@@ -99,6 +101,8 @@ impl<A: Allocator + Clone> Sweep<A> {
         ensures keeps { KeepsPasses C.limit C.fits C.at_home C.apart cells.old pass.old cells.new pass.new }
         ensures looks { result ≢ Raced → OnlyLooks C.won C.known cells.old pass.old cells.new pass.new }
         ensures left { result ≡ Left → self.new ≡ self.old }
+        ensures left_why { result ≡ Left →
+            LeadsToUncopied heap.now collection.now (C.look_gives cells.old) self.old.worker }
         ensures none { result ≡ NoSlot → (self.new ≡ self.old) ×
             (current_slot (seen heap.now collection.now) self.old.worker ≡ None) ×
             (self.old.worker.hand ≢ Nothing) }

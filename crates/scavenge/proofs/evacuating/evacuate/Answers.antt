@@ -9,7 +9,7 @@ use Rattle.workers.specs.WorkerSteps.{current_slot}
 use Rattle.scavenge.specs.Shown.{WorkspaceValue, name_of, with_copy_proposed}
 use Rattle.scavenge.specs.Told.{Tells}
 use Rattle.scavenge.specs.Slots.{seen, objects_of, Looks}
-use Rattle.scavenge.specs.Evacuates.{ProposesThere}
+use Rattle.scavenge.specs.Evacuates.{WantsMore, ProposesThere}
 use Rattle.scavenge.proofs.Empty.{numbered_in, collected, looks_none}
 use Rattle.scavenge.proofs.AtOnce.{lies, lies_there, small_there, old_there, looks_old, proposes_there, wants_block}
 use Rattle.scavenge.proofs.evacuating.evacuate.Goals as goal
@@ -77,11 +77,13 @@ returns-in-Ok-false-clause-left g c = λ _.
     let full = c.in-Ok-false.ensures.fits c.in-Ok-false.field-0 refl l.0 l.1.0 ∙ none in (
       (c.in-Ok-false.ensures.none (ap Ok none)).0,
       record {
-        name = word;
-        number = c.in-Some-number.number;
-        slot = current;
-        of = record { in_range = found.1.in_range; is = found.1.is };
-        given = c.in_default-look.ensures.exact;
+        leads = record {
+          name = word;
+          number = c.in-Some-number.number;
+          slot = current;
+          of = record { in_range = found.1.in_range; is = found.1.is };
+          given = c.in_default-look.ensures.exact;
+        };
         wants = inr (wants_block c.args.heap.now c.args.workspace.now word l.0 c.requires.open.config l.1.1 small full);
       },
     )
@@ -103,3 +105,23 @@ returns-in-Err-clause-looked g c = λ is seat.
     let looked : Looks c.args.heap.now c.args.collection.now (g.C.Cells.look_gives c.args.cells.now) (g.C.Cells.known c.args.pass.now) (g.C.Cells.known c.look.new.pass) seat seat c.args.workspace.now c.propose_alone.new.workspace =
     looks_none c.args.heap.now c.args.collection.now (g.C.Cells.look_gives c.args.cells.now) (g.C.Cells.known c.args.pass.now) (g.C.Cells.known c.look.new.pass) seat seat c.args.workspace.now c.propose_alone.new.workspace word current young tells (p.proposes seat) in
     subst (λ known. Looks c.args.heap.now c.args.collection.now (g.C.Cells.look_gives c.args.cells.now) (g.C.Cells.known c.args.pass.now) (g.C.Cells.known known) seat seat c.args.workspace.now c.propose_alone.new.workspace) (sym e.2) looked
+
+pub returns-in-Err-clause-left : goal.returns-in-Err-clause-left
+returns-in-Err-clause-left g c = λ is.
+    let word = small_word c.in-Small.at.block c.in-Small.at.offset in
+    let found = numbered_in c.args.heap.now c.args.collection.now word c.in-Small.at.offset c.find_small-number.result.block.now (step_pair c.find_small-number.result.at) c.find_small-number.result.number c.in-Some-number.number c.in-Some-number.is c.find_small-number.ensures in
+    let current : current_slot (seen c.args.heap.now c.args.collection.now) c.args.workspace.now.worker ≡ Some (Some word) =
+    sym c.slot.ensures ∙ ap (option_map (option_map place_word)) c.in-Some.is ∙ ap (λ t. Some (option_map place_word t)) c.in-Some-target.is ∙ ap (λ p. Some (Some (place_word p))) c.in-Small.is in
+    let e = c.in-Err.ensures.err in (
+      c.propose_alone.ensures.none is ∙ e.0,
+      record {
+        leads = record {
+          name = word;
+          number = c.in-Some-number.number;
+          slot = current;
+          of = record { in_range = found.1.in_range; is = found.1.is };
+          given = c.in_default-look.ensures.exact;
+        };
+        wants = subst (λ (w : WorkspaceValue). WantsMore (objects_of c.args.heap.now) w.worker word) e.0 (c.propose_alone.ensures.wants is);
+      },
+    )
