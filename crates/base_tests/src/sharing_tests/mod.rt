@@ -4,6 +4,8 @@ mod box_cell_tests;
 #[cfg(test)]
 mod box_thread_tests;
 #[cfg(test)]
+mod cell_memory_tests;
+#[cfg(test)]
 mod cell_tests;
 #[cfg(test)]
 mod claim_tests;
