@@ -90,3 +90,6 @@ returns-in_err-deliveries-clause-once g c = IfOk-from_err c.from_residual-in_err
 
 pub returns-in_err-deliveries-clause-reports : goal.returns-in_err-deliveries-clause-reports
 returns-in_err-deliveries-clause-reports g c = IfOk-from_err c.from_residual-in_err-deliveries.result _ c.from_residual-in_err-deliveries.ensures.0
+
+pub returns-in_err-deliveries-clause-reached : goal.returns-in_err-deliveries-clause-reached
+returns-in_err-deliveries-clause-reached g c = IfOk-from_err c.from_residual-in_err-deliveries.result _ c.from_residual-in_err-deliveries.ensures.0
