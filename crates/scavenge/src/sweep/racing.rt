@@ -66,8 +66,6 @@ impl<A: Allocator + Clone> Sweep<A> {
         ensures proposal { self.new.worker.proposal ≡ None }
     {
         let _ = heap;
-        let offset = at.offset as usize;
-        let size = from.size_from(offset);
         let goes_here = goes_into(
             &mut self.going,
             self.config,
@@ -75,7 +73,12 @@ impl<A: Allocator + Clone> Sweep<A> {
             self.destination,
             self.is_only,
         );
-        if !goes_here || !self.into.fits(size) {
+        if !goes_here {
+            return false;
+        }
+        let offset = at.offset as usize;
+        let size = from.size_from(offset);
+        if !self.into.fits(size) {
             return false;
         }
         let place = place_behind(&self.into);
