@@ -6,7 +6,7 @@ use native.Mathlib.Decide.{ℕ_discrete}
 use mathlib.Core.Option.{none}
 use Rattle.atomic_table.specs.Table.{step}
 use Rattle.layout.specs.declared.place.Place.{Place}
-use Rattle.layout.specs.Place.{place_word, pointer_word}
+use Rattle.layout.specs.Place.{IsPointer, place_word, pointer_word}
 use Rattle.layout.proofs.Pointers.{place_word-one_to_one}
 use Rattle.forwarding.specs.declared.word_cells.plays.Mind.{Mind}
 use Rattle.forwarding.specs.declared.cells.outcome.Outcome.{Outcome}
@@ -35,6 +35,12 @@ module _ (name : ℕ) (m m' : Sat) (found : ℕ) (r : Option Place) (looked : Lo
 
   pub looked_won : m'.0.won ≡ m.0.won
   looked_won = won_after name seen.0 m.0 m'.0 (ap (λ (x : Sat). x.0) seen.1)
+
+-- the word that a race found is a pointer's
+pub race_found : (slots name new : ℕ) (m m' : Sat) (found : ℕ) → Raced (step slots name 0 new none) m found m' → IsPointer found
+race_found slots name new m m' found raced = dite (ℕ_discrete found 0)
+    (λ hit. (None, sym hit))
+    (λ miss. let t : RacedBy false (step slots name 0 new none) m found m' = subst (λ (b : Bool). RacedBy b (step slots name 0 new none) m found m') (ne_eqb found 0 miss) raced in (Some t.0, t.1))
 
 -- a race is won where the word was 0, and else lost to the place that the word shows
 module _ (slots name new : ℕ) (m m' : Sat) (found : ℕ) (place : Place) (end : Outcome) (raced : Raced (step slots name 0 new none) m found m') (is : new ≡ place_word place)

@@ -1,7 +1,7 @@
 //! Word cells: one word for each name, in one table.
-ghost use Rattle.std.specs.Prelude.{◌≡◌, ℕ, ◌<◌, [], Option, Some};
+ghost use Rattle.std.specs.Prelude.{◌≡◌, ℕ, ◌<◌, [], Some};
 ghost use Rattle.layout.specs.declared.place.Place.{Place as At};
-ghost use Rattle.layout.specs.Place.{place_word, pointer_word};
+ghost use Rattle.layout.specs.Place.{IsPointer, place_word};
 ghost use Rattle.forwarding.specs.Known.{known_in};
 ghost use Rattle.forwarding.specs.Learned.{Learns, RaceEnds, place_after};
 
@@ -9,7 +9,7 @@ use crate::cell_memory::Zeros;
 use crate::cells::Outcome;
 use crate::word_cells::plays::{Look, Mind, Plan, Race, Rule};
 use atomic_table::{Seat, Table};
-use layout::Place;
+use layout::{Place, pointer_of};
 use std::alloc::{Allocator, Global};
 use std::marker::Model;
 
@@ -61,27 +61,30 @@ impl WordPass {
     }
 }
 
-/// The place that the word of a cell shows.
-#[inline(always)]
-pub(crate) fn place_in(word: u64) -> Option<Place>
-    ensures { (pointer : Option At) → pointer_word pointer ≡ word → result ≡ pointer }
+/// How a race ended whose exchange found the word of this place. Few races are lost: a loop that races has no registers to give
+/// for one that is.
+#[cold]
+fn lost_to(found: u64) -> Outcome
+    requires { IsPointer found }
+    ensures { (first : At) → place_word first ≡ found → result ≡ Outcome.Lost first }
 {
-    Place::from_word(word).flatten()
+    match pointer_of(found) {
+        None => Outcome::Won,
+        Some(first) => Outcome::Lost(first),
+    }
 }
 
 /// How a race ended whose exchange found that word.
 #[inline(always)]
 fn outcome_of(found: u64) -> Outcome
+    requires { IsPointer found }
     ensures won { found ≡ 0 → result ≡ Outcome.Won }
     ensures lost { (first : At) → place_word first ≡ found → result ≡ Outcome.Lost first }
 {
     if found == 0 {
         return Outcome::Won;
     }
-    match place_in(found) {
-        None => Outcome::Won,
-        Some(first) => Outcome::Lost(first),
-    }
+    lost_to(found)
 }
 
 impl<A: Allocator> WordCells<A> {
@@ -105,7 +108,7 @@ impl<A: Allocator> WordCells<A> {
             .table
             .shared
             .load::<Look>(&mut pass.seat, name as usize);
-        place_in(word)
+        pointer_of(word)
     }
 
     /// Exchanges the name's word from 0 to that of the place. Won: the pass has won the pair; Lost: it knows the place
