@@ -220,6 +220,58 @@ fn a_heap_that_shrank_gives_memory_back(rt: HostRuntime) -> Result<(), Fail> {
     Ok(())
 }
 
+/// Objects of no more than a header, as many as asked for, with a root each.
+fn bare_objects<'a>(
+    alloc: Global,
+    refusing: &'a Refusing<Global>,
+    heap: &mut Counting<'a>,
+    count: u32,
+) -> Result<Vec<RootId>, Fail> {
+    let mut roots = Vec::new(alloc);
+    for _object in 0..count {
+        roots.push(allocated(refusing, heap, 0, 0)?)?;
+    }
+    Ok(roots)
+}
+
+/// Asserts that memory of cells that takes more than the blocks in use is given back, and asked for anew by one request, and that
+/// other is used again. The cells of 32,000 objects take 16,000 words, and the blocks of 14,400 and of the nursery 14,656. Of a
+/// worker's lists nearly half is used: they are kept.
+fn assert_cells_given_back<'a>(
+    rt: &impl Abort,
+    alloc: Global,
+    refusing: &'a Refusing<Global>,
+    heap: &mut Counting<'a>,
+) -> Result<(), Fail> {
+    let roots = bare_objects(alloc, refusing, heap, 32_000)?;
+    let _all = asked_with_lists(refusing, heap, 0)?;
+    release_all(heap, &roots.as_slice()[14_400..])?;
+    let _shrank = asked_with_lists(refusing, heap, 0)?;
+    let anew = asked_with_lists(refusing, heap, 0)?;
+    let again = asked_with_lists(refusing, heap, 0)?;
+    assert_eq!(rt; anew, again.saturating_add(1));
+    assert_eq!(rt; asked_with_lists(refusing, heap, 0)?, again);
+    Ok(())
+}
+
+/// The same of a new heap.
+fn assert_cells_given_back_by_new(
+    rt: &impl Abort,
+    alloc: Global,
+    refusing: &Refusing<Global>,
+) -> Result<(), Fail> {
+    let mut heap = heap_of(refusing, 16, 16, 5_000)?;
+    assert_cells_given_back(rt, alloc, refusing, &mut heap)
+}
+
+#[test]
+fn cells_of_a_heap_that_shrank_are_given_back(rt: HostRuntime) -> Result<(), Fail> {
+    let refusing = Refusing::new(rt.alloc(), NONE);
+    assert_cells_given_back_by_new(&rt, rt.alloc(), &refusing)?;
+    assert_eq!(rt; refusing.asked(), refusing.returned());
+    Ok(())
+}
+
 /// Objects of one pointer, as many as asked for, with a root each.
 fn with_a_pointer<'a>(
     alloc: Global,

@@ -1,7 +1,8 @@
 //! How a sweep begins and ends.
-ghost use Rattle.std.specs.Prelude.{◌≡◌, ◌<◌, ◌≤◌, None, length, IsSome, IfOk, IfErr};
+ghost use Rattle.std.specs.Prelude.{◌≡◌, ◌<◌, ◌≤◌, ℕ, true, None, length, IsSome, IfOk, IfErr};
 ghost use Rattle.block_pool.specs.BlockValue.{BlockValue};
 ghost use Rattle.workers.specs.Joined.{OnSome};
+ghost use Rattle.scavenge.specs.Cursors.{AllGo};
 ghost use Rattle.scavenge.specs.Shown.{held_in};
 
 use crate::sweep::cursor::cursor_of;
@@ -122,6 +123,14 @@ impl<A: Allocator> Workspace<A> {
 }
 
 impl<A: Allocator> Sweep<A> {
+    /// Whether it is known that small objects go to one destination, wherever they stand.
+    #[inline(always)]
+    pub fn goes_one_way(&self) -> bool
+        ensures { result ≡ true → (d : ℕ) × AllGo self.now.config.shape d }
+    {
+        self.is_only
+    }
+
     /// The workspace after the sweep.
     #[inline(always)]
     pub fn closed(self) -> Workspace<A>

@@ -1,9 +1,10 @@
 //! A worker among several, opened for a sweep over the block in hand.
-ghost use Rattle.std.specs.Prelude.{◌≡◌, ◌≢◌, ◌<◌, ◌⊎◌, true, false, None, IfOk, IfErr};
+ghost use Rattle.std.specs.Prelude.{◌≡◌, ◌≢◌, ◌<◌, ◌⊎◌, ℕ, true, false, None, IfOk, IfErr};
 ghost use Rattle.workers.specs.Worker.{Nothing};
 ghost use Rattle.workers.specs.WorkerSteps.{CanScan, current_slot};
 ghost use Rattle.workers.specs.WorkerRun.{Scanned};
 ghost use Rattle.scavenge.specs.declared.evacuating.Evacuated.TheVariants.{Left, NoSlot, Looked, Raced};
+ghost use Rattle.scavenge.specs.Cursors.{AllGo};
 ghost use Rattle.scavenge.specs.Swept.{left_in_hand};
 ghost use Rattle.workers_in_threads.specs.SharingValue.{setting_in, worker_of};
 ghost use Rattle.workers_in_threads.specs.Sharing.{IsSame, Acts};
@@ -131,6 +132,14 @@ impl<'a, C: Cells, A: Allocator> SharingSweep<'a, C, A> {
             seat,
             workspace: sweep.closed(),
         }
+    }
+
+    /// Whether it is known that small objects go to one destination, wherever they stand.
+    #[inline(always)]
+    pub fn goes_one_way(&self) -> bool
+        ensures { result ≡ true → (d : ℕ) × AllGo self.now.workspace.config.shape d }
+    {
+        self.sweep.goes_one_way()
     }
 
     /// The current object is scanned, where another is unscanned behind it and there is room to note it: tells whether it is.

@@ -26,6 +26,25 @@ impl<'a, C: Cells, A: Allocator + Clone> SharingSweep<'a, C, A> {
             Evacuated::Looked | Evacuated::Raced => true,
         }
     }
+
+    /// The next steps, as far as the sweep goes.
+    #[inline(always)]
+    fn sweep_on(&mut self)
+        requires proposal { (worker_of self.old).proposal ≡ None }
+        ensures { IsSame C.at_home self.old self.new }
+    {
+        while self.sweep_once() {}
+    }
+
+    /// The same, where copies go one way. Each turn asks for that, so that a compiler knows it in the whole loop, which then holds
+    /// nothing of where else a copy may go: some 15 instructions an object less.
+    #[inline(always)]
+    fn sweep_one_way(&mut self)
+        requires proposal { (worker_of self.old).proposal ≡ None }
+        ensures { IsSame C.at_home self.old self.new }
+    {
+        while self.goes_one_way() && self.sweep_once() {}
+    }
 }
 
 impl<'a, C: Cells, A: Allocator + Clone> SharingWorker<'a, C, A> {
@@ -40,7 +59,11 @@ impl<'a, C: Cells, A: Allocator + Clone> SharingWorker<'a, C, A> {
             Ok(sweep) => sweep,
             Err(worker) => return worker,
         };
-        while sweep.sweep_once() {}
+        if sweep.goes_one_way() {
+            sweep.sweep_one_way();
+        } else {
+            sweep.sweep_on();
+        }
         sweep.closed()
     }
 }
