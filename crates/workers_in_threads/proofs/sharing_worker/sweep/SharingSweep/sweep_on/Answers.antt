@@ -12,4 +12,4 @@ pub loop-preserved : goal.loop-preserved
 loop-preserved g c = record { same = same_both g.C.Cells.fits g.C.Cells.limit g.C.Cells.known g.C.Cells.won g.C.Cells.at_home _ _ _ c.loop.invariant.same c.sweep_once.ensures.same; proposal = c.sweep_once.ensures.proposal }
 
 pub returns : goal.returns
-returns g c = ?
+returns g c = same_both g.C.Cells.fits g.C.Cells.limit g.C.Cells.known g.C.Cells.won g.C.Cells.at_home _ _ _ c.loop.invariant.same c.sweep_once.ensures.same

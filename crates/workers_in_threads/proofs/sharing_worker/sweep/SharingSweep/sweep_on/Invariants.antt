@@ -6,7 +6,7 @@ use Rattle.workers_in_threads.proofs.sharing_worker.sweep.SharingSweep.sweep_on.
 
 abbrev pub invariant-loop : goal.invariant-loop
 invariant-loop g l = record {
-  same : IsSame g.C.Cells.at_home l.fn.self.old l.self;
+  same : IsSame g.C.Cells.at_home l.fn.self l.self;
   proposal : (worker_of l.self).proposal ≡ None;
 }
 
