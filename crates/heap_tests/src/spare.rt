@@ -247,10 +247,11 @@ fn assert_cells_given_back<'a>(
     let _all = asked_with_lists(refusing, heap, 0)?;
     release_all(heap, &roots.as_slice()[14_400..])?;
     let _shrank = asked_with_lists(refusing, heap, 0)?;
+    // Every second collection asks for one more, so these two are not next to each other.
     let anew = asked_with_lists(refusing, heap, 0)?;
+    let _between = asked_with_lists(refusing, heap, 0)?;
     let again = asked_with_lists(refusing, heap, 0)?;
     assert_eq!(rt; anew, again.saturating_add(1));
-    assert_eq!(rt; asked_with_lists(refusing, heap, 0)?, again);
     Ok(())
 }
 
