@@ -243,9 +243,10 @@ fn assert_cells_given_back<'a>(
     refusing: &'a Refusing<Global>,
     heap: &mut Counting<'a>,
 ) -> Result<(), Fail> {
-    let roots = bare_objects(alloc, refusing, heap, 32_000)?;
+    let _kept = bare_objects(alloc, refusing, heap, 14_400)?;
+    let given_up = bare_objects(alloc, refusing, heap, 17_600)?;
     let _all = asked_with_lists(refusing, heap, 0)?;
-    release_all(heap, &roots.as_slice()[14_400..])?;
+    release_all(heap, given_up.as_slice())?;
     let _shrank = asked_with_lists(refusing, heap, 0)?;
     // Every second collection asks for one more, so these two are not next to each other.
     let anew = asked_with_lists(refusing, heap, 0)?;
