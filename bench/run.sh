@@ -111,7 +111,8 @@ copies_of_all() {
 }
 
 # last_rate PROCESSORS PROGRAM NODES COLLECTIONS: millions of objects a second in the last collections of a trace, by when the
-# lines of these are written
+# lines of these are written. It counts from the line of the collection before them, so the trace has one more behind the lines
+# that make objects and drop names
 last_rate() {
   taskset -c "$1" bash -c "$2 \"\$1\"" live "$work/all" | while read -r line; do echo "$EPOCHREALTIME $line"; done | awk -v nodes="$3" -v collections="$4" '
     $2 == "collected" { ends[++count] = $1 }
@@ -124,7 +125,7 @@ ghc_rate() { taskset -c "$1" "$ghc" "$2" "$3" "$4" +RTS "-N$5" | awk '{ printf "
 # live NODES COLLECTIONS: the best of five runs of each program, in turn
 live() {
   local rates
-  "$here/traces.sh" tree "$1" "$2" > "$work/all"
+  "$here/traces.sh" tree "$1" $(($2 + 1)) > "$work/all"
   rates=$(in_turns most "last_rate 0 gctrace $1 $2" "${plain:+last_rate 0 beside $1 $2}" "${ghc:+ghc_rate 0 tree $1 $2 1}")
   echo $rates | awk -v nodes="$1" -v plain="$plain" -v ghc="$ghc" '{
     printf "live tree of %d nodes: %.2f million objects a second", nodes, $1
@@ -142,7 +143,7 @@ by() { threads=$1 cells=$2 last_rate "$all" threaded "$4" "$5"; }
 by_threads() {
   local rates own=() theirs=() n
   all=0-$(($(nproc --all) - 1))
-  "$here/traces.sh" "$1" "$2" "$3" > "$work/all"
+  "$here/traces.sh" "$1" "$2" $(($3 + 1)) > "$work/all"
   for n in '1 word' '2 word' '4 word' '4 box'; do own+=("by $n $1 $2 $3"); done
   for n in ${ghc:+1 2 4}; do theirs+=("ghc_rate $all $1 $2 $3 $n"); done
   rates=$(in_turns most "${own[@]}" "${theirs[@]}")

@@ -171,18 +171,39 @@ fn long_list<'a>(
     Ok((first, tail))
 }
 
-/// Collects all, and tells how many blocks are spare then, and how many requests are not returned.
-fn kept_after<'a>(
-    refusing: &'a Refusing<Global>,
-    heap: &mut Counting<'a>,
-) -> Result<(usize, u64), Fail> {
-    let report = collect_one(refusing, heap, 1)?;
-    heap.reuse(report);
-    let held = refusing.asked().saturating_sub(refusing.returned());
-    Ok((heap.spare_blocks(), held))
+/// What a heap has after a collection: how many blocks are spare, and how many requests and bytes are not returned.
+struct Kept {
+    spare: usize,
+    requests: u64,
+    bytes: u64,
 }
 
-/// Asserts what a heap of 2,000,000 objects keeps, and what it keeps when it shrank to 1,000.
+/// Collects all, and tells what the heap has then.
+fn kept_after<'a>(refusing: &'a Refusing<Global>, heap: &mut Counting<'a>) -> Result<Kept, Fail> {
+    let report = collect_one(refusing, heap, 1)?;
+    heap.reuse(report);
+    Ok(Kept {
+        spare: heap.spare_blocks(),
+        requests: refusing.asked().saturating_sub(refusing.returned()),
+        bytes: refusing.bytes_held(),
+    })
+}
+
+/// Asserts that so many bytes at most are kept for the next collection, and that they are given back with what is spare.
+fn assert_spare_bytes<'a>(
+    rt: &impl Abort,
+    refusing: &'a Refusing<Global>,
+    heap: &mut Counting<'a>,
+    most: u64,
+) {
+    let held = refusing.bytes_held();
+    drop(heap.take_spare());
+    let spare = held.saturating_sub(refusing.bytes_held());
+    assert!(rt; spare > 0 && spare <= most, "{spare}");
+}
+
+/// Asserts what a heap of 2,000,000 objects keeps, and what it keeps when it shrank to 1,000. A block has 4,096 bytes for its
+/// words, and 1,024 for the offsets of its objects.
 fn assert_shrinks<'a>(
     rt: &impl Abort,
     refusing: &'a Refusing<Global>,
@@ -191,18 +212,23 @@ fn assert_shrinks<'a>(
     let (first, _tail) = long_list(refusing, heap)?;
     let _moved = kept_after(refusing, heap)?;
     // 128 objects fill a block: the copies take 15,625, and as many were given up. Two requests make each.
-    let (spare, held) = kept_after(refusing, heap)?;
-    assert!(rt; spare >= 15_625 && spare <= 15_625 + 64);
-    assert!(rt; held >= 62_500);
+    let full = kept_after(refusing, heap)?;
+    assert!(rt; full.spare >= 15_625 && full.spare <= 15_625 + 64);
+    assert!(rt; full.requests >= 62_500);
+    assert!(rt; full.bytes >= 31_250 * 5_120);
     // The nursery's 64 are in use then, and eight of copies; a quarter more are kept.
     heap.release(first)?;
-    let (spare, held) = kept_after(refusing, heap)?;
-    assert_eq!(rt; spare, 90);
-    assert!(rt; held < 1_000);
+    let shrunk = kept_after(refusing, heap)?;
+    assert_eq!(rt; shrunk.spare, 90);
+    assert!(rt; shrunk.requests < 1_000);
+    assert!(rt; shrunk.bytes <= full.bytes / 20);
     // The lists had room for 2,000,000, so they were given back, and each grows twice or more. Those of 1,000 are kept.
     let anew = asked_with_lists(refusing, heap, 1)?;
     let again = asked_with_lists(refusing, heap, 1)?;
     assert!(rt; again.saturating_add(4) <= anew);
+    // Beside the blocks, the cells of 1,000 objects are kept, and the lists, with room for no more than three times 2,000 entries
+    // and 1,024.
+    assert_spare_bytes(rt, refusing, heap, 90 * 5_120 + 64_000);
     Ok(())
 }
 

@@ -88,9 +88,9 @@ module _ (Z : Al) {M : Type 1} {𝓤 : Ura M} (𝓛 : Logic 𝓤) (at_mem : Memo
         enter ! 𝓣.C 𝓣.Λ (here Z) vs _ $ alloc_all ! (λ l. pass_all ! refl ((tt, tt), ((tt, record { fits = fn }), ((tt, record { fits = fa }), tt))) $
         let En : Env 𝓤 H = env (here Z).locals l in
         sets ! (addr ! (through ! refl (fld ! refl (stop !)))) refl (tt, tt) $
-        use2 𝓛 (raw ((Asks 𝓛 at_mem run).pre (at_asks 𝓛 at_mem run κ₁ q₁ c r.now.requests))) (Asks-goes 𝓛 at_mem run κ₁ q₁ c r.now.requests) $
-        calls_at ! (fm_of 𝓤 H 𝓛.laws 𝓣) (Asks 𝓛 at_mem run) kn (at_asks 𝓛 at_mem run κ₁ q₁ c r.now.requests) (and_then ! (get ! refl) (no_more !)) (λ u.
-        use1 𝓛 (later (some (λ (y : Bool). given (u ≡ vbool y) (‵ (flft κ₁ q₁))))) (Asks-gives 𝓛 at_mem run κ₁ q₁ c r.now.requests u) $ await ! tt $ pick ! (λ b. learn ! (λ eu. lands_as ! eu refl (tt, tt) $
+        use2 𝓛 (raw ((Asks 𝓛 at_mem run).pre (at_asks 𝓛 at_mem run κ₁ q₁ c r.now.requests n))) (Asks-goes 𝓛 at_mem run κ₁ q₁ c r.now.requests n fn) $
+        calls_at ! (fm_of 𝓤 H 𝓛.laws 𝓣) (Asks 𝓛 at_mem run) kn (at_asks 𝓛 at_mem run κ₁ q₁ c r.now.requests n) (and_then ! (get ! refl) (and_then ! (get ! refl) (no_more !))) (λ u.
+        use1 𝓛 (later (some (λ (y : Bool). given (u ≡ vbool y) (‵ (flft κ₁ q₁))))) (Asks-gives 𝓛 at_mem run κ₁ q₁ c r.now.requests n u) $ await ! tt $ pick ! (λ b. learn ! (λ eu. lands_as ! eu refl (tt, tt) $
         first ! $ branches ! (get ! refl)
         (λ t. sets ! (agg ! (no_more !)) refl (tt, tt) $
         sets ! (agg ! (and_then ! (lit ! tt) (and_then ! (get ! refl) (no_more !)))) refl (Answer-typed false 0 0) $

@@ -100,9 +100,9 @@ module _ (Z : Al) {M : Type 1} {𝓤 : Ura M} (𝓛 : Logic 𝓤) (at_mem : Memo
         split ! $ split ! $ move ! (2 ∷ []) $ fsplit ! $ fsplit ! $ move ! (1 ∷ []) $ unhide ! $ fsplit ! $ fsplit ! $ use1 𝓛 (‵ (seen Z κ₁ p h)) (id⊢ 𝓤 _) $ move ! (1 ∷ []) $ fsplit ! $ keep ! (0 ∷ 6 ∷ 2 ∷ 7 ∷ 8 ∷ []) $
         enter ! 𝓣.C 𝓣.Λ (here Z) (vs x) _ $ alloc_all ! (λ l. pass_all ! refl ((tt, tt), ((tt, tt), ((tt, record { fits = fn }), ((tt, record { fits = fa }), tt)))) $
         sets ! (addr ! (through ! refl (fld ! refl (stop !)))) refl (tt, tt) $
-        use2 𝓛 (raw ((Tick 𝓛 at_mem run).pre (at_tick 𝓛 at_mem run κ₁ q₁ c r.now.requests))) (Tick-goes 𝓛 at_mem run κ₁ q₁ c r.now.requests) $
-        calls_at ! (fm_of 𝓤 H 𝓛.laws 𝓣) (Tick 𝓛 at_mem run) kn (at_tick 𝓛 at_mem run κ₁ q₁ c r.now.requests) (and_then ! (get ! refl) (no_more !)) (λ u.
-        use1 𝓛 (later (given (u ≡ vunit) (‵ (flft κ₁ q₁)))) (Tick-gives 𝓛 at_mem run κ₁ q₁ c r.now.requests u) $ await ! tt $ learn ! (λ eu. lands_as ! eu refl (tt, tt) $ move ! (1 ∷ []) $
+        use2 𝓛 (raw ((Tick 𝓛 at_mem run).pre (at_tick 𝓛 at_mem run κ₁ q₁ c r.now.requests n))) (Tick-goes 𝓛 at_mem run κ₁ q₁ c r.now.requests n fn) $
+        calls_at ! (fm_of 𝓤 H 𝓛.laws 𝓣) (Tick 𝓛 at_mem run) kn (at_tick 𝓛 at_mem run κ₁ q₁ c r.now.requests n) (and_then ! (get ! refl) (and_then ! (get ! refl) (no_more !))) (λ u.
+        use1 𝓛 (later (given (u ≡ vunit) (‵ (flft κ₁ q₁)))) (Tick-gives 𝓛 at_mem run κ₁ q₁ c r.now.requests n u) $ await ! tt $ learn ! (λ eu. lands_as ! eu refl (tt, tt) $ move ! (1 ∷ []) $
         sets ! (addr ! (through ! refl (fld ! refl (stop !)))) refl (tt, tt) $
         join ! $ move ! (2 ∷ []) $ fsplit ! $ move ! (1 ∷ 2 ∷ []) $ join ! $ move ! (1 ∷ 0 ∷ []) $ join ! $
         use1 𝓛 (raw ((Gives Z 𝓛 at_mem run).pre y)) (Gives-goes Z 𝓛 at_mem run κ₁ q₁ p h (⊑_trans κ₁ κ₂ Z.row.lives inn le) b o n a τ said.0 said.1 fn fa) $
