@@ -172,6 +172,7 @@ fn long_list<'a>(
 }
 
 /// What a heap has after a collection: how many blocks are spare, and how many requests and bytes are not returned.
+#[derive(Clone, Copy)]
 struct Kept {
     spare: usize,
     requests: u64,
@@ -274,7 +275,8 @@ fn assert_cells_given_back<'a>(
     let _all = asked_with_lists(refusing, heap, 0)?;
     release_all(heap, given_up.as_slice())?;
     let _shrank = asked_with_lists(refusing, heap, 0)?;
-    // Every second collection asks for one more, so these two are not next to each other.
+    // Every second collection asks for one more, so these two are not next to each other: what tells the first number of each block
+    // (`bases` of `nursery`) grows from the number of the first one that is collected, and copies take low and high ones in turn.
     let anew = asked_with_lists(refusing, heap, 0)?;
     let _between = asked_with_lists(refusing, heap, 0)?;
     let again = asked_with_lists(refusing, heap, 0)?;
