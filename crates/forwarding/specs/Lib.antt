@@ -22,3 +22,6 @@ pub mod Gathered
 pub mod BoxSettled
 -- Passes of shared cells, by the number of the worker.
 pub mod Passes
+-- What contracts see of the memory that cells leave.
+pub mod CellMemoryValue
+pub mod MemoryLists

@@ -1,5 +1,5 @@
 -- Word cells and their passes, as contracts see them.
-use Rattle.std.specs.Prelude.{◌≡◌, ℕ, ◌+◌, ◌<◌, []}
+use Rattle.std.specs.Prelude.{◌≡◌, ℕ, ◌+◌, ◌<◌, ◌≤◌, []}
 use Rattle.atomic_table.specs.Seated.{TableId}
 use Rattle.atomic_table.specs.Table.{Me}
 use Rattle.forwarding.specs.Settled.{Pairs}
@@ -22,12 +22,13 @@ pub record WordPassValue : Type 0 where
 abbrev pub fresh_pass : TableId → WordPassValue
 fresh_pass id = record { id = id; known = []; won = [] }
 
--- what holds of the table of cells
-pub record AreCells (id : TableId) (key plan : Plan) : Type 0 where
+-- what holds of the table of cells, and of the room for zeros that it keeps
+pub record AreCells (id : TableId) (key plan : Plan) (room : ℕ) : Type 0 where
   pub keyed : key ≡ plan
   pub wide : id.words ≡ plan.count + 1
   pub no_slots : id.slots ≡ 0
   pub some : 0 < plan.passes
+  pub roomy : plan.count ≤ room
 
 -- what holds of a pass's seat: it has one part and no slot
 pub record IsOnePass (me : Me (Unit {0}) Mind) : Type 0 where

@@ -20,3 +20,5 @@ pub mod ReportView
 pub mod Remembered
 pub mod CollectedHeap
 pub mod SettledValue
+-- What contracts see of the memory that a heap keeps.
+pub mod SpareValue

@@ -1,7 +1,7 @@
 //! What settling answers.
-ghost use Rattle.std.specs.Prelude.{◌≡◌, ◌<◌, Some, None, length, map, slice_get, slice_index_or, slice_set};
+ghost use Rattle.std.specs.Prelude.{◌≡◌, ◌<◌, ◌≤◌, ◌+◌, Some, None, length, map, slice_get, slice_index_or, slice_set};
 ghost use Rattle.forwarding.specs.Forwards.{shown_place};
-ghost use Rattle.forwarding.specs.ShownWords.{words_in};
+ghost use Rattle.forwarding.specs.ShownWords.{words_in, IsRoomy};
 ghost use Rattle.forwarding.specs.ShortWords.{long_word};
 ghost use Rattle.layout.specs.Place.{place_word};
 
@@ -46,9 +46,11 @@ impl<A: Allocator> Model for Forwards<A> {
 
     ghost Value = { List (Option At) };
 
-    ghost use Rattle.forwarding.specs.ShownWords.{words_in};
+    ghost use Rattle.forwarding.specs.ShownWords.{words_in, IsRoomy};
 
     ghost view = { λ f. map shown_place (words_in f.words) };
+
+    ghost invariant = { λ f. IsRoomy f.words };
 }
 
 impl<A: Allocator> Words<A> {
@@ -76,7 +78,8 @@ impl<A: Allocator> Words<A> {
     /// Gives the name the word of the place.
     fn set(&mut self, name: u32, place: Place)
         requires { name < length (words_in self.old) }
-        ensures { words_in self.new ≡ slice_set (words_in self.old) name (place_word place) }
+        ensures set { words_in self.new ≡ slice_set (words_in self.old) name (place_word place) }
+        ensures roomy { IsRoomy self.old → IsRoomy self.new }
     {
         match self {
             Words::Listed(words) => words[name as usize] = short_word_of(place),
@@ -97,6 +100,7 @@ impl<A: Allocator> Forwards<A> {
 
     /// The same of the words that threads shared. It keeps zeros for cells to come.
     pub(crate) fn of_closed(words: ClosedWords<A>, zeros: Zeros<A>) -> Self
+        requires { length words ≤ zeros.room }
         ensures { result ≡ map shown_place words }
     {
         Forwards {
@@ -129,8 +133,10 @@ impl<A: Allocator> Forwards<A> {
         self.words.set(name, place);
     }
 
-    /// The memory of the cells, for cells to come.
-    pub fn into_memory(self) -> CellMemory<A> {
+    /// The memory of the cells, for cells to come: as many, of the same kind.
+    pub fn into_memory(self) -> CellMemory<A>
+        ensures { length self ≤ result.short + result.zeros }
+    {
         match self.words {
             Words::Listed(words) => CellMemory::of(words),
             Words::Closed(_, zeros) => CellMemory::of_zeros(zeros),

@@ -1,5 +1,5 @@
 //! Plain cells as they are made, and what they answer in the end.
-ghost use Rattle.std.specs.Prelude.{◌≡◌, ◌≢◌, ◌∷◌, [], None, Err, All, length, map, replicate, slice_index_or, IsOk, IfOk, OnOk};
+ghost use Rattle.std.specs.Prelude.{◌≡◌, ◌≢◌, ◌≤◌, ◌∷◌, vec_capacity, [], None, Err, All, length, map, replicate, slice_index_or, IsOk, IfOk, OnOk};
 ghost use Rattle.std.specs.List.{AllPairs};
 ghost use Rattle.forwarding.specs.Settled.{Agree, IsSettled};
 ghost use Rattle.forwarding.specs.Plain.{IsFit, Differ, known_by, place_of, empty_cells, fresh_pass, fresh_passes};
@@ -14,7 +14,8 @@ use std::alloc::{AllocError, Allocator};
 
 /// So many zeros, in the memory of these words as far as it goes. An error says that memory ran out.
 fn zeros_in<A: Allocator>(mut words: Vec<u32, A>, count: usize) -> Result<Vec<u32, A>, AllocError>
-    ensures { IfOk result (λ zeros. zeros.items ≡ replicate count 0) }
+    ensures zeros { IfOk result (λ zeros. zeros.items ≡ replicate count 0) }
+    ensures room { IfOk result (λ zeros. vec_capacity words ≤ vec_capacity zeros) }
 {
     words.clear();
     words.resize(count, 0)?;

@@ -30,7 +30,7 @@ impl<A: Allocator> Model for WordCells<A> {
 
     ghost view = { λ c. record { id = c.table.shared.table_id; count = c.plan.count; passes = c.plan.passes } };
 
-    ghost invariant = { λ c. AreCells c.table.shared.table_id c.table.shared.key c.plan };
+    ghost invariant = { λ c. AreCells c.table.shared.table_id c.table.shared.key c.plan c.zeros.room };
 }
 
 /// What one worker knows and has won. It has no bytes.

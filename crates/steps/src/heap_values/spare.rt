@@ -1,6 +1,7 @@
 //! Memory that a heap keeps from one collection for the next.
-ghost use Rattle.std.specs.Prelude.{◌≡◌, ◌≤◌, ◌↔◌, [], IsTrue, IfOk, IfSome};
+ghost use Rattle.std.specs.Prelude.{◌≡◌, ◌<◌, ◌≤◌, ◌+◌, ◌-◌, ◌^◌, ◌↔◌, ◌⊎◌, [], length, min, IsTrue, IsSome, IfOk, IfSome, OnOk};
 ghost use Rattle.block_pool.specs.BlockValue.{empty_block};
+ghost use Rattle.steps.specs.SpareValue.{no_spare};
 
 use crate::heap_values::packed::PackedPlace;
 use crate::heap_values::report::{Won, WorkerReport};
@@ -8,13 +9,14 @@ use block_pool::{Block, order_by_memory};
 use forwarding::CellMemory;
 use std::alloc::{AllocError, Allocator, Global};
 use std::collections::VecDeque;
+use std::marker::Model;
 use std::mem;
 
 /// Lists are kept that have room for no more than three times what they hold and so many entries, all together.
 const FEW_ENTRIES: usize = 1024;
 
 /// Blocks without an object, and cells and lists without a meaning, of which a collection makes use before it asks for new
-/// memory. It is memory alone: no contract sees what it has, and a collection does the same without it.
+/// memory. It is memory alone: contracts see how much it has, of blocks and of lists, and a collection does the same without it.
 #[derive(Drop)]
 pub struct Spare<A: Allocator = Global> {
     // The block that is given out first stands in front.
@@ -22,6 +24,20 @@ pub struct Spare<A: Allocator = Global> {
     cells: Option<CellMemory<A>>,
     // What workers won and scanned, whatever it was.
     lists: Option<Vec<WorkerReport<A>, A>>,
+}
+
+impl<A: Allocator> Model for Spare<A> {
+    ghost use Rattle.std.specs.Prelude.{vec_len};
+    ghost use Rattle.std.specs.VecDeque.{deque_len, deque_capacity};
+    ghost use Rattle.steps.specs.SpareValue.{SpareValue, count_in};
+
+    ghost Value = { SpareValue };
+
+    ghost view = { λ s. record {
+      blocks = count_in deque_len s.blocks;
+      room = count_in deque_capacity s.blocks;
+      lists = count_in vec_len s.lists;
+    } };
 }
 
 /// Whether the block, which has no object, has so many words.
@@ -35,7 +51,9 @@ fn has_words<A: Allocator>(block: &Block<A>, words: usize) -> bool
 
 impl<A: Allocator> Spare<A> {
     /// No memory.
-    pub fn none() -> Self {
+    pub fn none() -> Self
+        ensures { result ≡ no_spare }
+    {
         Spare {
             blocks: None,
             cells: None,
@@ -44,7 +62,9 @@ impl<A: Allocator> Spare<A> {
     }
 
     /// How many blocks it has.
-    pub fn block_count(&self) -> usize {
+    pub fn block_count(&self) -> usize
+        ensures { result ≡ self.now.blocks }
+    {
         match &self.blocks {
             Some(blocks) => blocks.len(),
             None => 0,
@@ -52,12 +72,18 @@ impl<A: Allocator> Spare<A> {
     }
 
     /// Takes all of it.
-    pub fn take(&mut self) -> Spare<A> {
+    pub fn take(&mut self) -> Spare<A>
+        ensures all { result ≡ self.old }
+        ensures left { self.new ≡ no_spare }
+    {
         mem::replace(self, Spare::none())
     }
 
     /// Keeps a block for later, where there is room for it, and else gives its memory back.
-    pub fn keep(&mut self, block: Block<A>) {
+    pub fn keep(&mut self, block: Block<A>)
+        ensures kept { self.old.blocks < self.old.room → self.new ≡ record self.old { blocks = self.old.blocks + 1 } }
+        ensures full { self.old.room ≤ self.old.blocks → self.new ≡ self.old }
+    {
         if let Some(blocks) = &mut self.blocks {
             if blocks.len() < blocks.capacity() {
                 blocks.push_back_reserved(block);
@@ -66,7 +92,9 @@ impl<A: Allocator> Spare<A> {
     }
 
     /// Keeps so many blocks at most, and gives the memory of the others back.
-    pub fn keep_blocks(&mut self, most: usize) {
+    pub fn keep_blocks(&mut self, most: usize)
+        ensures { self.new ≡ record self.old { blocks = min most self.old.blocks } }
+    {
         if let Some(blocks) = &mut self.blocks {
             blocks.truncate(most);
         }
@@ -74,7 +102,9 @@ impl<A: Allocator> Spare<A> {
 
     /// Puts the blocks in the order of their first numbers, so that parts of them are mostly stretches of memory. An error says
     /// that memory ran out, and leaves them as they are.
-    pub fn order_by_memory(&mut self, alloc: A) -> Result<(), AllocError> {
+    pub fn order_by_memory(&mut self, alloc: A) -> Result<(), AllocError>
+        ensures { self.new ≡ self.old }
+    {
         match &mut self.blocks {
             Some(blocks) => order_by_memory(alloc, blocks.make_contiguous()),
             None => Ok(()),
@@ -82,7 +112,9 @@ impl<A: Allocator> Spare<A> {
     }
 
     /// Keeps the memory of cells for later, if it is no more than so many words, and else gives it back.
-    pub fn keep_cells(&mut self, cells: CellMemory<A>, most: usize) {
+    pub fn keep_cells(&mut self, cells: CellMemory<A>, most: usize)
+        ensures { self.new ≡ self.old }
+    {
         if cells.capacity() <= most {
             self.cells = Some(cells);
         }
@@ -90,7 +122,9 @@ impl<A: Allocator> Spare<A> {
 
     /// Keeps the memory of these lists for later, for as many workers, if a good part of it was used, and else gives it back. One
     /// worker may have done much less than another, and do more the next time: so they count together.
-    pub fn keep_lists(&mut self, lists: Vec<WorkerReport<A>, A>) {
+    pub fn keep_lists(&mut self, lists: Vec<WorkerReport<A>, A>)
+        ensures { (self.new ≡ record self.old { lists = length lists.items }) ⊎ (self.new ≡ self.old) }
+    {
         let room = lists
             .iter()
             .fold(0usize, |sum, report| sum.saturating_add(report.room()));
@@ -102,8 +136,12 @@ impl<A: Allocator> Spare<A> {
         }
     }
 
-    /// Hands one worker's lists to a part of its own. An error says that memory ran out, and drops them.
-    fn hand_lists(&mut self, alloc: A, part: &mut Spare<A>) -> Result<(), AllocError> {
+    /// Hands one worker's lists to a part of its own, which has none. An error says that memory ran out, and drops them.
+    fn hand_lists(&mut self, alloc: A, part: &mut Spare<A>) -> Result<(), AllocError>
+        requires { part.old.lists ≡ 0 }
+        ensures left { self.new ≡ record self.old { lists = self.old.lists - 1 } }
+        ensures handed { OnOk result (part.new ≡ record part.old { lists = min 1 self.old.lists }) }
+    {
         let Some(lists) = &mut self.lists else {
             return Ok(());
         };
@@ -118,7 +156,9 @@ impl<A: Allocator> Spare<A> {
 
     /// Empty lists for what one worker wins and scans, where some are kept.
     pub fn lists(&mut self) -> Option<(Vec<Won, A>, Vec<PackedPlace, A>)>
-        ensures { IfSome result (λ lists. (lists.0.items ≡ []) × (lists.1.items ≡ [])) }
+        ensures empty { IfSome result (λ lists. (lists.0.items ≡ []) × (lists.1.items ≡ [])) }
+        ensures some { IsSome result ↔ (0 < self.old.lists) }
+        ensures left { self.new ≡ record self.old { lists = self.old.lists - 1 } }
     {
         let report = self.lists.as_mut()?.pop()?;
         let (mut won, mut scanned) = report.into_lists();
@@ -128,7 +168,9 @@ impl<A: Allocator> Spare<A> {
     }
 
     /// Memory for cells, with whatever stands in it.
-    pub fn cells(&mut self, alloc: A) -> CellMemory<A> {
+    pub fn cells(&mut self, alloc: A) -> CellMemory<A>
+        ensures { self.new ≡ self.old }
+    {
         match self.cells.take() {
             Some(cells) => cells,
             None => CellMemory::none(alloc),
@@ -136,7 +178,11 @@ impl<A: Allocator> Spare<A> {
     }
 
     /// Makes room for so many more blocks. An error says that memory ran out.
-    fn reserve(&mut self, alloc: A, more: usize) -> Result<(), AllocError> {
+    fn reserve(&mut self, alloc: A, more: usize) -> Result<(), AllocError>
+        ensures blocks { self.new.blocks ≡ self.old.blocks }
+        ensures lists { self.new.lists ≡ self.old.lists }
+        ensures room { OnOk result (self.new.blocks + more ≤ self.new.room) }
+    {
         match &mut self.blocks {
             Some(blocks) => blocks.reserve(more),
             None => {
@@ -152,7 +198,8 @@ impl<A: Allocator> Spare<A> {
         A: Clone,
         requires words_from { 16 ≤ words }
         requires words_to { words ≤ 512 }
-        ensures { IfOk result (λ block. block ≡ empty_block words) }
+        ensures block { IfOk result (λ block. block ≡ empty_block words) }
+        ensures left { self.new ≡ record self.old { blocks = self.old.blocks - 1 } }
     {
         if let Some(blocks) = &mut self.blocks {
             if let Some(mut block) = blocks.pop_front() {
@@ -171,6 +218,10 @@ impl<A: Allocator> Spare<A> {
     pub fn split(&mut self, alloc: A, count: usize) -> Result<Spare<A>, AllocError>
     where
         A: Clone,
+        ensures part { IfOk result
+            (λ part. (part.blocks ≡ min count self.old.blocks) × (part.lists ≡ min 1 self.old.lists)) }
+        ensures left { OnOk result
+            (self.new ≡ record self.old { blocks = self.old.blocks - count; lists = self.old.lists - 1 }) }
     {
         let mut part = Spare::none();
         self.hand_lists(alloc.clone()?, &mut part)?;
@@ -185,7 +236,10 @@ impl<A: Allocator> Spare<A> {
     }
 
     /// The next block.
-    fn pop(&mut self) -> Option<Block<A>> {
+    fn pop(&mut self) -> Option<Block<A>>
+        ensures some { IsSome result ↔ (0 < self.old.blocks) }
+        ensures left { self.new ≡ record self.old { blocks = self.old.blocks - 1 } }
+    {
         match &mut self.blocks {
             Some(blocks) => blocks.pop_front(),
             None => None,
@@ -193,7 +247,11 @@ impl<A: Allocator> Spare<A> {
     }
 
     /// Takes the blocks of another one too, and has room for so many more. An error says that memory ran out, and drops them.
-    pub fn join(&mut self, alloc: A, mut other: Spare<A>, room: usize) -> Result<(), AllocError> {
+    pub fn join(&mut self, alloc: A, mut other: Spare<A>, room: usize) -> Result<(), AllocError>
+        ensures blocks { OnOk result (self.new.blocks ≡ self.old.blocks + other.blocks) }
+        ensures room { OnOk result (other.blocks + room < 2 ^ 64 → self.new.blocks + room ≤ self.new.room) }
+        ensures lists { self.new.lists ≡ self.old.lists }
+    {
         let more = other.block_count();
         self.reserve(alloc, more.saturating_add(room))?;
         for _ in 0..more {

@@ -8,5 +8,5 @@ use Rattle.forwarding.proofs.cells.forwards.Forwards.set.Goals as goal
 
 pub returns : goal.returns
 returns g c =
-    rw (← c.self.view_is, c.set.ensures) (map-set shown_place (words_in c.self.inside.words) c.args.name (place_word c.args.place)
+    rw (← c.self.view_is, c.set.ensures.set) (map-set shown_place (words_in c.self.inside.words) c.args.name (place_word c.args.place)
     ∙ ap (set (map shown_place (words_in c.self.inside.words)) c.args.name) (shown_by (place_word c.args.place) (Some c.args.place) refl))
