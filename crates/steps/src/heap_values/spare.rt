@@ -1,6 +1,7 @@
 //! Memory that a heap keeps from one collection for the next.
 ghost use Rattle.std.specs.Prelude.{◌≡◌, ◌<◌, ◌≤◌, ◌+◌, ◌-◌, ◌^◌, ◌↔◌, ◌⊎◌, [], length, min, IsTrue, IsSome, IfOk, IfSome, OnOk};
 ghost use Rattle.block_pool.specs.BlockValue.{empty_block};
+ghost use Rattle.forwarding.specs.CellMemoryValue.{long_room};
 ghost use Rattle.steps.specs.SpareValue.{no_spare};
 
 use crate::heap_values::packed::PackedPlace;
@@ -16,7 +17,7 @@ use std::mem;
 const FEW_ENTRIES: usize = 1024;
 
 /// Blocks without an object, and cells and lists without a meaning, of which a collection makes use before it asks for new
-/// memory. It is memory alone: contracts see how much it has, of blocks and of lists, and a collection does the same without it.
+/// memory. It is memory alone: contracts see how much it has, and a collection does the same without it.
 #[derive(Drop)]
 pub struct Spare<A: Allocator = Global> {
     // The block that is given out first stands in front.
@@ -29,6 +30,7 @@ pub struct Spare<A: Allocator = Global> {
 impl<A: Allocator> Model for Spare<A> {
     ghost use Rattle.std.specs.Prelude.{vec_len};
     ghost use Rattle.std.specs.VecDeque.{deque_len, deque_capacity};
+    ghost use Rattle.forwarding.specs.CellMemoryValue.{long_room};
     ghost use Rattle.steps.specs.SpareValue.{SpareValue, count_in};
 
     ghost Value = { SpareValue };
@@ -36,6 +38,7 @@ impl<A: Allocator> Model for Spare<A> {
     ghost view = { λ s. record {
       blocks = count_in deque_len s.blocks;
       room = count_in deque_capacity s.blocks;
+      cells = count_in long_room s.cells;
       lists = count_in vec_len s.lists;
     } };
 }
@@ -113,7 +116,8 @@ impl<A: Allocator> Spare<A> {
 
     /// Keeps the memory of cells for later, if it is no more than so many words, and else gives it back.
     pub fn keep_cells(&mut self, cells: CellMemory<A>, most: usize)
-        ensures { self.new ≡ self.old }
+        ensures kept { long_room cells ≤ most → self.new ≡ record self.old { cells = long_room cells } }
+        ensures given_back { most < long_room cells → self.new ≡ self.old }
     {
         if cells.capacity() <= most {
             self.cells = Some(cells);
@@ -169,7 +173,8 @@ impl<A: Allocator> Spare<A> {
 
     /// Memory for cells, with whatever stands in it.
     pub fn cells(&mut self, alloc: A) -> CellMemory<A>
-        ensures { self.new ≡ self.old }
+        ensures cells { long_room result ≡ self.old.cells }
+        ensures left { self.new ≡ record self.old { cells = 0 } }
     {
         match self.cells.take() {
             Some(cells) => cells,
@@ -179,9 +184,8 @@ impl<A: Allocator> Spare<A> {
 
     /// Makes room for so many more blocks. An error says that memory ran out.
     fn reserve(&mut self, alloc: A, more: usize) -> Result<(), AllocError>
-        ensures blocks { self.new.blocks ≡ self.old.blocks }
-        ensures lists { self.new.lists ≡ self.old.lists }
         ensures room { OnOk result (self.new.blocks + more ≤ self.new.room) }
+        ensures rest { self.new ≡ record self.old { room = self.new.room } }
     {
         match &mut self.blocks {
             Some(blocks) => blocks.reserve(more),
@@ -219,7 +223,8 @@ impl<A: Allocator> Spare<A> {
     where
         A: Clone,
         ensures part { IfOk result
-            (λ part. (part.blocks ≡ min count self.old.blocks) × (part.lists ≡ min 1 self.old.lists)) }
+            (λ part. (part.blocks ≡ min count self.old.blocks) × (part.cells ≡ 0) ×
+            (part.lists ≡ min 1 self.old.lists)) }
         ensures left { OnOk result
             (self.new ≡ record self.old { blocks = self.old.blocks - count; lists = self.old.lists - 1 }) }
     {
@@ -250,7 +255,7 @@ impl<A: Allocator> Spare<A> {
     pub fn join(&mut self, alloc: A, mut other: Spare<A>, room: usize) -> Result<(), AllocError>
         ensures blocks { OnOk result (self.new.blocks ≡ self.old.blocks + other.blocks) }
         ensures room { OnOk result (other.blocks + room < 2 ^ 64 → self.new.blocks + room ≤ self.new.room) }
-        ensures lists { self.new.lists ≡ self.old.lists }
+        ensures rest { (self.new.cells ≡ self.old.cells) × (self.new.lists ≡ self.old.lists) }
     {
         let more = other.block_count();
         self.reserve(alloc, more.saturating_add(room))?;

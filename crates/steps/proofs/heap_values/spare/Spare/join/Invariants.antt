@@ -7,5 +7,6 @@ invariant-loop g l = record {
   there : l.other.blocks + l.counter ≡ l.fn.other.blocks;
   fits : l.self.blocks + l.other.blocks ≤ l.self.room;
   room : l.fn.other.blocks + l.fn.room < 2 ^ 64 → l.self.blocks + l.other.blocks + l.fn.room ≤ l.self.room;
+  cells : l.self.cells ≡ l.fn.self.cells;
   lists : l.self.lists ≡ l.fn.self.lists;
 }

@@ -7,6 +7,8 @@ invariant-loop g l = record {
   here : l.self.blocks + l.counter ≡ l.fn.self.blocks;
   room : l.fn.count ≤ l.part.room;
   wide : l.self.room ≡ l.fn.self.room;
+  cells : l.self.cells ≡ l.fn.self.cells;
+  no_cells : l.part.cells ≡ 0;
   lists : l.self.lists ≡ l.fn.self.lists - 1;
   handed : l.part.lists ≡ min 1 l.fn.self.lists;
 }
