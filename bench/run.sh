@@ -58,16 +58,15 @@ seconds() {
   awk -v n="$best" 'BEGIN { printf "%.4f", n / 1e9 }'
 }
 
-# in_turns WHICH COMMAND..: each command prints a number, and all are run in turn, five times, so that a slow minute slows all.
-# The least or the most of each
+# in_turns COMMAND..: each command prints a number, and all are run in turn, five times, so that a slow minute slows all. The most
+# of each
 in_turns() {
-  local which=$1 round command
-  shift
+  local round command
   for round in 1 2 3 4 5; do
     for command in "$@"; do printf '%s ' "$($command)"; done
     echo
-  done | awk -v which="$which" '{
-    for (i = 1; i <= NF; i++) if (NR == 1 || (which == "least" ? $i < best[i] : $i > best[i])) best[i] = $i
+  done | awk '{
+    for (i = 1; i <= NF; i++) if (NR == 1 || $i > best[i]) best[i] = $i
     count = NF
   } END { for (i = 1; i <= count; i++) print best[i] }'
 }
@@ -81,22 +80,23 @@ export program plain blocks generations
 
 measure() { seconds bash -c "$1 \"\$1\"" measure "$2"; }
 
-# run_of PROGRAM TRACE: how long that takes
-run_of() { clocked bash -c "$1 \"\$1\"" measure "$work/$2"; }
+# last_rate PROCESSORS PROGRAM NODES COLLECTIONS: millions of objects a second in the last collections of a trace, by when the
+# lines of these are written. It counts from the line of the collection before them, so the trace has one more behind the lines
+# that make objects and drop names
+last_rate() {
+  taskset -c "$1" bash -c "$2 \"\$1\"" live "$work/all" | while read -r line; do echo "$EPOCHREALTIME $line"; done | awk -v nodes="$3" -v collections="$4" '
+    $2 == "collected" { ends[++count] = $1 }
+    END { printf "%.2f", nodes * collections / (ends[count] - ends[count - collections]) / 1e6 }'
+}
 
-# copies TRACE OBJECTS COLLECTIONS: millions of objects a second, by the time that the collections add
+# copies TRACE OBJECTS COLLECTIONS: the best of five runs of each program, in turn
 copies() {
-  local times
-  "$here/traces.sh" "$1" "$2" 0 > "$work/made"
-  "$here/traces.sh" "$1" "$2" "$3" > "$work/all"
-  if [ -n "$plain" ]; then
-    times=$(in_turns least 'run_of gctrace made' 'run_of gctrace all' 'run_of beside made' 'run_of beside all')
-  else
-    times=$(in_turns least 'run_of gctrace made' 'run_of gctrace all')
-  fi
-  echo $times | awk -v name="$1" -v objects="$2" -v copied="$(($2 * $3))" '{
-    printf "%s of %d objects: %.2f million objects a second", name, objects, copied / ($2 - $1) * 1e3
-    if (NF > 2) printf "; plain %.2f, so %.2f of it", copied / ($4 - $3) * 1e3, ($4 - $3) / ($2 - $1)
+  local rates
+  "$here/traces.sh" "$1" "$2" $(($3 + 1)) > "$work/all"
+  rates=$(in_turns "last_rate 0 gctrace $2 $3" ${plain:+"last_rate 0 beside $2 $3"})
+  echo $rates | awk -v name="$1" -v objects="$2" '{
+    printf "%s of %d objects: %.2f million objects a second", name, objects, $1
+    if (NF > 1) printf "; plain %.2f, so %.2f of it", $2, $1 / $2
     print "" }'
 }
 
@@ -110,15 +110,6 @@ copies_of_all() {
   copies sizes 80000 100
 }
 
-# last_rate PROCESSORS PROGRAM NODES COLLECTIONS: millions of objects a second in the last collections of a trace, by when the
-# lines of these are written. It counts from the line of the collection before them, so the trace has one more behind the lines
-# that make objects and drop names
-last_rate() {
-  taskset -c "$1" bash -c "$2 \"\$1\"" live "$work/all" | while read -r line; do echo "$EPOCHREALTIME $line"; done | awk -v nodes="$3" -v collections="$4" '
-    $2 == "collected" { ends[++count] = $1 }
-    END { printf "%.2f", nodes * collections / (ends[count] - ends[count - collections]) / 1e6 }'
-}
-
 # ghc_rate PROCESSORS SHAPE NODES COLLECTIONS THREADS
 ghc_rate() { taskset -c "$1" "$ghc" "$2" "$3" "$4" +RTS "-N$5" | awk '{ printf "%.2f", $1 / 1e6 }'; }
 
@@ -126,7 +117,7 @@ ghc_rate() { taskset -c "$1" "$ghc" "$2" "$3" "$4" +RTS "-N$5" | awk '{ printf "
 live() {
   local rates
   "$here/traces.sh" tree "$1" $(($2 + 1)) > "$work/all"
-  rates=$(in_turns most "last_rate 0 gctrace $1 $2" "${plain:+last_rate 0 beside $1 $2}" "${ghc:+ghc_rate 0 tree $1 $2 1}")
+  rates=$(in_turns "last_rate 0 gctrace $1 $2" ${plain:+"last_rate 0 beside $1 $2"} ${ghc:+"ghc_rate 0 tree $1 $2 1"})
   echo $rates | awk -v nodes="$1" -v plain="$plain" -v ghc="$ghc" '{
     printf "live tree of %d nodes: %.2f million objects a second", nodes, $1
     if (plain != "") printf "; plain %.2f, so %.2f of it", $2, $1 / $2
@@ -146,7 +137,7 @@ by_threads() {
   "$here/traces.sh" "$1" "$2" $(($3 + 1)) > "$work/all"
   for n in '1 word' '2 word' '4 word' '4 box'; do own+=("by $n $1 $2 $3"); done
   for n in ${ghc:+1 2 4}; do theirs+=("ghc_rate $all $1 $2 $3 $n"); done
-  rates=$(in_turns most "${own[@]}" "${theirs[@]}")
+  rates=$(in_turns "${own[@]}" "${theirs[@]}")
   echo $rates | awk -v name="$1" -v objects="$2" '{
     split("1 2 4 4", threads); split("word word word box", cells)
     for (i = 1; i <= 4; i++) {
