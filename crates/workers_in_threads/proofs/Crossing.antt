@@ -8,6 +8,7 @@ use Rattle.std.proofs.CrossingOver.{crosses as over}
 use Rattle.pending_queues.proofs.Crossing.{ruled_sync, seat_send}
 use Rattle.block_pool.proofs.claims.claims.ClaimSeat.TheSendSync as draws
 use Rattle.scavenge.proofs.workspace.workspace.Workspace.TheSendSync as workspace
+use Rattle.steps.proofs.heap_values.spare.Spare.TheSendSync as spare
 use Rattle.idle_count.proofs.idle.IdleSeat.TheSendSync as rest
 use Rattle.idle_count.proofs.verdict.VerdictSeat.TheSendSync as voice
 use Rattle.heap.proofs.heap.Heap.TheSendSync as heap
@@ -27,7 +28,7 @@ use Rattle.workers_in_threads.specs.contracts.kit.Brought as Brought
 
 module _ (P A : RattleType) (h : alloc.Ghosts A.Denot) where
   pub kit_send : IsSend P → IsSend A → Frees h h.dealloc_token → IsSend (Kit.the_row P A h)
-  kit_send pass alloc frees = search (sendable, crosses, over, seat_send, draws.the_send, workspace.the_send, rest.the_send, voice.the_send) depth 30
+  kit_send pass alloc frees = search (sendable, crosses, over, seat_send, draws.the_send, workspace.the_send, spare.the_send, rest.the_send, voice.the_send) depth 30
 
   pub brought_send : IsSend P → IsSend A → Frees h h.dealloc_token → IsSend (Brought.the_row P A h)
   brought_send pass alloc frees = search (sendable, crosses, over, seat_send, draws.the_send, workspace.the_send) depth 30

@@ -17,22 +17,6 @@ use pending_queues::{PendingSeat, RuledPending};
 use scavenge::Copies;
 use std::alloc::{AllocError, Allocator, Global};
 
-/// From so many numbered objects for each spare block on these are put in order, which takes as long as a few objects each.
-const ORDERED_FROM: usize = 8;
-
-/// Puts the spare blocks in the order of memory, where so much is collected that it pays: a few young objects need few of them,
-/// however many are spare. An error says that memory ran out.
-fn order_spare<A: Allocator>(
-    alloc: A,
-    collection: &Collection<A>,
-    spare: &mut Spare<A>,
-) -> Result<(), AllocError> {
-    if (collection.cells() as usize) < spare.block_count().saturating_mul(ORDERED_FROM) {
-        return Ok(());
-    }
-    spare.order_by_memory(alloc)
-}
-
 /// A kit for each worker: its pass, one of each kind of seats, and its share of the spare memory. An error says that memory
 /// ran out.
 pub fn dealt<S: SharedCells, A: Allocator + Clone>(
@@ -67,7 +51,6 @@ pub fn dealt<S: SharedCells, A: Allocator + Clone>(
         (S.is_pass cells.now) S.won heap.now collection.now claims.now queues.now idle.now verdict.now workers
         ks.items) }
 {
-    order_spare(alloc.clone()?, collection, &mut spare)?;
     let share = (spare.block_count() / (workers as usize).max(1)).saturating_add(1);
     let mut kits = Vec::with_capacity(alloc.clone()?, workers as usize)?;
     let mut places = seats.into_iter();

@@ -1,6 +1,7 @@
 //! What a worker takes to its thread, and what it brings back.
 use crate::sharing_worker::Outcome;
 use block_pool::ClaimSeat;
+use heap::Spare;
 use idle_count::{IdleSeat, VerdictSeat};
 use pending_queues::PendingSeat;
 use scavenge::{Copies, Workspace};
@@ -14,6 +15,8 @@ pub struct Kit<P, A: Allocator = Global> {
     pub draws: ClaimSeat,
     pub seat: PendingSeat<Copies<A>, A>,
     pub workspace: Workspace<A>,
+    /// Its part of the memory that the heap kept for this collection.
+    pub spare: Spare<A>,
     pub rest: IdleSeat,
     pub voice: VerdictSeat,
 }

@@ -9,6 +9,7 @@ mod kit;
 mod packing;
 mod separating;
 mod sharing_worker;
+mod supplying;
 mod thread;
 mod threads;
 

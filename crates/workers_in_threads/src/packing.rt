@@ -47,8 +47,7 @@ pub fn pack<S: SharedCells, A: Allocator + Clone>(
         (S.is_pass cells.now) S.won heap.now collection.now claims.now queues.now idle.now verdict.now workers
         number k) }
 {
-    let mut workspace = Workspace::new(alloc.clone()?, heap, collection, number, workers)?;
-    workspace.supply(spare);
+    let workspace = Workspace::new(alloc.clone()?, heap, collection, number, workers)?;
     let alloc = alloc.clone()?;
     Ok(Kit {
         alloc,
@@ -56,6 +55,7 @@ pub fn pack<S: SharedCells, A: Allocator + Clone>(
         draws,
         seat,
         workspace,
+        spare,
         rest,
         voice,
     })

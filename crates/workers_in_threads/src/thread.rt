@@ -3,6 +3,7 @@ ghost use Rattle.workers_in_threads.specs.Kits.{IsKit, IsBroughtBack};
 
 use crate::kit::{Brought, Kit};
 use crate::sharing_worker::{SharingParts, SharingWorker};
+use crate::supplying::supply;
 use block_pool::Claims;
 use forwarding::{Gate, Lent, SharedCells};
 use heap::{Collection, Heap};
@@ -38,10 +39,12 @@ pub fn work_apart<R: Wait, S: SharedCells, G: Gate, A: Allocator + Clone>(
         pass,
         draws,
         seat,
-        workspace,
+        mut workspace,
+        spare,
         mut rest,
         mut voice,
     } = kit;
+    supply(&alloc, collection, workers, &mut workspace, spare);
     let lent = Lent {
         cells,
         gate,

@@ -68,7 +68,7 @@ spawn_with-started-requires-send-F g c κs within =
     let idle = idle_sync _ g.A.Allocator b.4 b.3 b.6 in
     let kit = kit_send _ _ g.A.Allocator b.5 b.4 b.6 in record {
       owned = λ x vs vss. (tt, ((tt, b.0.shared x.0.now x.0.ref_ptr.0 x.0.ref_ptr.1 _), ((tt, heap.shared x.1.now x.1.ref_ptr.0 x.1.ref_ptr.1 _), ((tt, collection.shared x.2.now x.2.ref_ptr.0 x.2.ref_ptr.1 _), ((tt, b.1.shared x.3.now x.3.ref_ptr.0 x.3.ref_ptr.1 _), ((tt, claims.shared x.4.now x.4.ref_ptr.0 x.4.ref_ptr.1 _), ((tt, queues.shared x.5.now x.5.ref_ptr.0 x.5.ref_ptr.1 _), ((tt, idle.shared x.6.now x.6.ref_ptr.0 x.6.ref_ptr.1 _), ((tt, verdict.the_sync.shared x.7.now x.7.ref_ptr.0 x.7.ref_ptr.1 _), ((tt, b.2.shared x.8.now x.8.ref_ptr.0 x.8.ref_ptr.1 _), ((tt, tt), (kit.owned x.10 vss.1.1.1.1.1.1.1.1.1.1.0, tt))))))))))));
-      leaving = λ k. Quiet-if (k (of_param 2)) _ unseen (λ x w. (tt, (tt, (tt, (tt, (tt, (tt, (tt, (tt, (tt, (tt, ((tt, (tt, (tt, (tt, (tt, (tt, (tt, tt))))))), tt)))))))))))) (λ x w. tt);
+      leaving = λ k. Quiet-if (k (of_param 2)) _ unseen (λ x w. (tt, (tt, (tt, (tt, (tt, (tt, (tt, (tt, (tt, (tt, ((tt, (tt, (tt, (tt, (tt, (tt, (tt, (tt, tt)))))))), tt)))))))))))) (λ x w. tt);
     }
 
 pub spawn_with-started-requires-send-T : goal.spawn_with-started-requires-send-T
