@@ -104,7 +104,7 @@ fn is_counted<A: Allocator>(settled: &Result<Forwards<A>, SettleError>) -> bool
     }
 }
 
-/// Why a worker was refused, once the draws are counted, or that memory for the counting ran out.
+/// Why a worker was refused, once the draws are counted, or that there was no memory to settle the cells.
 fn refusal<S: SharedCells, A: Allocator>(
     heap: &Heap<A>,
     collection: &Collection<A>,
