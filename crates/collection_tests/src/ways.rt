@@ -2,7 +2,7 @@
 use crate::heaps::seen;
 use collector::{CellKind, CollectError, ThreadsError, collect, collect_one};
 use forwarding::OpenGate;
-use heap::{Heap, RootId};
+use heap::{Heap, Report, RootId};
 use machine::{LookError, Machine, MachineError, SettleError};
 use std::alloc::{AllocGlobal, Allocator};
 use std::sync::Wait;
@@ -64,6 +64,15 @@ fn collected_in_turn<A: Allocator + Clone>(
     }
 }
 
+/// What a report by so many workers tells. Had others been the ones that reported, the collection would have been thrown away and
+/// carried out by one alone.
+fn counted<A: Allocator>(report: &Report<A>, n: u32) -> Result<Answer, Fail> {
+    if report.workers.len() != n as usize {
+        return Err(Fail::from("not as many workers as were asked for"));
+    }
+    Ok(Answer::Counts(report.kept, report.freed))
+}
+
 fn collected_on_threads<R: Threads + Wait + Sync + AllocGlobal, A: Allocator + Clone + Send + Sync>(
     rt: &R,
     alloc: A,
@@ -73,7 +82,7 @@ fn collected_on_threads<R: Threads + Wait + Sync + AllocGlobal, A: Allocator + C
     kind: CellKind,
 ) -> Result<Answer, Fail> {
     match collect(rt, alloc, heap, generation, n, kind, &OpenGate) {
-        Ok(report) => Ok(Answer::Counts(report.kept, report.freed)),
+        Ok(report) => counted(&report, n),
         Err(ThreadsError::NoMemory) => Ok(Answer::NoMemory),
         Err(ThreadsError::HeapFull) => Ok(Answer::HeapFull),
         Err(error) => Err(Fail::from(error)),

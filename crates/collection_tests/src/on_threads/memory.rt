@@ -2,8 +2,9 @@
 use crate::heaps::{add_tree, heap_of, sizes_for};
 use crate::refused::trials::{MANY, outstanding};
 use crate::ways::{Way, collected};
-use collector::CellKind;
-use heap::Heap;
+use collector::{CellKind, Crew};
+use forwarding::OpenGate;
+use heap::{Heap, RootId};
 use refusing::Refusing;
 use std::alloc::{AllocGlobal, Global};
 use std::process::Abort;
@@ -11,15 +12,34 @@ use std::sync::Wait;
 use std::test::Fail;
 use std::thread::Threads;
 
-/// How many requests for memory a collection by two threads takes.
+/// A heap that counts its requests.
+type Counting<'a> = Heap<&'a Refusing<Global>>;
+
+/// How many requests for memory a collection by so many workers over words takes.
 fn asked<'a, R: Threads + Wait + Sync + AllocGlobal>(
     rt: &R,
     refusing: &'a Refusing<Global>,
-    heap: &mut Heap<&'a Refusing<Global>>,
+    heap: &mut Counting<'a>,
+    workers: u32,
 ) -> Result<u64, Fail> {
     let before = refusing.asked();
-    let _answer = collected(rt, refusing, heap, 0, Way::OnThreads(2, CellKind::Word))?;
+    let way = Way::OnThreads(workers, CellKind::Word);
+    let _answer = collected(rt, refusing, heap, 0, way)?;
     Ok(refusing.asked().saturating_sub(before))
+}
+
+/// Asserts what is spare once nothing lives: two threads take no block then, so those that they were dealt come back, and with the 50
+/// of the dead ones are more than are kept. In use are the nursery's 51, and a quarter more are kept.
+fn assert_unused_kept<'a, R: Threads + Wait + Sync + AllocGlobal + Abort>(
+    rt: &R,
+    refusing: &'a Refusing<Global>,
+    heap: &mut Counting<'a>,
+    top: RootId,
+) -> Result<(), Fail> {
+    heap.release(top)?;
+    let _of_none = asked(rt, refusing, heap, 2)?;
+    assert_eq!(rt; heap.spare_blocks(), 63);
+    Ok(())
 }
 
 /// Asserts that two threads make use of the 50 blocks that the copies of 600 objects took before, each of its half. Two requests
@@ -27,15 +47,15 @@ fn asked<'a, R: Threads + Wait + Sync + AllocGlobal>(
 fn assert_used_again<'a, R: Threads + Wait + Sync + AllocGlobal + Abort>(
     rt: &R,
     refusing: &'a Refusing<Global>,
-    heap: &mut Heap<&'a Refusing<Global>>,
+    heap: &mut Counting<'a>,
 ) -> Result<(), Fail> {
-    let _top = add_tree(refusing, heap, 600)?;
-    let _of_nursery = asked(rt, refusing, heap)?;
-    let anew = asked(rt, refusing, heap)?;
-    let again = asked(rt, refusing, heap)?;
+    let top = add_tree(refusing, heap, 600)?;
+    let _of_nursery = asked(rt, refusing, heap, 2)?;
+    let anew = asked(rt, refusing, heap, 2)?;
+    let again = asked(rt, refusing, heap, 2)?;
     assert!(rt; anew >= 100, "{anew}");
     assert!(rt; again.saturating_add(32) <= anew, "{again} {anew}");
-    Ok(())
+    assert_unused_kept(rt, refusing, heap, top)
 }
 
 /// The same of a new heap.
@@ -51,6 +71,92 @@ fn assert_used_by_new<R: Threads + Wait + Sync + AllocGlobal + Abort>(
 fn blocks_given_up_are_dealt_to_threads(rt: HostRuntime) -> Result<(), Fail> {
     let refusing = Refusing::new(rt.alloc(), MANY);
     assert_used_by_new(&rt, &refusing)?;
+    assert_eq!(&rt; outstanding(&refusing), 0);
+    Ok(())
+}
+
+/// Asserts that one worker, whom `collect` starts no thread for, makes use of all 50 blocks.
+fn assert_all_used<'a, R: Threads + Wait + Sync + AllocGlobal + Abort>(
+    rt: &R,
+    refusing: &'a Refusing<Global>,
+    heap: &mut Counting<'a>,
+) -> Result<(), Fail> {
+    let _top = add_tree(refusing, heap, 600)?;
+    let _of_nursery = asked(rt, refusing, heap, 1)?;
+    let anew = asked(rt, refusing, heap, 1)?;
+    let again = asked(rt, refusing, heap, 1)?;
+    assert!(rt; again.saturating_add(100) <= anew, "{again} {anew}");
+    Ok(())
+}
+
+/// The same of a new heap.
+fn assert_all_used_by_new<R: Threads + Wait + Sync + AllocGlobal + Abort>(
+    rt: &R,
+    refusing: &Refusing<Global>,
+) -> Result<(), Fail> {
+    let mut heap = heap_of(refusing, sizes_for(600, 200))?;
+    assert_all_used(rt, refusing, &mut heap)
+}
+
+#[test]
+fn blocks_given_up_are_those_of_a_worker_alone(rt: HostRuntime) -> Result<(), Fail> {
+    let refusing = Refusing::new(rt.alloc(), MANY);
+    assert_all_used_by_new(&rt, &refusing)?;
+    assert_eq!(&rt; outstanding(&refusing), 0);
+    Ok(())
+}
+
+/// Makes 600 objects and gives them up.
+fn add_dead<'a>(heap: &mut Counting<'a>) -> Result<(), Fail> {
+    for _object in 0..600 {
+        let root = heap.allocate(0, 3, 1)?;
+        heap.release(root)?;
+    }
+    Ok(())
+}
+
+/// How many requests for memory a collection of 600 dead objects by two threads takes. No worker has anything to do in it, so it
+/// doesn't matter which of them begins first.
+fn asked_of_dead<'a, R: Threads + Wait + Sync + AllocGlobal>(
+    rt: &R,
+    refusing: &'a Refusing<Global>,
+    heap: &mut Counting<'a>,
+    kind: CellKind,
+) -> Result<u64, Fail> {
+    add_dead(heap)?;
+    let before = refusing.asked();
+    let _report = Crew::new(rt, 2, kind, &OpenGate).collect(refusing, heap, 0)?;
+    Ok(refusing.asked().saturating_sub(before))
+}
+
+/// Asserts that words are laid out from what the words of the collection before left, and so ask for one list less; and that
+/// boxes, which take their memory from the runtime's allocator, ask this one for less.
+fn assert_cells_used<'a, R: Threads + Wait + Sync + AllocGlobal + Abort>(
+    rt: &R,
+    refusing: &'a Refusing<Global>,
+    heap: &mut Counting<'a>,
+) -> Result<(), Fail> {
+    let anew = asked_of_dead(rt, refusing, heap, CellKind::Word)?;
+    let again = asked_of_dead(rt, refusing, heap, CellKind::Word)?;
+    let of_boxes = asked_of_dead(rt, refusing, heap, CellKind::Box)?;
+    assert_eq!(rt; anew, again.saturating_add(1));
+    assert!(rt; of_boxes < again, "{of_boxes} {again}");
+    Ok(())
+}
+
+/// The same of a new heap.
+fn assert_cells_used_by_new<R: Threads + Wait + Sync + AllocGlobal + Abort>(
+    rt: &R,
+    refusing: &Refusing<Global>,
+) -> Result<(), Fail> {
+    let mut heap = heap_of(refusing, sizes_for(600, 200))?;
+    assert_cells_used(rt, refusing, &mut heap)
+}
+
+#[test]
+fn cells_that_threads_shared_are_used_again(rt: HostRuntime) -> Result<(), Fail> {
+    let refusing = Refusing::new(rt.alloc(), MANY);
+    assert_cells_used_by_new(&rt, &refusing)?;
     assert_eq!(&rt; outstanding(&refusing), 0);
     Ok(())
 }

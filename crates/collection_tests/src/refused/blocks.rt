@@ -20,7 +20,7 @@ fn workers_of(way: Way) -> u32
     ensures { result ≤ 2 }
 {
     match way {
-        Way::Alone => 1,
+        Way::Alone | Way::OnThreads(1, _) => 1,
         Way::InTurn | Way::OnThreads(..) => 2,
     }
 }

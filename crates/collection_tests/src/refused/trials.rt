@@ -5,9 +5,10 @@ use refusing::Refusing;
 use std::alloc::Global;
 
 /// The ways to collect that are tried.
-pub(crate) const WAYS: [Way; 4] = [
+pub(crate) const WAYS: [Way; 5] = [
     Way::Alone,
     Way::InTurn,
+    Way::OnThreads(1, CellKind::Word),
     Way::OnThreads(2, CellKind::Word),
     Way::OnThreads(2, CellKind::Box),
 ];
