@@ -6,6 +6,8 @@ mod at_size;
 #[cfg(test)]
 mod collections;
 #[cfg(test)]
+mod counting;
+#[cfg(test)]
 mod free_blocks;
 #[cfg(test)]
 mod heaps;
@@ -14,7 +16,13 @@ mod large_numbers;
 #[cfg(test)]
 mod many_roots;
 #[cfg(test)]
+mod noted;
+#[cfg(test)]
+mod order;
+#[cfg(test)]
 mod pointers;
+#[cfg(test)]
+mod requests;
 #[cfg(test)]
 mod spare;
 #[cfg(test)]

@@ -1,17 +1,12 @@
 //! The memory that a heap keeps from one collection for the next.
+use crate::counting::{Counting, NONE, asked_with_lists, bare_objects, large_heap, release_all};
 use crate::heaps::{allocated, collected, heap_of};
-use heap::{Config, Heap, RootId, Sizes};
+use heap::RootId;
 use one_worker::collect_one;
 use refusing::Refusing;
 use std::alloc::Global;
 use std::process::Abort;
 use std::test::Fail;
-
-/// No request is refused.
-const NONE: u64 = u64::MAX;
-
-/// A heap that counts its requests.
-type Counting<'a> = Heap<&'a Refusing<Global>>;
 
 /// Allocates 60 objects of four words, which are 15 blocks of 16 words. Their roots.
 fn add_sixty<'a>(alloc: Global, heap: &mut Counting<'a>) -> Result<Vec<RootId>, Fail> {
@@ -31,14 +26,6 @@ fn spare_after<'a>(
     let before = refusing.asked();
     let _counts = collected(refusing, heap)?;
     Ok((refusing.asked().saturating_sub(before), heap.spare_blocks()))
-}
-
-/// Gives up all roots.
-fn release_all<'a>(heap: &mut Counting<'a>, roots: &[RootId]) -> Result<(), Fail> {
-    for root in roots {
-        heap.release(*root)?;
-    }
-    Ok(())
 }
 
 /// Asserts what is spare after each collection. Two requests make a block.
@@ -79,18 +66,6 @@ fn assert_spare_of_new(
     assert_spare(rt, alloc, refusing, &mut heap)
 }
 
-/// Collects the generations up to that one, hands in the report, and tells how many requests for memory that took.
-fn asked_with_lists<'a>(
-    refusing: &'a Refusing<Global>,
-    heap: &mut Counting<'a>,
-    generation: u64,
-) -> Result<u64, Fail> {
-    let before = refusing.asked();
-    let report = collect_one(refusing, heap, generation)?;
-    heap.reuse(report);
-    Ok(refusing.asked().saturating_sub(before))
-}
-
 /// Asserts that lists that were handed in are used again: what is won and what is scanned grows twice or more from nothing to
 /// 60 entries.
 fn assert_lists_used(
@@ -123,22 +98,6 @@ fn blocks_given_up_are_the_next_ones(rt: HostRuntime) -> Result<(), Fail> {
     assert_spare_of_new(&rt, rt.alloc(), &refusing)?;
     assert_eq!(rt; refusing.asked(), refusing.returned());
     Ok(())
-}
-
-/// Two generations, of which the younger has so many steps, in large blocks.
-fn large_heap(refusing: &Refusing<Global>, steps: u64) -> Result<Counting<'_>, Fail> {
-    let sizes = Sizes {
-        block_words: 512,
-        blocks: 60_000,
-        mutators: 1,
-        nursery_blocks: 64,
-        generations: 2,
-        steps,
-    };
-    let Ok(config) = Config::new(sizes) else {
-        return Err(Fail::from("bad sizes"));
-    };
-    Ok(Heap::new(refusing, config)?)
 }
 
 /// A list of so many objects more in front of one.
@@ -247,33 +206,18 @@ fn a_heap_that_shrank_gives_memory_back(rt: HostRuntime) -> Result<(), Fail> {
     Ok(())
 }
 
-/// Objects of no more than a header, as many as asked for, with a root each.
-fn bare_objects<'a>(
-    alloc: Global,
-    refusing: &'a Refusing<Global>,
-    heap: &mut Counting<'a>,
-    count: u32,
-) -> Result<Vec<RootId>, Fail> {
-    let mut roots = Vec::new(alloc);
-    for _object in 0..count {
-        roots.push(allocated(refusing, heap, 0, 0)?)?;
-    }
-    Ok(roots)
-}
-
 /// Asserts that memory of cells that takes more than the blocks in use is given back, and asked for anew by one request, and that
-/// other is used again. The cells of 32,000 objects take 16,000 words, and the blocks of 14,400 and of the nursery 14,656. Of a
-/// worker's lists nearly half is used: they are kept.
+/// other is used again. 1,440 objects of a word fill 90 blocks of 16 words, and with the nursery's four that is 94 blocks of
+/// 1,504 words. A cell has four bytes: those of 3,200 objects take 1,600 words, and those of 1,440 take 720. Of a worker's lists
+/// a third or more is used: they are kept.
 fn assert_cells_given_back<'a>(
     rt: &impl Abort,
-    alloc: Global,
     refusing: &'a Refusing<Global>,
     heap: &mut Counting<'a>,
+    given_up: &[RootId],
 ) -> Result<(), Fail> {
-    let _kept = bare_objects(alloc, refusing, heap, 14_400)?;
-    let given_up = bare_objects(alloc, refusing, heap, 17_600)?;
     let _all = asked_with_lists(refusing, heap, 0)?;
-    release_all(heap, given_up.as_slice())?;
+    release_all(heap, given_up)?;
     let _shrank = asked_with_lists(refusing, heap, 0)?;
     // Every second collection asks for one more, so these two are not next to each other: what tells the first number of each block
     // (`bases` of `nursery`) grows from the number of the first one that is collected, and copies take low and high ones in turn.
@@ -284,89 +228,89 @@ fn assert_cells_given_back<'a>(
     Ok(())
 }
 
+/// Asserts that lists of which little is used are given back. Both grew to 3,200 entries, so together they have room for 6,400 or
+/// more, and 700 objects make 1,400 entries: three times that and 1,024 are 5,224. Each grows twice or more from nothing to 700.
+fn assert_lists_given_back<'a>(
+    rt: &impl Abort,
+    refusing: &'a Refusing<Global>,
+    heap: &mut Counting<'a>,
+    given_up: &[RootId],
+) -> Result<(), Fail> {
+    release_all(heap, given_up)?;
+    let _shrank = asked_with_lists(refusing, heap, 0)?;
+    let anew = asked_with_lists(refusing, heap, 0)?;
+    let again = asked_with_lists(refusing, heap, 0)?;
+    assert!(rt; again.saturating_add(4) <= anew, "{again} {anew}");
+    Ok(())
+}
+
+/// Asserts what a heap of 3,200 objects gives back where it shrinks to 1,440, and where it shrinks to 700.
+fn assert_shrinks_twice<'a>(
+    rt: &impl Abort,
+    alloc: Global,
+    refusing: &'a Refusing<Global>,
+    heap: &mut Counting<'a>,
+) -> Result<(), Fail> {
+    let _kept = bare_objects(alloc, refusing, heap, 700)?;
+    let later = bare_objects(alloc, refusing, heap, 740)?;
+    let first = bare_objects(alloc, refusing, heap, 1_760)?;
+    assert_cells_given_back(rt, refusing, heap, first.as_slice())?;
+    assert_lists_given_back(rt, refusing, heap, later.as_slice())
+}
+
 /// The same of a new heap.
-fn assert_cells_given_back_by_new(
+fn assert_new_shrinks_twice(
     rt: &impl Abort,
     alloc: Global,
     refusing: &Refusing<Global>,
 ) -> Result<(), Fail> {
-    let mut heap = heap_of(refusing, 16, 16, 5_000)?;
-    assert_cells_given_back(rt, alloc, refusing, &mut heap)
+    let mut heap = heap_of(refusing, 16, 4, 500)?;
+    assert_shrinks_twice(rt, alloc, refusing, &mut heap)
 }
 
 #[test]
-fn cells_of_a_heap_that_shrank_are_given_back(rt: HostRuntime) -> Result<(), Fail> {
+fn cells_and_lists_of_a_heap_that_shrank_are_given_back(rt: HostRuntime) -> Result<(), Fail> {
     let refusing = Refusing::new(rt.alloc(), NONE);
-    assert_cells_given_back_by_new(&rt, rt.alloc(), &refusing)?;
+    assert_new_shrinks_twice(&rt, rt.alloc(), &refusing)?;
     assert_eq!(rt; refusing.asked(), refusing.returned());
     Ok(())
 }
 
-/// Objects of one pointer, as many as asked for, with a root each.
-fn with_a_pointer<'a>(
-    alloc: Global,
-    heap: &mut Counting<'a>,
-    count: u32,
-) -> Result<Vec<RootId>, Fail> {
-    let mut roots = Vec::new(alloc);
-    for _object in 0..count {
-        roots.push(heap.allocate(0, 1, 2)?)?;
-    }
-    Ok(roots)
-}
-
-/// Has each object but the first lead to the one before it.
-fn link<'a>(heap: &mut Counting<'a>, roots: &[RootId]) -> Result<(), Fail> {
-    for at in 1..roots.len() {
-        heap.store(roots[at], 0, Some(roots[at - 1]))?;
-    }
-    Ok(())
-}
-
-/// Collects all beside an object that was just made, and tells how many requests for memory that took.
-fn asked_beside_young<'a>(
-    refusing: &'a Refusing<Global>,
-    heap: &mut Counting<'a>,
-) -> Result<u64, Fail> {
-    let _young = heap.allocate(0, 0, 1)?;
-    asked_with_lists(refusing, heap, 1)
-}
-
-/// Asserts that a collection asks for no memory to remember old objects that lead to each other.
-fn assert_none_noted<'a>(
+/// Asserts that lists with little room are kept, however little of it is used. Both grew from 16 entries, a block's, to 300 by
+/// doubling, so they have room for 1,024 together, and 100 objects make 200 entries: three times that are 600. Lists that grow
+/// anew to 100 entries have room for 256, and would be kept for the collection after it.
+fn assert_few_kept<'a>(
     rt: &impl Abort,
     alloc: Global,
     refusing: &'a Refusing<Global>,
     heap: &mut Counting<'a>,
 ) -> Result<(), Fail> {
-    let roots = with_a_pointer(alloc, heap, 1_000)?;
-    for _collection in 0..3 {
-        let _anew = asked_beside_young(refusing, heap)?;
-    }
-    let apart = asked_beside_young(refusing, heap)?;
-    link(heap, roots.as_slice())?;
-    let linked = asked_beside_young(refusing, heap)?;
-    assert!(rt; linked <= apart, "{linked} {apart}");
+    let _kept = bare_objects(alloc, refusing, heap, 100)?;
+    let given_up = bare_objects(alloc, refusing, heap, 200)?;
+    let _all = asked_with_lists(refusing, heap, 0)?;
+    release_all(heap, given_up.as_slice())?;
+    let _shrank = asked_with_lists(refusing, heap, 0)?;
+    let next = asked_with_lists(refusing, heap, 0)?;
+    let after = asked_with_lists(refusing, heap, 0)?;
+    // Every second collection asks for one more.
+    assert!(rt; next <= after.saturating_add(1), "{next} {after}");
     Ok(())
 }
 
-/// The same of a new heap. With one step the young object becomes old too, with two it stays young.
-fn assert_none_noted_in_new(
+/// The same of a new heap.
+fn assert_few_kept_by_new(
     rt: &impl Abort,
     alloc: Global,
     refusing: &Refusing<Global>,
-    steps: u64,
 ) -> Result<(), Fail> {
-    let mut heap = large_heap(refusing, steps)?;
-    assert_none_noted(rt, alloc, refusing, &mut heap)
+    let mut heap = heap_of(refusing, 16, 32, 500)?;
+    assert_few_kept(rt, alloc, refusing, &mut heap)
 }
 
 #[test]
-fn old_objects_that_lead_to_old_ones_are_not_noted(rt: HostRuntime) -> Result<(), Fail> {
-    for steps in 1..3 {
-        let refusing = Refusing::new(rt.alloc(), NONE);
-        assert_none_noted_in_new(&rt, rt.alloc(), &refusing, steps)?;
-        assert_eq!(rt; refusing.asked(), refusing.returned());
-    }
+fn lists_with_little_room_are_kept(rt: HostRuntime) -> Result<(), Fail> {
+    let refusing = Refusing::new(rt.alloc(), NONE);
+    assert_few_kept_by_new(&rt, rt.alloc(), &refusing)?;
+    assert_eq!(rt; refusing.asked(), refusing.returned());
     Ok(())
 }

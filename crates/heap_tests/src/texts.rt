@@ -3,6 +3,7 @@ use heap::{
     AllocateError, BadConfig, Config, FieldError, LoadError, MakeError, NoRoot, OpenError, Sizes,
     StoreError,
 };
+use nursery::NurseryFull;
 use one_worker::CollectError;
 use std::alloc::Global;
 use std::fmt::{Display, Write};
@@ -65,7 +66,8 @@ fn errors_of_making_and_allocating(rt: HostRuntime) -> Result<(), Fail> {
     ];
     assert_lines(&rt, rt.alloc(), &allocating, ALLOCATING)?;
     let config = [BadConfig];
-    assert_lines(&rt, rt.alloc(), &config, "a size is out of its range\n")
+    assert_lines(&rt, rt.alloc(), &config, "a size is out of its range\n")?;
+    assert_lines(&rt, rt.alloc(), &[NurseryFull], "the nursery is full\n")
 }
 
 const READING: &str = "no such root
