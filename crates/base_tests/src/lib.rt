@@ -13,3 +13,5 @@ mod reference_tests;
 #[cfg(test)]
 mod remembered_tests;
 mod sharing_tests;
+#[cfg(test)]
+mod text_tests;
