@@ -1,11 +1,12 @@
-//! The calls below the program: a collection's line, runs, and faults as text.
+//! The calls below the program: a collection's line, runs, and faults and errors as text.
 ghost use Rattle.std.specs.Prelude.{◌≡◌, IfOk};
 
 use crate::program::{FIRST_OUTPUT, FIRST_TRACE, text_of};
 use forwarding::OpenGate;
 use heap::{BadConfig, Config, Sizes};
-use heap_text::{Cause, Counted, write_collection};
+use heap_text::{Cause, Counted, ReadFailed, WriteError, WriteFailed, write_collection};
 use std::alloc::{AllocError, Global};
+use std::fmt::Display;
 use std::process::Abort;
 use std::test::Fail;
 use trace_driver::{CellKind, CountedReader, Fault, RunConfig, run, run_one};
@@ -74,6 +75,18 @@ fn run_without_words(rt: HostRuntime) -> Result<(), Fail> {
     Ok(())
 }
 
+/// Asserts that a fault or an error reads so.
+fn assert_reads<E: Display>(
+    rt: &impl Abort,
+    alloc: Global,
+    error: &E,
+    told: &str,
+) -> Result<(), AllocError> {
+    let text = format!(in alloc; "{error}")?;
+    assert_eq!(rt; text.as_str(), told);
+    Ok(())
+}
+
 /// Asserts that a fault reads so, and has this status.
 fn assert_told(
     rt: &impl Abort,
@@ -83,9 +96,7 @@ fn assert_told(
     status: u8,
 ) -> Result<(), AllocError> {
     assert_eq!(rt; fault.status(), status, "{told}");
-    let text = format!(in alloc; "{fault}")?;
-    assert_eq!(rt; text.as_str(), told);
-    Ok(())
+    assert_reads(rt, alloc, &fault, told)
 }
 
 #[test]
@@ -93,6 +104,9 @@ fn faults_as_text(rt: HostRuntime) -> Result<(), AllocError> {
     for (fault, told, status) in [
         (Fault::HeapFull(Some(6)), "line 6: heap full", 1),
         (Fault::NoMemory(None), "no memory", 1),
+        (Fault::NoMemory(Some(3)), "line 3: no memory", 1),
+        (Fault::ReadFailed, "read failed", 4),
+        (Fault::WriteFailed, "write failed", 4),
         (Fault::Unsettled(7), "line 7: cells unsettled", 1),
         (
             Fault::BadTrace(5, Kind::NoGeneration),
@@ -103,6 +117,14 @@ fn faults_as_text(rt: HostRuntime) -> Result<(), AllocError> {
         assert_told(&rt, rt.alloc(), fault, told, status)?;
     }
     Ok(())
+}
+
+#[test]
+fn errors_of_streams_as_text(rt: HostRuntime) -> Result<(), AllocError> {
+    assert_reads(&rt, rt.alloc(), &WriteError::NoMemory, "no memory")?;
+    assert_reads(&rt, rt.alloc(), &WriteError::WriteFailed, "write failed")?;
+    assert_reads(&rt, rt.alloc(), &WriteFailed, "write failed")?;
+    assert_reads(&rt, rt.alloc(), &ReadFailed, "read failed")
 }
 
 #[test]

@@ -294,6 +294,18 @@ status 3
 error: invalid value 'x' for '--threads <NUMBER>': invalid digit found in string
 
 For more information, try '--help'.
+== no command of the program
+gctrace
+status 3
+-- reads
+-- writes
+-- tells
+error: 'gctrace' requires a subcommand but one was not provided
+  [subcommands: run, replay, help]
+
+Usage: gctrace <COMMAND>
+
+For more information, try '--help'.
 == mistaken command
 gctrace walk
 status 3
@@ -305,7 +317,7 @@ error: unrecognized subcommand 'walk'
 Usage: gctrace <COMMAND>
 
 For more information, try '--help'.
-== text of help
+== text of help of run
 gctrace run --help
 status 0
 -- reads
@@ -323,6 +335,74 @@ Options:
       --nursery <NUMBER>      Blocks of each mutator's nursery: 1 to 64 [default: 4]
       --blocks <NUMBER>       Blocks in all: 1 to 65535 [default: 4096]
       --cells <KIND>          Kind of forwarding cells that threads share [default: word] [possible values: box, word]
+  -h, --help                  Print help
+
+Examples:
+  gctrace run < trace
+  gctrace run --generations 1 --block-words 64 --blocks 100 < trace
+  gctrace run --threads 4 --cells box < trace
+  gctrace replay --threads 2 < trace-with-schedules
+
+Status:
+  0  each line was carried out
+  1  the heap is full, memory is wanting, or cells are not settled
+  2  a line is faulty
+  3  the words are mistaken, or an option is out of range
+  4  a read or a write failed
+
+The lines of traces and schedules are described in docs/FORMATS.md.
+-- tells
+== text of help of the program
+gctrace --help
+status 0
+-- reads
+-- writes
+Carries out traces of heap commands, in a heap that is collected by copying.
+A trace comes from standard input. What it writes goes to standard output, and a fault to standard error.
+
+Usage: gctrace <COMMAND>
+
+Commands:
+  run     Carries out a trace. A nursery that is full is collected by itself.
+  replay  Carries out a trace in which each collection has a schedule, up to its line `commit`.
+  help    Print this message or the help of the given subcommand(s)
+
+Options:
+  -h, --help     Print help
+  -V, --version  Print version
+
+Examples:
+  gctrace run < trace
+  gctrace run --generations 1 --block-words 64 --blocks 100 < trace
+  gctrace run --threads 4 --cells box < trace
+  gctrace replay --threads 2 < trace-with-schedules
+
+Status:
+  0  each line was carried out
+  1  the heap is full, memory is wanting, or cells are not settled
+  2  a line is faulty
+  3  the words are mistaken, or an option is out of range
+  4  a read or a write failed
+
+The lines of traces and schedules are described in docs/FORMATS.md.
+-- tells
+== text of help of replay
+gctrace replay --help
+status 0
+-- reads
+-- writes
+Carries out a trace in which each collection has a schedule, up to its line `commit`.
+
+Usage: gctrace replay [OPTIONS]
+
+Options:
+      --threads <NUMBER>      Workers of a collection, in turn: 1 to 16 [default: 1]
+      --mutators <NUMBER>     Mutators: 1 to 16 [default: 1]
+      --generations <NUMBER>  Generations: 1 to 4 [default: 2]
+      --steps <NUMBER>        Steps of each generation but the oldest: 1 to 4 [default: 2]
+      --block-words <NUMBER>  Words of a block: 16 to 512, a multiple of 4 [default: 512]
+      --nursery <NUMBER>      Blocks of each mutator's nursery: 1 to 64 [default: 4]
+      --blocks <NUMBER>       Blocks in all: 1 to 65535 [default: 4096]
   -h, --help                  Print help
 
 Examples:

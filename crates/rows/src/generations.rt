@@ -66,6 +66,32 @@ root a #1
 collected 1: 0 kept, 0 freed
 collected 2: 0 kept, 2 freed
 -- tells
+== as many generations and steps as there may be
+gctrace run --generations 4 --steps 4
+status 0
+-- reads
+new a 0 0 0
+collect 3
+census
+-- writes
+collected 3: 1 kept, 0 freed
+gen 0 step 0: 0 objects 0 words
+gen 0 step 1: 1 objects 1 words
+gen 0 step 2: 0 objects 0 words
+gen 0 step 3: 0 objects 0 words
+gen 1 step 0: 0 objects 0 words
+gen 1 step 1: 0 objects 0 words
+gen 1 step 2: 0 objects 0 words
+gen 1 step 3: 0 objects 0 words
+gen 2 step 0: 0 objects 0 words
+gen 2 step 1: 0 objects 0 words
+gen 2 step 2: 0 objects 0 words
+gen 2 step 3: 0 objects 0 words
+gen 3 step 0: 0 objects 0 words
+large: 0 objects 0 words
+roots: 1
+remembered: 0
+-- tells
 == old object points to a young one
 gctrace run --block-words 64
 status 0

@@ -13,14 +13,16 @@ const HASHES: [u8; 4097] = [b'#'; 4097];
 #[derive(Clone, Copy)]
 struct Row {
     words: &'static str,
-    /// How many bytes of a comment come first.
+    /// What comes before a comment.
+    before: &'static [u8],
+    /// How many bytes of a comment come then.
     hashes: usize,
     input: &'static [u8],
     writes: &'static str,
     tells: &'static str,
 }
 
-/// A row of the table.
+/// A row whose comment comes first.
 fn input_row(
     words: &'static str,
     hashes: usize,
@@ -30,10 +32,24 @@ fn input_row(
 ) -> Row {
     Row {
         words,
+        before: b"",
         hashes,
         input,
         writes,
         tells,
+    }
+}
+
+/// A row whose comment comes in a schedule.
+fn schedule_row(
+    hashes: usize,
+    input: &'static [u8],
+    writes: &'static str,
+    tells: &'static str,
+) -> Row {
+    Row {
+        before: b"collect 0\n",
+        ..input_row(REPLAY, hashes, input, writes, tells)
     }
 }
 
@@ -51,8 +67,12 @@ roots: 0
 remembered: 0
 ";
 
+const NOTHING_COLLECTED: &str = "collected 0: 0 kept, 0 freed
+worker 0: 0 won, 0 scanned
+";
+
 /// What is tried.
-fn table() -> [Row; 16] {
+fn table() -> [Row; 18] {
     [
         input_row(RUN, 4096, b"\n", "", ""),
         input_row(RUN, 4097, b"\n", "", TOO_LONG),
@@ -148,6 +168,8 @@ fn table() -> [Row; 16] {
             "",
             "gctrace: line 2: unfinished line\n",
         ),
+        schedule_row(4096, b"\nfinish\ncommit\n", NOTHING_COLLECTED, ""),
+        schedule_row(4097, b"\n", "", "gctrace: line 2: line too long\n"),
     ]
 }
 
@@ -156,7 +178,8 @@ fn assert_row<R: Threads + Wait + Sync + AllocGlobal + RandomSource + Abort>(
     rt: &R,
     row: Row,
 ) -> Result<(), AllocError> {
-    let mut input = Vec::from_slice(rt.alloc(), HASHES.split_at(row.hashes.min(4097)).0)?;
+    let mut input = Vec::from_slice(rt.alloc(), row.before)?;
+    input.extend_from_slice(HASHES.split_at(row.hashes.min(4097)).0)?;
     input.extend_from_slice(row.input)?;
     let left = Left {
         status: if row.tells.is_empty() { 0 } else { 2 },

@@ -94,6 +94,7 @@ fn carried_out_by<R: Threads + Wait + Sync + AllocGlobal>(
     };
     let writer = PieceWriter {
         held: Vec::new(rt.alloc()),
+        piece: 7,
         left: MANY,
         failure: Failure::Error,
     };

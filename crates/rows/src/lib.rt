@@ -59,6 +59,8 @@ mod replays;
 #[cfg(test)]
 mod reports;
 #[cfg(test)]
+mod requests;
+#[cfg(test)]
 mod streams;
 #[cfg(test)]
 mod table;

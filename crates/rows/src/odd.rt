@@ -189,6 +189,8 @@ gctrace run --threads=-1
 gctrace run --blocks=18446744073709551616
 gctrace run --cells=words
 gctrace run --steps
+gctrace run --threads 1 --threads 1
+gctrace run --frob 1
 gctrace run trace
 ";
 

@@ -1,8 +1,9 @@
-//! A reader and a writer that go on in small pieces, and fail once so many calls were made.
+//! A reader and a writer that go on in small pieces, and fail once, after so many calls. A call after the failed one goes well
+//! again, so that a body which tries a second time is told apart.
 use std::io;
 use std::io::{Read, Write};
 
-/// Gives at most so many bytes a read, and fails once so many reads were made.
+/// Gives at most so many bytes a read, and fails once, after so many reads.
 #[derive(Drop)]
 pub(crate) struct PieceReader<'a> {
     pub(crate) bytes: &'a [u8],
@@ -13,6 +14,7 @@ pub(crate) struct PieceReader<'a> {
 impl Read for PieceReader<'_> {
     fn read(&mut self, buffer: &mut [u8]) -> io::Result<usize> {
         if self.left == 0 {
+            self.left = u64::MAX;
             return Err(io::Error::from(io::ErrorKind::Other));
         }
         self.left -= 1;
@@ -31,24 +33,26 @@ pub(crate) enum Failure {
     TakesNothing,
 }
 
-/// Takes at most seven bytes a write, and fails once so many writes were made.
+/// Takes at most so many bytes a write, and fails once, after so many writes.
 #[derive(Drop)]
 pub(crate) struct PieceWriter {
     pub(crate) held: Vec<u8>,
+    pub(crate) piece: usize,
     pub(crate) left: u64,
     pub(crate) failure: Failure,
 }
 
 impl Write for PieceWriter {
-    fn write(&mut self, piece: &[u8]) -> io::Result<usize> {
+    fn write(&mut self, bytes: &[u8]) -> io::Result<usize> {
         if self.left == 0 {
+            self.left = u64::MAX;
             return match self.failure {
                 Failure::Error => Err(io::Error::from(io::ErrorKind::Other)),
                 Failure::TakesNothing => Ok(0),
             };
         }
         self.left -= 1;
-        let (front, _) = piece.split_at(piece.len().min(7));
+        let (front, _) = bytes.split_at(bytes.len().min(self.piece));
         self.held.extend_from_slice(front)?;
         Ok(front.len())
     }

@@ -29,6 +29,7 @@ fn reader_of(bytes: &[u8], reads: u64) -> PieceReader<'_> {
 fn writer_of(alloc: Global, writes: u64, failure: Failure) -> PieceWriter {
     PieceWriter {
         held: Vec::new(alloc),
+        piece: 20,
         left: writes,
         failure,
     }
@@ -242,15 +243,13 @@ fn each_read_of_a_piece_fails(rt: HostRuntime) -> Result<(), Fail> {
 
 #[test]
 fn each_write_of_pieces_fails(rt: HostRuntime) -> Result<(), Fail> {
-    // A write takes at most seven of 116 bytes, and of the 184 of the replay.
+    // The line of a collection is handed over whole, and so are the lines of its workers. Of what is left of it a write takes
+    // twenty bytes: two writes for each of four lines of 29 bytes; two for the 30 of the replay, and eight for the 154 of its
+    // workers.
     for failure in [Failure::Error, Failure::TakesNothing] {
         let alone = fail_each(&rt, &dead_parent(Task::Run)?, Part::Write(failure))?;
-        assert!(rt; 17 <= alone && alone < MANY, "{failure:?} failed: {alone}");
         let replayed = fail_each(&rt, &change_hands()?, Part::Write(failure))?;
-        assert!(rt;
-            27 <= replayed && replayed < MANY,
-            "{failure:?} failed: {replayed}"
-        );
+        assert_eq!(rt; (alone, replayed), (8, 10), "{failure:?}");
     }
     Ok(())
 }

@@ -59,6 +59,7 @@ fn writer_of(alloc: Global, part: Part, calls: u64) -> PieceWriter {
     };
     PieceWriter {
         held: Vec::new(alloc),
+        piece: 20,
         left,
         failure,
     }
@@ -72,6 +73,7 @@ fn errors_of(alloc: Global, part: Part, calls: u64) -> PieceWriter {
     };
     PieceWriter {
         held: Vec::new(alloc),
+        piece: 7,
         left,
         failure: Failure::Error,
     }
@@ -164,13 +166,13 @@ fn each_read_fails(rt: HostRuntime) {
 
 #[test]
 fn each_write_fails(rt: HostRuntime) {
-    // A write takes at most seven of 109 bytes, and of a fault's 30.
-    for (part, least) in [
-        (Part::Write(Failure::Error), 16),
-        (Part::Write(Failure::TakesNothing), 16),
-        (Part::Tell, 5),
+    // The line of a collection is handed over whole, and so is a census. Of what is left of it a write takes twenty bytes: two
+    // writes for 29, and four for 80. Of a fault's line it takes seven, and the six parts have 9, 5, 1, 2, 12 bytes and 1.
+    for (part, wanted) in [
+        (Part::Write(Failure::Error), 6),
+        (Part::Write(Failure::TakesNothing), 6),
+        (Part::Tell, 8),
     ] {
-        let calls = fail_each(&rt, part);
-        assert!(rt; least <= calls && calls < MANY, "{part:?} failed: {calls}");
+        assert_eq!(rt; fail_each(&rt, part), wanted, "{part:?}");
     }
 }

@@ -162,6 +162,25 @@ fn carried_out_at<R: Threads + Wait + Sync + AllocGlobal>(
     }
 }
 
+/// How many requests for memory a run makes that ends well, where none is refused.
+pub(crate) fn asked_by<R: Threads + Wait + Sync + AllocGlobal + Abort>(
+    rt: &R,
+    task: Task,
+    sizes: Sizes,
+    input: &str,
+) -> Result<u64, BadConfig> {
+    let trial = Trial {
+        name: "requests",
+        trace: "",
+        task,
+        sizes,
+        piece: usize::MAX,
+    };
+    let ended = carried_out(rt, &trial, input, sizes.blocks, u64::MAX)?;
+    assert_eq!(rt; ended.result, Ok(()));
+    Ok(ended.asked)
+}
+
 /// Whether a refused request is told as what it is, after the output that belongs to its line, and all else was given back.
 fn is_refused(alloc: Global, trace: &str, ended: &Ended) -> Result<bool, AllocError> {
     match ended.result {

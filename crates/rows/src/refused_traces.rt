@@ -23,7 +23,7 @@ census
 > roots: 5
 > remembered: 0
 get b c 0
-new a-longer-name.of_32-bytes...... 0 0 3
+new a-longer-name.of_32-bytes....... 0 0 3
 collect 0
 > collected 0: 6 kept, 0 freed
 census
@@ -33,7 +33,7 @@ census
 > remembered: 0
 heap
 > root a #1
-> root a-longer-name.of_32-bytes...... #2
+> root a-longer-name.of_32-bytes....... #2
 > root b #1
 > root c #3
 > root d #4
@@ -79,11 +79,11 @@ set a 0 b
 drop b
 drop c
 new e 1 2 1
-new a-longer-name.of_32-bytes...... 0 0 3
+new a-longer-name.of_32-bytes....... 0 0 3
 > auto 0: 4 kept, 1 freed
-set a 0 a-longer-name.of_32-bytes......
+set a 0 a-longer-name.of_32-bytes.......
 set e 1 a
-drop a-longer-name.of_32-bytes......
+drop a-longer-name.of_32-bytes.......
 collect 1
 > collected 1: 4 kept, 1 freed
 census
@@ -139,13 +139,13 @@ set a 0 b
 drop b
 drop c
 new e 1 2 1
-new a-longer-name.of_32-bytes...... 0 0 3
+new a-longer-name.of_32-bytes....... 0 0 3
 > auto 0: 4 kept, 1 freed
 > worker 0: 3 won, 3 scanned
 > worker 1: 1 won, 1 scanned
-set a 0 a-longer-name.of_32-bytes......
+set a 0 a-longer-name.of_32-bytes.......
 set e 1 a
-drop a-longer-name.of_32-bytes......
+drop a-longer-name.of_32-bytes.......
 collect 1
 look 1
 finish

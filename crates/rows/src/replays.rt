@@ -259,6 +259,59 @@ worker 0: 10 won, 6 scanned
 worker 1: 0 won, 4 scanned
 block 0.0: 4 objects, taken by 1
 -- tells
+== a worker has a block for each of two destinations, and owns first the second
+gctrace replay --block-words 64
+status 0
+-- reads
+new a 0 0 0
+collect 0
+finish
+commit
+new b 0 0 1
+collect 0
+look 0
+race 0
+look 0
+race 0
+own 0 1
+scan 0
+own 0 0
+scan 0
+idle 0
+end 0
+commit
+-- writes
+collected 0: 1 kept, 0 freed
+worker 0: 1 won, 1 scanned
+collected 0: 2 kept, 0 freed
+worker 0: 2 won, 2 scanned
+-- tells
+== of two destinations there is no third
+gctrace replay --block-words 64
+status 2
+-- reads
+new a 0 0 0
+collect 0
+finish
+commit
+new b 0 0 1
+collect 0
+look 0
+race 0
+look 0
+race 0
+own 0 2
+scan 0
+own 0 0
+scan 0
+idle 0
+end 0
+commit
+-- writes
+collected 0: 1 kept, 0 freed
+worker 0: 1 won, 1 scanned
+-- tells
+gctrace: line 11: event not lawful
 == both workers propose a copy: worker 1 wins, and worker 0 takes its own back
 gctrace replay --threads 2 --generations 1 --block-words 64 --nursery 1 --blocks 3
 status 0

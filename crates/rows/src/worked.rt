@@ -115,6 +115,16 @@ collected 0: 0 kept, 1 freed
 collected 0: 0 kept, 0 freed
 collected 0: 1 kept, 0 freed
 -- tells
+== name of 32 bytes
+gctrace run
+status 0
+-- reads
+new aaaaaaaaaaaaaaaaaaaaaaaaaaaaaaaa 0 0 0
+heap
+-- writes
+root aaaaaaaaaaaaaaaaaaaaaaaaaaaaaaaa #1
+#1 gen 0 step 0 ptrs [] words []
+-- tells
 == bad configuration
 gctrace run --block-words 18
 status 3

@@ -71,56 +71,88 @@ impl Gate for Meeting {
     }
 }
 
-/// Holds worker 0 before its first step after its first export until worker 1 comes to a look.
+/// Which of so many workers hands a block to which.
+#[derive(Clone, Copy, Debug)]
+pub(crate) struct Hands {
+    pub(crate) workers: u32,
+    pub(crate) from: u32,
+    pub(crate) to: u32,
+}
+
+/// Holds one worker before its first step after its first export until another comes to a look at a block that it took. A third
+/// worker takes nothing before.
 #[derive(Drop)]
 pub(crate) struct Handover {
+    hands: Hands,
     exported: AtomicBool,
     held: AtomicBool,
+    sought: AtomicBool,
     looked: AtomicBool,
     late: AtomicBool,
-    races: AtomicU64,
+    races: [AtomicU64; 3],
 }
 
 impl Handover {
-    pub(crate) fn new() -> Handover {
+    pub(crate) fn new(hands: Hands) -> Handover {
         Handover {
+            hands,
             exported: AtomicBool::new(false),
             held: AtomicBool::new(false),
+            sought: AtomicBool::new(false),
             looked: AtomicBool::new(false),
             late: AtomicBool::new(false),
-            races: AtomicU64::new(0),
+            races: [AtomicU64::new(0), AtomicU64::new(0), AtomicU64::new(0)],
         }
     }
 
-    /// Whether worker 0 was held and worker 1 came, not too late.
+    /// Whether the one worker was held and the other came, not too late.
     pub(crate) fn handed_over(&self) -> bool {
         self.held.load(Ordering::SeqCst)
             && self.looked.load(Ordering::SeqCst)
             && !self.late.load(Ordering::SeqCst)
     }
 
-    /// How many races there were.
-    pub(crate) fn races(&self) -> u64 {
-        self.races.load(Ordering::SeqCst)
+    /// How many races worker `t` ran.
+    pub(crate) fn races_of(&self, t: usize) -> u64 {
+        match self.races.get(t) {
+            Some(races) => races.load(Ordering::SeqCst),
+            None => 0,
+        }
+    }
+
+    /// What its first slot leads to has no pointers, so a look after it sought a block is one at a block that it took.
+    fn before_taker(&self, step: StepKind) {
+        if step == StepKind::Take {
+            self.sought.store(true, Ordering::SeqCst);
+        }
+        if step == StepKind::Look && self.sought.load(Ordering::SeqCst) {
+            self.looked.store(true, Ordering::SeqCst);
+        }
+    }
+
+    fn before_exporter(&self, step: StepKind) {
+        if self.exported.load(Ordering::SeqCst) && !self.held.swap(true, Ordering::SeqCst) {
+            wait_for(&self.looked, &self.late);
+        }
+        if step == StepKind::Export {
+            self.exported.store(true, Ordering::SeqCst);
+        }
     }
 }
 
 impl Gate for Handover {
     fn before(&self, worker: u32, step: StepKind) {
         if step == StepKind::Race {
-            self.races.fetch_add(1, Ordering::SeqCst);
-        }
-        if worker == 1 {
-            if step == StepKind::Look {
-                self.looked.store(true, Ordering::SeqCst);
+            if let Some(races) = self.races.get(worker as usize) {
+                races.fetch_add(1, Ordering::SeqCst);
             }
-            return;
         }
-        if self.exported.load(Ordering::SeqCst) && !self.held.swap(true, Ordering::SeqCst) {
+        if worker == self.hands.to {
+            self.before_taker(step);
+        } else if worker == self.hands.from {
+            self.before_exporter(step);
+        } else if step == StepKind::Take {
             wait_for(&self.looked, &self.late);
-        }
-        if step == StepKind::Export {
-            self.exported.store(true, Ordering::SeqCst);
         }
     }
 }

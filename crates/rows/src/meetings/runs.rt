@@ -1,4 +1,4 @@
-//! A run of a trace: the two workers of its collection meet.
+//! Runs of a trace: the two workers of its collection meet.
 use crate::meetings::gates::Meeting;
 use heap::{Config, Sizes};
 use heap_text::Counted;
@@ -8,38 +8,78 @@ use std::test::Fail;
 use std::thread::Threads;
 use trace_driver::{CellKind, CountedReader, RunConfig, run};
 
-const TRACE: &str = "new a 0 0 0
+/// A trace with one collection, of objects with a name each.
+#[derive(Clone, Copy)]
+struct Met {
+    nursery_blocks: u64,
+    trace: &'static str,
+    /// How many objects are copied, each after one race.
+    races: u64,
+    printed: &'static str,
+}
+
+/// A collection that is asked for.
+const ASKED_FOR: Met = Met {
+    nursery_blocks: 4,
+    trace: "new a 0 0 0
 new b 0 0 0
 collect 0
-";
+",
+    races: 2,
+    printed: "collected 0: 2 kept, 0 freed
+",
+};
+
+/// Four objects fill the nursery, which is collected by itself before the fifth.
+const BY_ITSELF: Met = Met {
+    nursery_blocks: 1,
+    trace: "new a 0 0 15
+new b 0 0 15
+new c 0 0 15
+new d 0 0 15
+new e 0 0 15
+",
+    races: 4,
+    printed: "auto 0: 4 kept, 0 freed
+",
+};
 
 /// What a run with two workers prints.
 fn printed<R: Threads + Wait + Sync + AllocGlobal>(
     rt: &R,
+    met: Met,
     kind: CellKind,
     gate: &Meeting,
 ) -> Result<Vec<u8>, Fail> {
-    let config = RunConfig::new(Config::new(Sizes::default())?, 2, kind)?;
-    let mut reader = CountedReader::new(TRACE.as_bytes());
+    let sizes = Sizes {
+        block_words: 64,
+        nursery_blocks: met.nursery_blocks,
+        ..Sizes::default()
+    };
+    let config = RunConfig::new(Config::new(sizes)?, 2, kind)?;
+    let mut reader = CountedReader::new(met.trace.as_bytes());
     let mut writer = Counted::new(Vec::new(rt.alloc()));
     run(rt, rt.alloc(), &mut reader, &mut writer, config, gate)?;
     Ok(writer.inner)
 }
 
 /// Whether two workers meet before their first races, and the run prints what it is to print.
-fn meet<R: Threads + Wait + Sync + AllocGlobal>(rt: &R, kind: CellKind) -> Result<bool, Fail> {
+fn meet<R: Threads + Wait + Sync + AllocGlobal>(
+    rt: &R,
+    met: Met,
+    kind: CellKind,
+) -> Result<bool, Fail> {
     let gate = Meeting::new();
-    let text = printed(rt, kind, &gate)?;
-    Ok(
-        gate.met()
-            && gate.races() == 2
-            && text.as_slice() == b"collected 0: 2 kept, 0 freed\n".as_slice(),
-    )
+    let text = printed(rt, met, kind, &gate)?;
+    Ok(gate.met() && gate.races() == met.races && text.as_slice() == met.printed.as_bytes())
 }
 
 #[test]
 fn two_workers_of_a_run_meet(rt: HostRuntime) -> Result<(), Fail> {
-    assert!(&rt; meet(&rt, CellKind::Word)?, "words");
-    assert!(&rt; meet(&rt, CellKind::Box)?, "boxes");
+    for met in [ASKED_FOR, BY_ITSELF] {
+        let printed = met.printed;
+        assert!(&rt; meet(&rt, met, CellKind::Word)?, "words, {printed}");
+        assert!(&rt; meet(&rt, met, CellKind::Box)?, "boxes, {printed}");
+    }
     Ok(())
 }

@@ -1,5 +1,5 @@
 //! Workers overlap, and share blocks: gates hold some of them until others have come.
-use crate::meetings::gates::{Handover, Meeting};
+use crate::meetings::gates::{Handover, Hands, Meeting};
 use collector::{CellKind, collect, collect_one};
 use heap::{Config, Heap, Report, RootId, Sizes};
 use heap_text::{Counted, Name, write_heap};
@@ -69,13 +69,17 @@ fn add_ring(heap: &mut Heap) -> Result<RootId, Fail> {
     Ok(large)
 }
 
-/// A heap with such a ring, and the root of its large object.
-fn ring(alloc: Global) -> Result<(Heap, RootId), Fail> {
+/// A heap with so many objects without pointers, a root for each, and then such a ring, with the root of its large object. Roots are
+/// dealt to workers in turn, so the ring's goes to the worker of that number.
+fn ring_behind(alloc: Global, others: u32) -> Result<(Heap, RootId), Fail> {
     let sizes = Sizes {
         block_words: 16,
         ..Sizes::default()
     };
     let mut heap = Heap::new(alloc, Config::new(sizes)?)?;
+    for _other in 0..others {
+        let _root = heap.allocate(0, 0, 0)?;
+    }
     let large = add_ring(&mut heap)?;
     Ok((heap, large))
 }
@@ -94,69 +98,109 @@ fn text_of(alloc: Global, heap: &Heap, root: RootId) -> Result<Vec<u8>, Fail> {
     Ok(writer.inner)
 }
 
-/// Whether a delivery of worker 0 names worker 1 as its taker.
-fn handed_to_the_other(report: &Report) -> bool {
+/// Whether a block went from the one worker to the other.
+fn handed_on(report: &Report, hands: Hands) -> bool {
     for delivery in report.deliveries.iter() {
-        if delivery.exporter == 0 && delivery.taker == 1 {
+        if delivery.exporter == hands.from && delivery.taker == hands.to {
             return true;
         }
     }
     false
 }
 
-/// Collects by two workers at the gate. How many objects they won, and whether worker 1 took a block of worker 0.
+/// How many objects the workers won, if none won more than it ran races for.
+fn won_by_races(report: &Report, gate: &Handover) -> Option<u64> {
+    let mut won = 0_u64;
+    for t in 0..report.workers.len() {
+        let own = won_by(report, t);
+        if own > gate.races_of(t) {
+            return None;
+        }
+        won = won.saturating_add(own);
+    }
+    Some(won)
+}
+
+/// Collects at the gate. How many objects the workers won, and whether a block was handed on.
 fn handed<R: Threads + Wait + Sync + AllocGlobal>(
     rt: &R,
     heap: &mut Heap,
     kind: CellKind,
+    hands: Hands,
     gate: &Handover,
-) -> Result<(u64, bool), Fail> {
-    let report = collect(rt, rt.alloc(), heap, 0, 2, kind, gate)?;
-    let won = won_by(&report, 0).saturating_add(won_by(&report, 1));
-    Ok((won, handed_to_the_other(&report)))
+) -> Result<(Option<u64>, bool), Fail> {
+    let report = collect(rt, rt.alloc(), heap, 0, hands.workers, kind, gate)?;
+    Ok((won_by_races(&report, gate), handed_on(&report, hands)))
 }
 
 /// What one worker leaves of the ring.
-fn left_by_one(alloc: Global) -> Result<Vec<u8>, Fail> {
-    let (mut heap, large) = ring(alloc)?;
+fn left_by_one(alloc: Global, others: u32) -> Result<Vec<u8>, Fail> {
+    let (mut heap, large) = ring_behind(alloc, others)?;
     let _report = collect_one(alloc, &mut heap, 0)?;
     text_of(alloc, &heap, large)
 }
 
-/// What two workers leave of a ring, of whom worker 0 alone has a slot; how many objects they won, and whether worker 1 took a
-/// block.
-fn left_in_two<R: Threads + Wait + Sync + AllocGlobal>(
+/// What several workers leave of a ring, of whom one has its slot; how many objects they won, and whether it handed a block on.
+fn left_in_several<R: Threads + Wait + Sync + AllocGlobal>(
     rt: &R,
     heap: &mut Heap,
     large: RootId,
     kind: CellKind,
+    hands: Hands,
     gate: &Handover,
-) -> Result<(Vec<u8>, (u64, bool)), Fail> {
-    let found = handed(rt, heap, kind, gate)?;
+) -> Result<(Vec<u8>, (Option<u64>, bool)), Fail> {
+    let found = handed(rt, heap, kind, hands, gate)?;
     Ok((text_of(rt.alloc(), heap, large)?, found))
 }
 
 /// The same, of a heap of its own.
-fn left_by_two<R: Threads + Wait + Sync + AllocGlobal>(
+fn left_by_several<R: Threads + Wait + Sync + AllocGlobal>(
     rt: &R,
     kind: CellKind,
+    hands: Hands,
     gate: &Handover,
-) -> Result<(Vec<u8>, (u64, bool)), Fail> {
-    let (mut heap, large) = ring(rt.alloc())?;
-    left_in_two(rt, &mut heap, large, kind, gate)
+) -> Result<(Vec<u8>, (Option<u64>, bool)), Fail> {
+    let (mut heap, large) = ring_behind(rt.alloc(), hands.from)?;
+    left_in_several(rt, &mut heap, large, kind, hands, gate)
 }
 
-/// Whether worker 1 took a block of worker 0, and all is as one worker leaves it.
-fn share<R: Threads + Wait + Sync + AllocGlobal>(rt: &R, kind: CellKind) -> Result<bool, Fail> {
-    let gate = Handover::new();
-    let (text, found) = left_by_two(rt, kind, &gate)?;
-    let same = text == left_by_one(rt.alloc())?;
-    Ok(same && found == (14, true) && gate.handed_over() && gate.races() >= 14)
+/// Whether a block went from the one worker to the other, and all is as one worker leaves it. The ring has 14 objects.
+fn share<R: Threads + Wait + Sync + AllocGlobal>(
+    rt: &R,
+    kind: CellKind,
+    hands: Hands,
+) -> Result<bool, Fail> {
+    let gate = Handover::new(hands);
+    let (text, found) = left_by_several(rt, kind, hands, &gate)?;
+    let same = text == left_by_one(rt.alloc(), hands.from)?;
+    let won = hands.from as u64 + 14;
+    Ok(same && found == (Some(won), true) && gate.handed_over())
 }
+
+/// From the caller's thread to another, from another to the caller's, and from one other to another.
+const HANDS: [Hands; 3] = [
+    Hands {
+        workers: 2,
+        from: 0,
+        to: 1,
+    },
+    Hands {
+        workers: 2,
+        from: 1,
+        to: 0,
+    },
+    Hands {
+        workers: 3,
+        from: 2,
+        to: 1,
+    },
+];
 
 #[test]
 fn blocks_change_hands(rt: HostRuntime) -> Result<(), Fail> {
-    assert!(&rt; share(&rt, CellKind::Word)?, "words");
-    assert!(&rt; share(&rt, CellKind::Box)?, "boxes");
+    for hands in HANDS {
+        assert!(&rt; share(&rt, CellKind::Word, hands)?, "words, {hands:?}");
+        assert!(&rt; share(&rt, CellKind::Box, hands)?, "boxes, {hands:?}");
+    }
     Ok(())
 }

@@ -1,0 +1,82 @@
+//! How many requests for memory collections make: one uses again what the one before had, and boxes aren't counted.
+use crate::refused::{Task, asked_by};
+use heap::Sizes;
+use std::alloc::{AllocError, AllocGlobal, Global};
+use std::fmt::Write;
+use std::process::Abort;
+use std::sync::Wait;
+use std::test::Fail;
+use std::thread::Threads;
+use trace_driver::CellKind;
+
+/// One generation, whose objects all fit in one block.
+fn one_generation() -> Sizes {
+    Sizes {
+        block_words: 512,
+        blocks: 64,
+        mutators: 1,
+        nursery_blocks: 4,
+        generations: 1,
+        steps: 1,
+    }
+}
+
+/// So many objects of a word each, which four collections keep.
+fn trace_of(alloc: Global, objects: u32) -> Result<String, AllocError> {
+    let mut trace = String::new(alloc);
+    for number in 0..objects {
+        writeln!(&mut trace, "new n{number} 0 0 0")?;
+    }
+    trace.push_str("collect 0\ncollect 0\ncollect 0\ncollect 0\n")?;
+    Ok(trace)
+}
+
+/// How many requests a fifth collection makes.
+fn asked_by_fifth<R: Threads + Wait + Sync + AllocGlobal + Abort>(
+    rt: &R,
+    task: Task,
+    objects: u32,
+) -> Result<u64, Fail> {
+    let mut trace = trace_of(rt.alloc(), objects)?;
+    let four = asked_by(rt, task, one_generation(), trace.as_str())?;
+    trace.push_str("collect 0\n")?;
+    let five = asked_by(rt, task, one_generation(), trace.as_str())?;
+    Ok(five.saturating_sub(four))
+}
+
+#[test]
+fn lists_are_used_again(rt: HostRuntime) -> Result<(), Fail> {
+    // Two lists hold what was won and what was scanned. Of two workers each has a half of the slots, and since no block is full
+    // it scans what it wins: so each of its lists has 200 entries, and those of one worker 400. A list that starts anew takes
+    // a request for its first entries, and one more each time that it doubles, from 4 to 512 or to 256. So without those
+    // of the collection before, one worker asks 14 times more for 400 objects than for two, and two workers 24 times more.
+    // The rest depends little on how many objects there are.
+    for (name, task) in [
+        ("one worker", Task::Run),
+        ("words", Task::Threads(CellKind::Word)),
+        ("boxes", Task::Threads(CellKind::Box)),
+    ] {
+        let few = asked_by_fifth(&rt, task, 2)?;
+        let many = asked_by_fifth(&rt, task, 400)?;
+        assert!(rt;
+            many.saturating_sub(few) < 10,
+            "{name}: {few} for few, {many} for many"
+        );
+    }
+    Ok(())
+}
+
+#[test]
+fn boxes_are_made_elsewhere(rt: HostRuntime) -> Result<(), Fail> {
+    // An empty heap has no boxes. The table of them comes from the runtime's own allocator, and that of words doesn't.
+    let trace = "collect 0\ncollect 0\n";
+    let words = Task::Threads(CellKind::Word);
+    let boxes = Task::Threads(CellKind::Box);
+    let by_words = asked_by(&rt, words, one_generation(), trace)?;
+    let by_boxes = asked_by(&rt, boxes, one_generation(), trace)?;
+    assert!(rt;
+        by_boxes < by_words,
+        "{by_boxes} by boxes, {by_words} by words"
+    );
+    Ok(())
+}
