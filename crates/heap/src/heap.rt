@@ -316,8 +316,8 @@ impl<A: Allocator + Clone> Heap<A> {
         self.objects.step_of(place)
     }
 
-    /// How many blocks' memory is kept for the next collection: at most as many as were in use after the last one. It counts
-    /// as neither free nor used.
+    /// How many blocks' memory is kept for the next collection: at most as many as were in use after the last one, and a quarter
+    /// more. It counts as neither free nor used.
     pub fn spare_blocks(&self) -> usize {
         self.objects.spare_blocks()
     }
@@ -329,8 +329,9 @@ impl<A: Allocator + Clone> Heap<A> {
         self.objects.take_spare()
     }
 
-    /// Keeps the memory of a report's lists for the next collection, if they were used for the most part, and else gives it back:
-    /// whoever has read a report hands it in, so that collections need not ask for as much memory again.
+    /// Keeps the memory of a report's lists for the next collection, if it has room for no more than three times what they hold
+    /// and 1,024 entries, and else gives it back: whoever has read a report hands it in, so that collections need not ask for as
+    /// much memory again.
     pub fn reuse(&mut self, report: Report<A>)
         ensures { self.new ≡ self.old }
     {

@@ -103,7 +103,7 @@ impl<A: Allocator + Clone> HeapObjects<A> {
     }
 
     /// Makes a new large object in the free blocks with the lowest numbers, as many as hold it. `HeapFull` says that fewer are
-    /// free. `NoMemory` says that memory ran out, or that there are 65,535 large objects.
+    /// free. `NoMemory` says that memory ran out.
     pub fn allocate_large(&mut self, pointers: u32, plain_words: u32) -> Result<Place, GrantError>
         requires pointers { pointers ≤ 100000 }
         requires plain { plain_words ≤ 100000 }

@@ -126,7 +126,7 @@ impl<A: Allocator> SerialSweep<A> {
         }
     }
 
-    /// The current object is scanned, where another is unscanned behind it and there is room to note it: tells whether it is.
+    /// The current object is scanned, where another is unscanned behind it: tells whether it is.
     #[inline(always)]
     pub fn scan_to_next(&mut self) -> bool
         requires can { CanScan (setting_in self.old) self.old.workspace.worker }

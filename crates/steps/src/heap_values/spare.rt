@@ -103,8 +103,8 @@ impl<A: Allocator> Spare<A> {
         }
     }
 
-    /// Puts the blocks in the order of their first numbers, so that parts of them are mostly stretches of memory. An error says
-    /// that memory ran out, and leaves them as they are.
+    /// Puts the blocks in the order of the numbers that they were given first, which is mostly that of their memory. An error
+    /// says that memory ran out, and leaves them as they are.
     pub fn order_by_memory(&mut self, alloc: A) -> Result<(), AllocError>
         ensures { self.new ≡ self.old }
     {
