@@ -91,7 +91,7 @@ module _ {P A : Type 0} (is_pass : ℕ → P → Type 0) (known : P → ℕ → 
   -- where one was refused a block, all that were free were drawn
   abbrev refusing : ending ≡ Refused HeapFull → ((number : ℕ) → wins_of number (all_pairs won passes) ≤ 1) → (drawn : ℕ) → length (all_drawn draws) ≡ drawn → (any_out draws ≡ true → drawn ≡ length claims.source.free) → Refusing P A known won
   refusing full once drawn many used =
-      let one = k.lists.full full in
+      let one = (k.lists.refused HeapFull full).one in
       let is = k.each one.place one.element one.there in
       let out : any_out draws ≡ true = subst (λ ds. any_out ds ≡ true) (sym k.lists.draws_are) (out_there (map (λ (r : Brought P A). r.draws) k.brought) one.place one.element.draws (get-map (λ (r : Brought P A). r.draws) k.brought one.place one.element one.there) (is.out one.is)) in
       record {

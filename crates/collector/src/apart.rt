@@ -1,4 +1,4 @@
-//! Collections by several workers, each on a thread of its own.
+//! Collections by several workers, the first on the caller's thread and each other on one of its own.
 ghost use Rattle.std.specs.Prelude.{◌≡◌, ◌≢◌, ◌↔◌, ◌<◌, ◌≤◌, ◌⊎◌, true, IfOk, IfSome, OnErr, Err, length};
 ghost use Rattle.forwarding.specs.declared.cells.forwards.SettleError.TheVariants as settle_error;
 ghost use Rattle.steps.specs.ReportValue.{all_won};

@@ -1,5 +1,5 @@
 -- What workers on threads of their own brought back, list by list, and once their cells were settled.
-use Rattle.std.specs.Prelude.{◌≡◌, ◌≢◌, ℕ, ◌≤◌, List, Option, Some, None, Result, Err, IfOk, length, map, slice_get, slice_index_or}
+use Rattle.std.specs.Prelude.{◌≡◌, ◌≢◌, ℕ, ◌<◌, ◌≤◌, List, Option, Some, None, Result, Err, IfOk, length, map, slice_get, slice_index_or}
 use Rattle.layout.specs.declared.place.Place.{Place}
 use Rattle.block_pool.specs.ClaimsValue.{ClaimsValue, SeatValue}
 use Rattle.forwarding.specs.Settled.{IsSettled, all_pairs, wins_of}
@@ -13,10 +13,10 @@ use Rattle.workers.specs.Joined.{Each}
 use Rattle.scavenge.specs.Handed.{CopiesKeyValue}
 use Rattle.scavenge.specs.Shown.{WorkspaceValue}
 use Rattle.scavenge.specs.ReadyToCollect.{IsReadyToCollect}
-use Rattle.scavenge.specs.declared.looking.LookError.TheVariants.{HeapFull}
+use Rattle.scavenge.specs.declared.looking.LookError.{LookError}
 use Rattle.workers_in_threads.specs.declared.kit.Brought.{Brought}
 use Rattle.workers_in_threads.specs.declared.sharing_worker.resting.Outcome.{Outcome}
-use Rattle.workers_in_threads.specs.declared.sharing_worker.resting.Outcome.TheVariants.{Ended, Refused}
+use Rattle.workers_in_threads.specs.declared.sharing_worker.resting.Outcome.TheVariants.{Ended, Left, Refused}
 use Rattle.workers_in_threads.specs.Kits.{AreBroughtBack}
 
 -- it holds of one of them
@@ -27,6 +27,20 @@ pub record IsOneOf {X : Type 0} (F : X → Type 0) (xs : List X) : Type 0 where
   pub is : F element
 
 module _ {P A : Type 0} where
+  -- it wasn't refused
+  abbrev pub IsNotRefused : Brought P A → Type 0
+  IsNotRefused r = (e : LookError) → r.outcome ≢ Refused e
+
+  -- one of them was refused so, and none before it was refused
+  pub record IsFirstRefusal (e : LookError) (brought : List (Brought P A)) : Type 0 where
+    pub one : IsOneOf (λ (r : Brought P A). r.outcome ≡ Refused e) brought
+    pub before : (i : ℕ) (r : Brought P A) → i < one.place → slice_get brought i ≡ Some r → IsNotRefused r
+
+  -- one left early, and none was refused
+  pub record IsLeftEarly (brought : List (Brought P A)) : Type 0 where
+    pub one : IsOneOf (λ (r : Brought P A). r.outcome ≡ Left) brought
+    pub none_refused : Each IsNotRefused brought
+
   -- the lists hold what each brought, in order, and all ended so
   pub record IsSeparated (brought : List (Brought P A)) (ending : Outcome) (passes : List P) (draws : List SeatValue) (seats : List (QueueSeatValue A CopiesKeyValue)) (workspaces : List WorkspaceValue) : Type 0 where
     pub passes_are : passes ≡ map (λ (r : Brought P A). r.pass) brought
@@ -34,7 +48,8 @@ module _ {P A : Type 0} where
     pub seats_are : seats ≡ map (λ (r : Brought P A). r.seat) brought
     pub workspaces_are : workspaces ≡ map (λ (r : Brought P A). r.workspace) brought
     pub ended : ending ≡ Ended → Each (λ (r : Brought P A). r.outcome ≡ Ended) brought
-    pub full : ending ≡ Refused HeapFull → IsOneOf (λ (r : Brought P A). r.outcome ≡ Refused HeapFull) brought
+    pub left : ending ≡ Left → IsLeftEarly brought
+    pub refused : (e : LookError) → ending ≡ Refused e → IsFirstRefusal e brought
 
   -- n workers of a collection came back, each with what it did, and these are the lists of it
   pub record CameBack (is_pass : ℕ → P → Type 0) (known : P → ℕ → Option Place) (won : P → List (ℕ × Place)) (heap : HeapValue) (c : CollectionValue) (n : ℕ) (ending : Outcome) (passes : List P) (claims : ClaimsValue) (queues : Source A CopiesKeyValue) (draws : List SeatValue) (seats : List (QueueSeatValue A CopiesKeyValue)) (workspaces : List WorkspaceValue) : Type 0 where

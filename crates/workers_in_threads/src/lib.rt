@@ -1,4 +1,5 @@
-//! Workers of a collection, each on a thread of its own: a worker's loop, how threads are started, and what they bring together.
+//! Workers of a collection, the first on the caller's thread and each other on one of its own: a worker's loop, how threads are
+//! started, and what they bring together.
 #![tactic(auto)]
 
 mod apart;

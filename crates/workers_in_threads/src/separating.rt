@@ -1,9 +1,9 @@
 //! What workers brought back, list by list.
 ghost use Rattle.std.specs.Prelude.{◌≡◌, IfOk, map};
 ghost use Rattle.workers.specs.Joined.{Each};
-ghost use Rattle.scavenge.specs.declared.looking.LookError.TheVariants.{HeapFull};
-ghost use Rattle.workers_in_threads.specs.declared.sharing_worker.resting.Outcome.TheVariants.{Ended, Refused};
-ghost use Rattle.workers_in_threads.specs.CameBack.{IsOneOf, IsSeparated};
+ghost use Rattle.scavenge.specs.declared.looking.LookError.{LookError};
+ghost use Rattle.workers_in_threads.specs.declared.sharing_worker.resting.Outcome.TheVariants.{Ended, Left, Refused};
+ghost use Rattle.workers_in_threads.specs.CameBack.{IsFirstRefusal, IsLeftEarly, IsSeparated};
 
 use crate::kit::Brought;
 use crate::sharing_worker::Outcome;
@@ -34,7 +34,8 @@ pub struct Apart<P, A: Allocator = Global> {
 /// How all ended.
 fn ending_of<P, A: Allocator>(brought: &[Brought<P, A>]) -> Outcome
     ensures ended { result ≡ Ended → Each (λ r. r.outcome ≡ Ended) brought.now }
-    ensures full { result ≡ Refused HeapFull → IsOneOf (λ r. r.outcome ≡ Refused HeapFull) brought.now }
+    ensures left { result ≡ Left → IsLeftEarly brought.now }
+    ensures refused { (e : LookError) → result ≡ Refused e → IsFirstRefusal e brought.now }
 {
     let mut ending = Outcome::Ended;
     for worker in brought {

@@ -1,5 +1,5 @@
 //! The first worker on the thread of the caller, each other in a thread of its own.
-ghost use Rattle.std.specs.Prelude.{◌≡◌, ◌+◌, ◌<◌, IfOk, length};
+ghost use Rattle.std.specs.Prelude.{◌≡◌, ◌+◌, ◌<◌, IfOk, IsSome, length};
 ghost use denote.Param.Send.{IsSend, IsSync, Frees};
 ghost use Rattle.forwarding.specs.Passes.{AtEach};
 ghost use Rattle.workers_in_threads.specs.Kits.{AreKits, AreBroughtBack, IsBroughtBack, IsKit};
@@ -35,13 +35,24 @@ impl<'a, S: SharedCells, A: Allocator> Promise<Brought<S::Pass, A>> for OfShared
 
 /// Joins threads whose results are not wanted. A scope waits until each of its threads has returned, but not until what it
 /// returned is dropped: so that memory is given back before the scope ends.
-fn dismissed<R: Threads, T: Drop, P: Promise<T>, A: Allocator>(
+fn joined_for_nothing<R: Threads, T: Drop, P: Promise<T>, A: Allocator>(
     rt: &R,
     handles: Vec<PromisedHandle<T, P>, A>,
 ) {
     for handle in handles {
         let _ = handle.join(rt);
     }
+}
+
+/// The same of threads that wait for one which was not started: so they have to be told to leave before.
+fn dismissed<R: Threads, T: Drop, P: Promise<T>, A: Allocator>(
+    rt: &R,
+    handles: Vec<PromisedHandle<T, P>, A>,
+    _voice: &VerdictSeat,
+)
+    requires told { IsSome _voice.now.known }
+{
+    joined_for_nothing(rt, handles);
 }
 
 /// The work of the first kit on the caller's thread, and that of each other in a thread of its own. An error says that a
@@ -125,7 +136,7 @@ pub fn work_in_threads<
             }
             if handles.len() < others {
                 verdict.raise(&mut voice, Cause::Refused);
-                dismissed(rt, handles);
+                dismissed(rt, handles, &voice);
                 return Err(AllocError);
             }
             let first = work_apart(
@@ -137,7 +148,7 @@ pub fn work_in_threads<
                     Ok(brought)
                 }
                 Err(failed) => {
-                    dismissed(rt, failed.value);
+                    joined_for_nothing(rt, failed.value);
                     Err(AllocError)
                 }
             }

@@ -1,5 +1,5 @@
 //! How a worker rests until all do, and how its thread runs.
-ghost use Rattle.std.specs.Prelude.{◌≡◌, true, false, IsTrue};
+ghost use Rattle.std.specs.Prelude.{◌≡◌, ◌≢◌, true, false, IsSome, IsTrue};
 ghost use Rattle.idle_count.specs.IdleValue.{IsSeatOf, HasEnded};
 ghost use Rattle.scavenge.specs.declared.looking.LookError.TheVariants.{HeapFull};
 ghost use Rattle.workers_in_threads.specs.Sharing.{IsSame, IsRefusedBlock, IsDone};
@@ -7,6 +7,7 @@ ghost use Rattle.workers_in_threads.specs.declared.sharing_worker.resting.Outcom
 ghost use Rattle.workers_in_threads.specs.declared.sharing_worker.resting.Rested.TheVariants as rested;
 
 use crate::sharing_worker::worker::SharingWorker;
+use crate::sharing_worker::working::Stop;
 use crossbeam_utils::Backoff;
 use forwarding::{Cells, Gate, StepKind};
 use idle_count::{Cause, Idle, IdleSeat, Polled, Verdict, VerdictSeat};
@@ -66,6 +67,7 @@ impl<'a, C: Cells, A: Allocator + Clone> SharingWorker<'a, C, A> {
         ensures rest { IsSeatOf idle.now rest.new }
         ensures voice { voice.new.name ≡ verdict.now.name }
         ensures ended { result ≡ rested.Ended → HasEnded rest.new }
+        ensures left { result ≡ rested.Left → IsSome voice.new.known }
         ensures woken { result ≡ rested.Woken → rest.new.idle ≡ false }
     {
         let number = self.number();
@@ -91,7 +93,7 @@ impl<'a, C: Cells, A: Allocator + Clone> SharingWorker<'a, C, A> {
     }
 
     /// Works and rests in turn until all workers are idle, or it is told to leave, or it can't go on; then it tells the
-    /// others to leave.
+    /// others to leave. So it knows the verdict, unless all were idle.
     pub fn run<R: Wait, G: Gate, B: Allocator>(
         mut self,
         rt: &R,
@@ -109,6 +111,7 @@ impl<'a, C: Cells, A: Allocator + Clone> SharingWorker<'a, C, A> {
         ensures rest { IsSeatOf idle.now rest.new }
         ensures voice { voice.new.name ≡ verdict.now.name }
         ensures ended { result.1 ≡ Ended → IsDone result.0 × HasEnded rest.new }
+        ensures told { result.1 ≢ Ended → IsSome voice.new.known }
         ensures full { result.1 ≡ Refused HeapFull → IsRefusedBlock result.0 }
     {
         let number = self.number();
@@ -126,8 +129,8 @@ impl<'a, C: Cells, A: Allocator + Clone> SharingWorker<'a, C, A> {
                     verdict.raise(voice, Cause::Refused);
                     return (self, Outcome::Refused(error));
                 }
-                Ok(false) => return (self, Outcome::Left),
-                Ok(true) => {}
+                Ok(Stop::Told) => return (self, Outcome::Left),
+                Ok(Stop::OutOfWork) => {}
             }
             gate.before(number, StepKind::Idle);
             idle.idle(rest);

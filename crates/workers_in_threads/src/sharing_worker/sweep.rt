@@ -142,7 +142,7 @@ impl<'a, C: Cells, A: Allocator> SharingSweep<'a, C, A> {
         self.sweep.goes_one_way()
     }
 
-    /// The current object is scanned, where another is unscanned behind it and there is room to note it: tells whether it is.
+    /// The current object is scanned, where another is unscanned behind it: tells whether it is.
     #[inline(always)]
     pub fn scan_to_next(&mut self) -> bool
         requires can { CanScan (setting_in self.old) (worker_of self.old) }

@@ -1,9 +1,9 @@
 //! How a worker works until nothing is left to it, or it is told to leave.
-ghost use Rattle.std.specs.Prelude.{◌≡◌, ◌≢◌, true, false, Ok, Err, length};
+ghost use Rattle.std.specs.Prelude.{◌≡◌, ◌≢◌, true, false, Ok, Err, Some, IsSome, length};
 ghost use Rattle.workers.specs.WorkerSteps.{IsFree};
 ghost use Rattle.workers_in_threads.specs.SharingValue.{worker_of};
 ghost use Rattle.workers_in_threads.specs.Sharing.{IsSame, IsRefusedBlock, HasNothingInHand, IsDone};
-ghost use Rattle.workers_in_threads.specs.declared.sharing_worker.working.Worked.TheVariants as worked;
+ghost use Rattle.workers_in_threads.specs.declared.sharing_worker.working.Stop.TheVariants.{OutOfWork, Told};
 
 use crate::sharing_worker::worker::SharingWorker;
 use forwarding::{Cells, Gate, StepKind};
@@ -12,15 +12,13 @@ use scavenge::{Evacuated, LookError};
 use std::alloc::{AllocError, Allocator};
 use std::sync::Wait;
 
-/// What a worker's next step came to.
+/// Why a worker stops.
 #[derive(Clone, Copy, PartialEq, Eq, Debug)]
-enum Worked {
-    /// There was one.
-    GoesOn,
+pub enum Stop {
     /// Nothing is left to it.
     OutOfWork,
     /// It is told to leave.
-    Left,
+    Told,
 }
 
 impl<'a, C: Cells, A: Allocator + Clone> SharingWorker<'a, C, A> {
@@ -129,8 +127,8 @@ impl<'a, C: Cells, A: Allocator + Clone> SharingWorker<'a, C, A> {
         Ok(false)
     }
 
-    /// What comes next: what `scavenge` can do, and then a step that may want a block or a queue, or a look at the verdict.
-    /// An error says that a block was wanted and all were drawn, or that memory ran out.
+    /// What comes next: what `scavenge` can do, and then a step that may want a block or a queue, or a look at the verdict. It tells
+    /// why the worker stops, where it does. An error says that a block was wanted and all were drawn, or that memory ran out.
     fn work_once<R: Wait, G: Gate>(
         &mut self,
         rt: &R,
@@ -138,29 +136,30 @@ impl<'a, C: Cells, A: Allocator + Clone> SharingWorker<'a, C, A> {
         gate: &G,
         verdict: &Verdict,
         voice: &mut VerdictSeat,
-    ) -> Result<Worked, LookError>
+    ) -> Result<Option<Stop>, LookError>
         requires voice { voice.old.name ≡ verdict.now.name }
         ensures voice { voice.new.name ≡ verdict.now.name }
         ensures same { IsSame C.at_home self.old self.new }
-        ensures done { result ≡ Ok worked.OutOfWork → IsDone self.new }
+        ensures done { result ≡ Ok (Some OutOfWork) → IsDone self.new }
+        ensures told { result ≡ Ok (Some Told) → IsSome voice.new.known }
         ensures full { result ≡ Err LookError.HeapFull → IsRefusedBlock self.new }
     {
         self.scavenge(rt)?;
         if self.go_on(alloc)? {
-            return Ok(Worked::GoesOn);
+            return Ok(None);
         }
         gate.before(self.number(), StepKind::Verdict);
         if verdict.read(voice).is_some() {
-            return Ok(Worked::Left);
+            return Ok(Some(Stop::Told));
         }
         if self.find_work(rt, gate)? {
-            return Ok(Worked::GoesOn);
+            return Ok(None);
         }
-        Ok(Worked::OutOfWork)
+        Ok(Some(Stop::OutOfWork))
     }
 
-    /// Works until nothing is left to the worker (true), or until it is told to leave (false). Where it holds a block in hand, a
-    /// sweep goes over that first. An error says that a block was wanted and all were drawn, or that memory ran out.
+    /// Works until nothing is left to the worker, or until it is told to leave. Where it holds a block in hand, a sweep goes over
+    /// that first. An error says that a block was wanted and all were drawn, or that memory ran out.
     pub fn work<R: Wait, G: Gate>(
         mut self,
         rt: &R,
@@ -168,11 +167,12 @@ impl<'a, C: Cells, A: Allocator + Clone> SharingWorker<'a, C, A> {
         gate: &G,
         verdict: &Verdict,
         voice: &mut VerdictSeat,
-    ) -> (Self, Result<bool, LookError>)
+    ) -> (Self, Result<Stop, LookError>)
         requires voice { voice.old.name ≡ verdict.now.name }
         ensures voice { voice.new.name ≡ verdict.now.name }
         ensures same { IsSame C.at_home self.entry result.0 }
-        ensures done { result.1 ≡ Ok true → IsDone result.0 }
+        ensures done { result.1 ≡ Ok OutOfWork → IsDone result.0 }
+        ensures told { result.1 ≡ Ok Told → IsSome voice.new.known }
         ensures full { result.1 ≡ Err LookError.HeapFull → IsRefusedBlock result.0 }
     {
         for _ in rt.forever() {
@@ -186,9 +186,8 @@ impl<'a, C: Cells, A: Allocator + Clone> SharingWorker<'a, C, A> {
                 return (self, Err(LookError::NoMemory));
             };
             match self.work_once(rt, own, gate, verdict, voice) {
-                Ok(Worked::GoesOn) => {}
-                Ok(Worked::OutOfWork) => return (self, Ok(true)),
-                Ok(Worked::Left) => return (self, Ok(false)),
+                Ok(None) => {}
+                Ok(Some(stop)) => return (self, Ok(stop)),
                 Err(error) => return (self, Err(error)),
             }
         }

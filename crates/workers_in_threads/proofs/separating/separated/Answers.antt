@@ -1,9 +1,8 @@
 use Rattle.std.proofs.Common.{◌≡◌, length, subst, arith}
 use Rattle.workers.specs.Joined.{Each}
-use Rattle.scavenge.specs.declared.looking.LookError.TheVariants.{HeapFull}
 use Rattle.workers_in_threads.specs.declared.kit.Brought.{Brought}
-use Rattle.workers_in_threads.specs.declared.sharing_worker.resting.Outcome.TheVariants.{Ended, Refused}
-use Rattle.workers_in_threads.specs.CameBack.{IsOneOf}
+use Rattle.workers_in_threads.specs.declared.sharing_worker.resting.Outcome.TheVariants.{Ended}
+use Rattle.workers_in_threads.specs.CameBack.{IsFirstRefusal, IsLeftEarly}
 use Rattle.workers_in_threads.proofs.Taking.{begun, moved, finished}
 use Rattle.workers_in_threads.proofs.separating.separated.Goals as goal
 
@@ -33,5 +32,6 @@ returns-clause-lists g c =
       seats_are = finished (λ (r : Brought g.row.P.Denot g.row.A.Denot). r.seat) _ c.loop-worker.worker-iterator.rest.items _ none c.loop-worker.invariant.seats;
       workspaces_are = finished (λ (r : Brought g.row.P.Denot g.row.A.Denot). r.workspace) _ c.loop-worker.worker-iterator.rest.items _ none c.loop-worker.invariant.workspaces;
       ended = λ e. subst (Each (λ (r : Brought g.row.P.Denot g.row.A.Denot). r.outcome ≡ Ended)) c.deref.ensures.value (c.ending_of-ending.ensures.ended e);
-      full = λ e. subst (IsOneOf (λ (r : Brought g.row.P.Denot g.row.A.Denot). r.outcome ≡ Refused HeapFull)) c.deref.ensures.value (c.ending_of-ending.ensures.full e);
+      left = λ e. subst IsLeftEarly c.deref.ensures.value (c.ending_of-ending.ensures.left e);
+      refused = λ x e. subst (IsFirstRefusal x) c.deref.ensures.value (c.ending_of-ending.ensures.refused x e);
     }

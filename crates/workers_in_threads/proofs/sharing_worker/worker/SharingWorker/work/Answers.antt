@@ -19,16 +19,8 @@ loop-preserved g c =
     ] in
     record { same = same_both g.C.Cells.fits g.C.Cells.limit g.C.Cells.known g.C.Cells.won g.C.Cells.at_home _ _ _ (same_both g.C.Cells.fits g.C.Cells.limit g.C.Cells.known g.C.Cells.won g.C.Cells.at_home _ _ _ c.loop.invariant.same swept) c.work_once.ensures.same; voice = c.work_once.ensures.voice }
 
-pub returns-in-Ok-OutOfWork-clause-same : goal.returns-in-Ok-OutOfWork-clause-same
-returns-in-Ok-OutOfWork-clause-same g c =
-    let swept : IsSame g.C.Cells.at_home c.loop.self c.if-holds_block.self = elim c.if-holds_block.branch [
-      | then-holds_block+then-not-has_proposal+else-is_err w ↦ same_over g.C.Cells.fits g.C.Cells.limit g.C.Cells.known g.C.Cells.won g.C.Cells.at_home _ _ _ _ w.reserve_sweep.ensures w.swept-self.ensures.same w.self-is
-      | else-holds_block w ↦ same_as g.C.Cells.fits g.C.Cells.limit g.C.Cells.known g.C.Cells.won g.C.Cells.at_home _ _ w.self-is
-    ] in
-    same_both g.C.Cells.fits g.C.Cells.limit g.C.Cells.known g.C.Cells.won g.C.Cells.at_home _ _ _ (same_both g.C.Cells.fits g.C.Cells.limit g.C.Cells.known g.C.Cells.won g.C.Cells.at_home _ _ _ c.loop.invariant.same swept) c.work_once.ensures.same
-
-pub returns-in-Ok-Left-clause-same : goal.returns-in-Ok-Left-clause-same
-returns-in-Ok-Left-clause-same g c =
+pub returns-in-Ok-Some-clause-same : goal.returns-in-Ok-Some-clause-same
+returns-in-Ok-Some-clause-same g c =
     let swept : IsSame g.C.Cells.at_home c.loop.self c.if-holds_block.self = elim c.if-holds_block.branch [
       | then-holds_block+then-not-has_proposal+else-is_err w ↦ same_over g.C.Cells.fits g.C.Cells.limit g.C.Cells.known g.C.Cells.won g.C.Cells.at_home _ _ _ _ w.reserve_sweep.ensures w.swept-self.ensures.same w.self-is
       | else-holds_block w ↦ same_as g.C.Cells.fits g.C.Cells.limit g.C.Cells.known g.C.Cells.won g.C.Cells.at_home _ _ w.self-is
