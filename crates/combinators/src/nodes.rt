@@ -158,6 +158,7 @@ impl Nodes {
         ensures bad_node { (result ≡ Err Trouble.BadNode) ↔
             ¬ (AreParts self.old.graph function.number argument.number) }
         ensures same { result ≡ Err Trouble.BadNode → self.new ≡ self.old }
+        ensures want { IfErr result (λ e. e ≢ Trouble.BadNode → IsWant e) }
         ensures err { OnErr result (MayBeCollected self.old self.new) }
     {
         if function == argument || !self.is_node(function) || !self.is_node(argument) {
