@@ -7,36 +7,35 @@ use std::alloc::Global;
 use std::process::Abort;
 use std::test::Fail;
 
-/// How many roots are made.
-const MANY: u64 = 60_000;
-
-/// Makes 60,000 objects of so many words, collects them, gives up half of them, and collects again.
+/// Makes an even number of objects of so many words, collects them, gives up half of them, and collects again.
 fn assert_kept(
     rt: &impl Abort,
     alloc: Global,
     heap: &mut Heap<Global>,
+    count: u64,
     plain: u64,
 ) -> Result<(), Fail> {
-    let roots = marked_roots(alloc, heap, MANY, plain)?;
-    assert_collected(rt, alloc, heap, (60_000, 0));
+    let roots = marked_roots(alloc, heap, count, plain)?;
+    assert_collected(rt, alloc, heap, (count, 0));
     assert_marks(rt, heap, &roots, 1);
     release_others(heap, &roots, 2)?;
-    assert_collected(rt, alloc, heap, (30_000, 30_000));
+    assert_collected(rt, alloc, heap, (count / 2, count / 2));
     assert_marks(rt, heap, &roots, 2);
     Ok(())
 }
 
+/// There are more roots than a number of 16 bits tells.
 #[test]
-fn sixty_thousand_small_objects_with_roots(rt: HostRuntime) -> Result<(), Fail> {
+fn seventy_thousand_small_objects_with_roots(rt: HostRuntime) -> Result<(), Fail> {
     let mut heap = heap_of(rt.alloc(), 512, 64, 65_535)?;
-    assert_kept(&rt, rt.alloc(), &mut heap, 2)
+    assert_kept(&rt, rt.alloc(), &mut heap, 70_000, 2)
 }
 
 /// Each takes a block of 16 words.
 #[test]
 fn sixty_thousand_large_objects(rt: HostRuntime) -> Result<(), Fail> {
     let mut heap = heap_of(rt.alloc(), 16, 1, 65_535)?;
-    assert_kept(&rt, rt.alloc(), &mut heap, 9)
+    assert_kept(&rt, rt.alloc(), &mut heap, 60_000, 9)
 }
 
 /// A list of so many objects, whose first one has a root.

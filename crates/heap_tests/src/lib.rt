@@ -1,4 +1,4 @@
-//! Tests of the heap and its collections by their own calls, where memory and blocks run out too.
+//! Tests of the heap and its collections by their own calls, where blocks run out too, and requests for memory are counted.
 #![tactic(auto)]
 
 #[cfg(test)]
@@ -13,6 +13,8 @@ mod free_blocks;
 mod heaps;
 #[cfg(test)]
 mod large_numbers;
+#[cfg(test)]
+mod many_pointers;
 #[cfg(test)]
 mod many_roots;
 #[cfg(test)]

@@ -23,8 +23,8 @@ fn three_blocks(refusing: &Refusing<Global>) -> Result<Spare<&Refusing<Global>>,
     Ok(spare)
 }
 
-/// Asserts that the block of 20 words is the first that is given out once blocks are in the order of their first numbers: it is
-/// there, so it takes no memory. A block of other words would be made anew.
+/// Asserts that the block of 20 words is the first that is given out once blocks are in the order of the numbers that they were
+/// given first: it is there, so it takes no memory. A block of other words would be made anew.
 fn assert_ordered(rt: &impl Abort, refusing: &Refusing<Global>) -> Result<(), Fail> {
     let mut spare = three_blocks(refusing)?;
     spare.order_by_memory(refusing)?;

@@ -145,3 +145,35 @@ fn many_objects_take_few_requests_beside_their_blocks(rt: HostRuntime) -> Result
     assert_eq!(rt; refusing.asked(), refusing.returned());
     Ok(())
 }
+
+/// Asserts how many requests a collection of 2,000 large objects takes that finds nothing spare. What is won, what is scanned and
+/// some other lists double, so each grows no more than eleven times to 2,000 entries, and all of them less than 100 times. One
+/// that grew by no more than an object brings would ask 2,000 times for itself alone.
+fn assert_large_lists_double<'a>(
+    rt: &impl Abort,
+    refusing: &'a Refusing<Global>,
+    heap: &mut Counting<'a>,
+) -> Result<(), Fail> {
+    add_large(heap, 2_000)?;
+    drop(heap.take_spare());
+    let asked = asked_with_lists(refusing, heap, 0)?;
+    assert!(rt; asked <= 100, "{asked}");
+    Ok(())
+}
+
+/// The same of a new heap.
+fn assert_large_lists_of_new_double(
+    rt: &impl Abort,
+    refusing: &Refusing<Global>,
+) -> Result<(), Fail> {
+    let mut heap = heap_of(refusing, 512, 1, 3_000)?;
+    assert_large_lists_double(rt, refusing, &mut heap)
+}
+
+#[test]
+fn many_large_objects_are_collected_by_few_requests(rt: HostRuntime) -> Result<(), Fail> {
+    let refusing = Refusing::new(rt.alloc(), NONE);
+    assert_large_lists_of_new_double(&rt, &refusing)?;
+    assert_eq!(rt; refusing.asked(), refusing.returned());
+    Ok(())
+}

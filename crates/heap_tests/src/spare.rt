@@ -228,8 +228,9 @@ fn assert_cells_given_back<'a>(
     Ok(())
 }
 
-/// Asserts that lists of which little is used are given back. Both grew to 3,200 entries, so together they have room for 6,400 or
-/// more, and 700 objects make 1,400 entries: three times that and 1,024 are 5,224. Each grows twice or more from nothing to 700.
+/// Asserts that lists of which little is used are given back. Both grew to 3,200 entries by doubling, so together they have room
+/// for 8,192, and 1,100 objects make 2,200 entries: three times that and 1,024 are 7,624. Each grows twice or more from nothing
+/// to 1,100.
 fn assert_lists_given_back<'a>(
     rt: &impl Abort,
     refusing: &'a Refusing<Global>,
@@ -244,15 +245,15 @@ fn assert_lists_given_back<'a>(
     Ok(())
 }
 
-/// Asserts what a heap of 3,200 objects gives back where it shrinks to 1,440, and where it shrinks to 700.
+/// Asserts what a heap of 3,200 objects gives back where it shrinks to 1,440, and where it shrinks to 1,100.
 fn assert_shrinks_twice<'a>(
     rt: &impl Abort,
     alloc: Global,
     refusing: &'a Refusing<Global>,
     heap: &mut Counting<'a>,
 ) -> Result<(), Fail> {
-    let _kept = bare_objects(alloc, refusing, heap, 700)?;
-    let later = bare_objects(alloc, refusing, heap, 740)?;
+    let _kept = bare_objects(alloc, refusing, heap, 1_100)?;
+    let later = bare_objects(alloc, refusing, heap, 340)?;
     let first = bare_objects(alloc, refusing, heap, 1_760)?;
     assert_cells_given_back(rt, refusing, heap, first.as_slice())?;
     assert_lists_given_back(rt, refusing, heap, later.as_slice())
@@ -312,5 +313,61 @@ fn lists_with_little_room_are_kept(rt: HostRuntime) -> Result<(), Fail> {
     let refusing = Refusing::new(rt.alloc(), NONE);
     assert_few_kept_by_new(&rt, rt.alloc(), &refusing)?;
     assert_eq!(rt; refusing.asked(), refusing.returned());
+    Ok(())
+}
+
+/// Asserts how many pieces of memory are kept for the next collection beside the blocks, which are two each.
+fn assert_spare_pieces<'a>(
+    rt: &impl Abort,
+    refusing: &'a Refusing<Global>,
+    heap: &mut Counting<'a>,
+    pieces: u64,
+) {
+    let of_blocks = (heap.spare_blocks() as u64).saturating_mul(2);
+    let before = refusing.returned();
+    drop(heap.take_spare());
+    let returned = refusing.returned().saturating_sub(before);
+    assert_eq!(rt; returned, of_blocks.saturating_add(pieces));
+}
+
+/// Asserts how many pieces of memory are kept where so many objects were collected, and then all given up.
+fn assert_pieces_of_none<'a>(
+    rt: &impl Abort,
+    alloc: Global,
+    refusing: &'a Refusing<Global>,
+    heap: &mut Counting<'a>,
+    count: u32,
+    pieces: u64,
+) -> Result<(), Fail> {
+    let given_up = bare_objects(alloc, refusing, heap, count)?;
+    let _all = asked_with_lists(refusing, heap, 0)?;
+    release_all(heap, given_up.as_slice())?;
+    let _none = asked_with_lists(refusing, heap, 0)?;
+    assert_spare_pieces(rt, refusing, heap, pieces);
+    Ok(())
+}
+
+/// The same of a new heap.
+fn assert_pieces_of_none_in_new(
+    rt: &impl Abort,
+    alloc: Global,
+    refusing: &Refusing<Global>,
+    count: u32,
+    pieces: u64,
+) -> Result<(), Fail> {
+    let mut heap = heap_of(refusing, 16, 48, 500)?;
+    assert_pieces_of_none(rt, alloc, refusing, &mut heap, count, pieces)
+}
+
+/// Where all objects are given up no entry is held, so lists are kept that have room for no more than 1,024 together. Both grow
+/// from 16 entries, a block's, by doubling: for 300 objects they have room for 1,024 together, and for 600 for 2,048. Beside the
+/// blocks the cells are kept, and what the blocks stand in; and with two lists what these stand in.
+#[test]
+fn lists_with_room_for_few_entries_are_kept_for_none(rt: HostRuntime) -> Result<(), Fail> {
+    for (count, pieces) in [(300, 5), (600, 2)] {
+        let refusing = Refusing::new(rt.alloc(), NONE);
+        assert_pieces_of_none_in_new(&rt, rt.alloc(), &refusing, count, pieces)?;
+        assert_eq!(rt; refusing.asked(), refusing.returned());
+    }
     Ok(())
 }
