@@ -1,4 +1,5 @@
-//! Tests of words, blocks, large objects, sets of numbers and of places, the pool, and the plain program, by public calls.
+//! Tests of words, blocks, large objects, sets of numbers and of places, the pool, cells, claims, queues, the count of idle
+//! workers, the verdict, and the plain program, by public calls.
 #![tactic(auto)]
 
 #[cfg(test)]

@@ -1,10 +1,18 @@
 //! Flags, and places that are noted.
+ghost use Rattle.std.specs.Prelude.{◌<◌};
+
 use block_pool::Flags;
 use layout::Place;
 use remembered_set::Remembered;
 use std::alloc::{AllocError, Global};
 use std::process::Abort;
 use std::test::Fail;
+
+/// How many blocks have places that are noted.
+const BLOCKS: u16 = 200;
+
+/// How many places of each block are noted.
+const OFFSETS: u16 = 500;
 
 /// Sets two flags.
 fn set_two(flags: &mut Flags) -> Result<(), AllocError> {
@@ -103,4 +111,34 @@ fn assert_taken_back(rt: &impl Abort, sets: &mut Remembered) -> Result<(), Fail>
 fn places_are_taken_back(rt: HostRuntime) -> Result<(), Fail> {
     let mut sets = Remembered::new(rt.alloc(), 1)?;
     assert_taken_back(&rt, &mut sets)
+}
+
+/// Notes the first places of a block, where there is a generation.
+fn note_row(sets: &mut Remembered, block: u16) -> Result<(), AllocError>
+    requires { block < 65535 }
+{
+    for offset in 0..OFFSETS {
+        if 0 < sets.generations() {
+            sets.note(0, Place::small(block, offset))?;
+        }
+    }
+    Ok(())
+}
+
+/// Notes the first places of each block.
+fn note_rows(sets: &mut Remembered) -> Result<(), AllocError> {
+    for block in 0..BLOCKS {
+        note_row(sets, block)?;
+    }
+    Ok(())
+}
+
+// 100,000 places are noted twice, which is soon done where a place is looked up without going over all members.
+#[test]
+fn many_places_are_noted_once(rt: HostRuntime) -> Result<(), Fail> {
+    let mut sets = Remembered::new(rt.alloc(), 1)?;
+    note_rows(&mut sets)?;
+    note_rows(&mut sets)?;
+    assert_eq!(rt; sets.len(0), 100_000);
+    Ok(())
 }

@@ -132,6 +132,30 @@ fn automatic_collection(rt: HostRuntime) -> Result<(), Fail> {
     assert_aged(&rt, rt.alloc(), &config, &mut store)
 }
 
+/// The census after an object of 17 words, beside four that fill the nursery.
+const WITH_LARGE: &str =
+    "gen 0 step 0: 4 objects 64 words\ngen 0 step 1: 0 objects 0 words\ngen 1 step 0: 0 objects 0 words\nlarge: 1 objects 17 words\nroots: 4\nremembered: 0\n";
+
+/// Asserts that an object of more words than a quarter of a block is large, and that no full nursery is collected for it.
+fn assert_large(
+    rt: &impl Abort,
+    alloc: Global,
+    config: &Config,
+    store: &mut Store,
+) -> Result<(), Fail> {
+    fill_nursery(alloc, config, store)?;
+    let line = store.add(alloc, config, b"e", 0, 0, 16)?;
+    assert_eq!(rt; line.as_str(), "");
+    assert_census(rt, alloc, config, store, WITH_LARGE)
+}
+
+#[test]
+fn large_object(rt: HostRuntime) -> Result<(), Fail> {
+    let config = config_of(64, 1, 1, 2);
+    let mut store = Store::empty(rt.alloc(), &config)?;
+    assert_large(&rt, rt.alloc(), &config, &mut store)
+}
+
 /// An object of the older generation leads to a new one, and neither has a name then.
 fn assert_parent_ages(
     rt: &impl Abort,
@@ -196,8 +220,24 @@ fn assert_pointer_is_got(
     Ok(())
 }
 
+/// Asserts what is wrong with names and fields that are got, where `a` and `b` are the names of an object with one pointer.
+fn assert_get_faults(rt: &impl Abort, alloc: Global, config: &Config, store: &mut Store) {
+    let (used, free): (&[u8], &[u8]) = (b"b", b"c");
+    for (new_name, name, field, kind) in [
+        (used, used, 0, Kind::NameInUse),
+        (free, free, 0, Kind::UnknownName),
+        (free, used, 1, Kind::NoField),
+        (free, used, 9, Kind::NoField),
+    ] {
+        let refusal = store.get(alloc, config, new_name, name, field).err();
+        assert_eq!(rt; refusal, Some(Refusal::Fault(kind)));
+    }
+}
+
 /// Asserts the faults of an object and of a collection.
 fn assert_faults(rt: &impl Abort, alloc: Global, config: &Config, store: &mut Store) {
+    let refusal = store.add(alloc, config, b"b", 0, 0, 0).err();
+    assert_eq!(rt; refusal, Some(Refusal::Fault(Kind::NameInUse)));
     let refusal = store.add(alloc, config, b"c", 0, 100001, 0).err();
     assert_eq!(rt; refusal, Some(Refusal::Fault(Kind::TooBig)));
     let refusal = store.add(alloc, config, b"c", 1, 0, 0).err();
@@ -211,6 +251,7 @@ fn get_and_new_faults(rt: HostRuntime) -> Result<(), Fail> {
     let config = config_of(512, 1, 4, 2);
     let mut store = Store::empty(rt.alloc(), &config)?;
     assert_pointer_is_got(&rt, rt.alloc(), &config, &mut store)?;
+    assert_get_faults(&rt, rt.alloc(), &config, &mut store);
     assert_faults(&rt, rt.alloc(), &config, &mut store);
     Ok(())
 }

@@ -2,7 +2,7 @@
 ghost use Rattle.std.specs.Prelude.{◌≡◌, ◌<◌, IfOk, length};
 ghost use Rattle.forwarding.specs.Noted.{IsPassOf, IsApart};
 
-use crate::sharing_tests::cell_tests::{first_place_stays, is_second};
+use crate::sharing_tests::cell_tests::{finds_what_another_won, first_place_stays, is_second};
 use forwarding::{BoxCells, BoxPass, Cells, Forwards, Outcome, SettleError, look_then_race};
 use layout::Place;
 use std::alloc::{AllocError, Global};
@@ -12,6 +12,7 @@ use std::test::Fail;
 fn two_passes(alloc: Global, count: u32) -> Result<(BoxCells, BoxPass, BoxPass), Fail>
     ensures count { IfOk result (λ r. length r.0 ≡ count) }
     ensures passes { IfOk result (λ r. IsPassOf r.0 r.1 × IsPassOf r.0 r.2) }
+    ensures numbers { IfOk result (λ r. (r.1.number ≡ 0) × (r.2.number ≡ 1)) }
     ensures apart { IfOk result (λ r. IsApart r.1 r.2) }
 {
     let (cells, mut passes) = BoxCells::new(alloc, alloc, count, 2)?;
@@ -143,6 +144,17 @@ fn a_new_pass_finds_a_set_box(rt: HostRuntime) -> Result<(), Fail> {
     let found = finds_what_is_set(&cells, &mut zero, &mut one)?;
     assert!(rt; found);
     assert!(rt; settle_two(cells, rt.alloc(), zero, one).is_ok());
+    Ok(())
+}
+
+// The same through the trait by which threads share boxes, whether the place of a small or a large object.
+#[test]
+fn a_new_pass_finds_a_won_box(rt: HostRuntime) -> Result<(), Fail> {
+    for a in [Place::small(0, 4), Place::large(65534)] {
+        let (cells, mut zero, mut one) = two_passes(rt.alloc(), 2)?;
+        let found = finds_what_another_won(&cells, &mut zero, &mut one, a)?;
+        assert!(rt; found);
+    }
     Ok(())
 }
 

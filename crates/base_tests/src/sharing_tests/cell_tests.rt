@@ -3,14 +3,14 @@ ghost use Rattle.std.specs.Prelude.{◌≡◌, ◌<◌, length, IfOk};
 ghost use Rattle.forwarding.specs.Plain.{IsFit, Differ};
 
 use forwarding::{
-    CellMemory, Cells, Forwards, Outcome, PlainCells, PlainPass, SettleError, WordCells, WordPass,
-    look_then_race, settled,
+    CellMemory, Cells, Forwards, Outcome, PlainCells, PlainPass, SettleError, SharedCells,
+    WordCells, WordPass, look_then_race, settled,
 };
 use layout::Place;
 use std::alloc::{AllocError, Global};
 use std::test::Fail;
 
-/// Two passes race for name 1, which nobody won. Whether the first place stays.
+/// Two passes race for name 1, which nobody won. Whether the first place stays, and the second pass finds it before it races.
 pub(crate) fn first_place_stays<C: Cells>(
     cells: &mut C,
     zero: &mut C::Pass,
@@ -28,9 +28,29 @@ pub(crate) fn first_place_stays<C: Cells>(
 {
     let nothing = cells.look(zero, 1);
     let won = cells.race(zero, 1, a)?;
+    let found = cells.look(one, 1);
     let lost = cells.race(one, 1, b)?;
     let seen = cells.look(zero, 1);
-    Ok(nothing.is_none() && won == Outcome::Won && lost == Outcome::Lost(a) && seen == Some(a))
+    let first = nothing.is_none() && won == Outcome::Won && found == Some(a);
+    Ok(first && lost == Outcome::Lost(a) && seen == Some(a))
+}
+
+/// The first pass wins name 1 of cells that threads share, and the second one looks before and after. Whether it finds nothing
+/// and then that place.
+pub(crate) fn finds_what_another_won<S: SharedCells>(
+    cells: &S,
+    zero: &mut S::Pass,
+    one: &mut S::Pass,
+    a: Place,
+) -> Result<bool, AllocError>
+    requires name { 1 < S.limit cells.now }
+    requires zero { S.is_pass cells.now 0 zero.old }
+    requires one { S.is_pass cells.now 1 one.old }
+{
+    let nothing = cells.look_at(one, 1);
+    let won = cells.race_for(zero, 1, a)?;
+    let found = cells.look_at(one, 1);
+    Ok(nothing.is_none() && won == Outcome::Won && found == Some(a))
 }
 
 /// Word cells for two names in that memory, and two passes.
@@ -128,6 +148,17 @@ fn two_passes_race_for_a_word(rt: HostRuntime) -> Result<(), Fail> {
     let (stays, forwards) = raced_words(rt.alloc(), CellMemory::none(rt.alloc()), a, b)?;
     assert!(rt; stays);
     assert!(rt; is_second(&forwards, a));
+    Ok(())
+}
+
+// A pass of shared words finds what another one won, whether the place of a small or a large object.
+#[test]
+fn a_new_pass_finds_a_won_word(rt: HostRuntime) -> Result<(), Fail> {
+    for a in [Place::small(0, 4), Place::large(65534)] {
+        let (cells, mut zero, mut one) = two_word_passes(rt.alloc(), CellMemory::none(rt.alloc()))?;
+        let found = finds_what_another_won(&cells, &mut zero, &mut one, a)?;
+        assert!(rt; found);
+    }
     Ok(())
 }
 

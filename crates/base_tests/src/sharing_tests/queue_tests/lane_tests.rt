@@ -3,7 +3,8 @@ ghost use Rattle.std.specs.Prelude.{◌≡◌, ◌<◌, ◌+◌, Some, IfOk, len
 
 use block_pool::Block;
 use pending_queues::{Cargo, Lane, LanePass};
-use std::alloc::Global;
+use refusing::Refusing;
+use std::alloc::{Allocator, Global};
 use std::snapshot::Snapshot;
 use std::sync::Wait;
 use std::test::Fail;
@@ -35,9 +36,10 @@ impl Cargo for Any {
 }
 
 /// The queue of exporter 5 with two seats, of which the first one may send.
-type Pair = (Lane<Any>, LanePass<Numbers>, LanePass<Numbers>);
+type Pair<A> = (Lane<Any, A>, LanePass<Numbers, A>, LanePass<Numbers, A>);
 
-fn open_pair(alloc: Global) -> Result<Pair, Fail>
+/// Opens it by the second allocator; the first one is for the list of its key.
+fn open_pair<A: Allocator + Clone>(alloc: Global, lanes: A) -> Result<Pair<A>, Fail>
     ensures sender { IfOk result (λ p. (p.1.lane ≡ p.0) × (p.1.parts ≡ 1) × (p.1.senders ≡ 1) ×
         (p.1.about.exporter ≡ 5) × (p.1.about.seats ≡ 2) × (length p.1.sent ≡ 0)) }
     ensures taker { IfOk result (λ p. (p.2.lane ≡ p.0) × (p.2.parts ≡ 1) × (p.2.about.seats ≡ 2)) }
@@ -47,18 +49,18 @@ fn open_pair(alloc: Global) -> Result<Pair, Fail>
         list: Snapshot::of(&list),
         step: 3,
     };
-    let (lane, mut root) = Lane::<Any>::open(alloc, &key, 5, 2)?;
+    let (lane, mut root) = Lane::<Any, A>::open(lanes, &key, 5, 2)?;
     let sender = lane.deal(&mut root, true);
     let taker = lane.deal(&mut root, false);
     Ok((lane, sender, taker))
 }
 
 /// Sends a block with that number.
-fn send_next<R: Wait>(
+fn send_next<R: Wait, A: Allocator + Clone>(
     rt: &R,
-    alloc: Global,
-    lane: &Lane<Any>,
-    pass: &mut LanePass<Numbers>,
+    alloc: A,
+    lane: &Lane<Any, A>,
+    pass: &mut LanePass<Numbers, A>,
     position: u32,
     number: u32,
 ) -> Result<(), Fail>
@@ -154,7 +156,7 @@ fn send_three<R: Wait>(
 
 #[test]
 fn blocks_come_in_order(rt: HostRuntime) -> Result<(), Fail> {
-    let (lane, mut sender, mut taker) = open_pair(rt.alloc())?;
+    let (lane, mut sender, mut taker) = open_pair(rt.alloc(), rt.alloc())?;
     assert!(rt; is_empty(&rt, &lane, &mut taker));
     send_three(&rt, rt.alloc(), &lane, &mut sender)?;
     assert!(rt; lane.maybe(&mut taker));
@@ -167,9 +169,14 @@ fn blocks_come_in_order(rt: HostRuntime) -> Result<(), Fail> {
 
 #[test]
 fn a_lane_frees_what_is_left(rt: HostRuntime) -> Result<(), Fail> {
-    let (lane, mut sender, _taker) = open_pair(rt.alloc())?;
-    send_next(&rt, rt.alloc(), &lane, &mut sender, 0, 7)?;
+    let refusing = Refusing::new(rt.alloc(), u64::MAX);
+    let (lane, mut sender, _taker) = open_pair(rt.alloc(), &refusing)?;
+    let empty = refusing.asked();
+    send_next(&rt, &refusing, &lane, &mut sender, 0, 7)?;
     assert!(rt; lane.maybe(&mut sender));
+    assert!(rt; empty < refusing.asked() && refusing.returned() < refusing.asked());
+    drop(lane);
+    assert_eq!(rt; refusing.asked(), refusing.returned());
     Ok(())
 }
 
@@ -267,7 +274,7 @@ fn send_and_take<R: Threads + Wait + Sync>(
 
 #[test]
 fn each_block_is_taken_once(rt: HostRuntime) -> Result<(), Fail> {
-    let (lane, sender, taker) = open_pair(rt.alloc())?;
+    let (lane, sender, taker) = open_pair(rt.alloc(), rt.alloc())?;
     let (mut sender, done) = send_and_take(&rt, rt.alloc(), &lane, sender, taker)?;
     assert!(rt; done.rising);
     let Done {
