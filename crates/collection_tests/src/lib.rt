@@ -4,6 +4,8 @@
 #[cfg(test)]
 mod drawing;
 #[cfg(test)]
+mod far_fields;
+#[cfg(test)]
 mod heaps;
 mod in_turn;
 mod on_threads;

@@ -1,6 +1,6 @@
 //! The texts of errors.
 use collector::ThreadsError;
-use machine::{MachineError, StepError};
+use machine::{LookError, MachineError, SettleError, StepError};
 use std::alloc::Global;
 use std::fmt::{Display, Write};
 use std::process::Abort;
@@ -36,6 +36,14 @@ heap full
 no memory
 ";
 
+const LOOKING: &str = "all free blocks were drawn
+no memory
+";
+
+const SETTLING: &str = "a worker hasn't ended
+no memory
+";
+
 const ON_THREADS: &str = "bad configuration
 no such generation
 heap full
@@ -56,7 +64,11 @@ fn errors_show_what_they_mean(rt: HostRuntime) -> Result<(), Fail> {
         StepError::HeapFull,
         StepError::NoMemory,
     ];
-    assert_lines(&rt, rt.alloc(), &stepping, STEPPING)
+    assert_lines(&rt, rt.alloc(), &stepping, STEPPING)?;
+    let looking = [LookError::HeapFull, LookError::NoMemory];
+    assert_lines(&rt, rt.alloc(), &looking, LOOKING)?;
+    let settling = [SettleError::NotEnded, SettleError::NoMemory];
+    assert_lines(&rt, rt.alloc(), &settling, SETTLING)
 }
 
 #[test]

@@ -64,8 +64,8 @@ fn collected_in_turn<A: Allocator + Clone>(
     }
 }
 
-/// What a report by so many workers tells. Had others been the ones that reported, the collection would have been thrown away and
-/// carried out by one alone.
+/// What a report tells. As many workers report as were asked for: where others do, the collection of those was thrown away, and one
+/// worker carried it out.
 fn counted<A: Allocator>(report: &Report<A>, n: u32) -> Result<Answer, Fail> {
     if report.workers.len() != n as usize {
         return Err(Fail::from("not as many workers as were asked for"));

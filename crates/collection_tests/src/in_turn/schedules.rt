@@ -8,7 +8,7 @@
 //! -- ends
 //! where they end, and whether something comes next
 //! ```
-use crate::heaps::heap_of;
+use crate::heaps::{heap_of, seen};
 use crate::in_turn::events::event_of;
 use heap::{Heap, RootId, Sizes};
 use machine::{Event, Machine, StepError};
@@ -65,6 +65,13 @@ two share
 own 0 large
 -- ends
 event 0: not lawful; something comes next
+== no block is left to the second worker
+two share, with a block for copies
+-- events
+look 0
+look 1
+-- ends
+event 1: heap full; something comes next
 ";
 
 /// A schedule, the heap in which a collection has it, and how it ends.
@@ -89,11 +96,11 @@ fn row_of(text: &'static str) -> Option<Row> {
     })
 }
 
-/// A heap of one generation, of 3 blocks of 64 words, one of them a nursery's.
-fn small_heap(alloc: Global) -> Result<Heap, Fail> {
+/// A heap of one generation, of so many blocks of 64 words, one of them a nursery's.
+fn small_heap(alloc: Global, blocks: u64) -> Result<Heap, Fail> {
     let sizes = Sizes {
         block_words: 64,
-        blocks: 3,
+        blocks,
         mutators: 1,
         nursery_blocks: 1,
         generations: 1,
@@ -120,11 +127,15 @@ fn add_shared(heap: &mut Heap) -> Result<(), Fail> {
 
 /// The heap of that name.
 fn heap_named(alloc: Global, name: &str) -> Result<Heap, Fail> {
-    let mut heap = small_heap(alloc)?;
-    match name {
-        "empty" => {}
-        "two share" => add_shared(&mut heap)?,
+    let (blocks, is_shared) = match name {
+        "empty" => (3, false),
+        "two share" => (3, true),
+        "two share, with a block for copies" => (2, true),
         _ => return Err(Fail::from("no such heap")),
+    };
+    let mut heap = small_heap(alloc, blocks)?;
+    if is_shared {
+        add_shared(&mut heap)?;
     }
     Ok(heap)
 }
@@ -162,11 +173,15 @@ fn told(
     }
 }
 
-/// How the schedule of a row ends.
+/// How the schedule of a row ends. The heap's census is the same after it.
 fn end_of(alloc: Global, row: Row) -> Result<String, Fail> {
     let heap = heap_named(alloc, row.heap)?;
+    let before = seen(alloc, alloc, &heap, &[])?;
     let events = events_of(alloc, row.events)?;
     let (answer, comes_next) = ran(alloc, &heap, &events)?;
+    if seen(alloc, alloc, &heap, &[])? != before {
+        return Err(Fail::from("another census"));
+    }
     told(alloc, answer, comes_next)
 }
 

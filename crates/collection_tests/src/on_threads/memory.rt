@@ -4,7 +4,7 @@ use crate::refused::trials::{MANY, outstanding};
 use crate::ways::{Way, collected};
 use collector::{CellKind, Crew};
 use forwarding::OpenGate;
-use heap::{Heap, RootId};
+use heap::{Heap, RootId, Sizes};
 use refusing::Refusing;
 use std::alloc::{AllocGlobal, Global};
 use std::process::Abort;
@@ -102,6 +102,48 @@ fn assert_all_used_by_new<R: Threads + Wait + Sync + AllocGlobal + Abort>(
 fn blocks_given_up_are_those_of_a_worker_alone(rt: HostRuntime) -> Result<(), Fail> {
     let refusing = Refusing::new(rt.alloc(), MANY);
     assert_all_used_by_new(&rt, &refusing)?;
+    assert_eq!(&rt; outstanding(&refusing), 0);
+    Ok(())
+}
+
+/// Asserts that so many threads, who take no block where nothing lives, are dealt all 50 that are spare: none of them is given back,
+/// and the 50 of the dead ones are spare too. In use are the 102 of two nurseries, and a quarter more are kept.
+fn assert_dealt_whole<'a, R: Threads + Wait + Sync + AllocGlobal + Abort>(
+    rt: &R,
+    refusing: &'a Refusing<Global>,
+    heap: &mut Counting<'a>,
+    workers: u32,
+) -> Result<(), Fail> {
+    let top = add_tree(refusing, heap, 600)?;
+    let _of_nursery = asked(rt, refusing, heap, 1)?;
+    let _anew = asked(rt, refusing, heap, 1)?;
+    assert_eq!(rt; heap.spare_blocks(), 50);
+    heap.release(top)?;
+    let _of_none = asked(rt, refusing, heap, workers)?;
+    assert_eq!(rt; heap.spare_blocks(), 100, "{workers} workers");
+    Ok(())
+}
+
+/// The same of a new heap.
+fn assert_dealt_whole_by_new<R: Threads + Wait + Sync + AllocGlobal + Abort>(
+    rt: &R,
+    refusing: &Refusing<Global>,
+    workers: u32,
+) -> Result<(), Fail> {
+    let sizes = Sizes {
+        mutators: 2,
+        ..sizes_for(600, 251)
+    };
+    let mut heap = heap_of(refusing, sizes)?;
+    assert_dealt_whole(rt, refusing, &mut heap, workers)
+}
+
+#[test]
+fn all_spare_blocks_are_dealt(rt: HostRuntime) -> Result<(), Fail> {
+    let refusing = Refusing::new(rt.alloc(), MANY);
+    for workers in [2, 3, 16] {
+        assert_dealt_whole_by_new(&rt, &refusing, workers)?;
+    }
     assert_eq!(&rt; outstanding(&refusing), 0);
     Ok(())
 }

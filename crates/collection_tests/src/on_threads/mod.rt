@@ -8,4 +8,8 @@ mod drawn;
 #[cfg(test)]
 mod in_a_row;
 #[cfg(test)]
+mod late_work;
+#[cfg(test)]
+mod leaving;
+#[cfg(test)]
 mod memory;
