@@ -103,9 +103,9 @@ fn run_apart<
 }
 
 /// Reads a trace piece by piece, carries it out line by line and writes what it prints. It makes the heap first. Each
-/// collection is by so many workers as the settings say, each on a thread of its own, and the gate is called before each step
-/// that they share; where they say one, no thread is started. The bytes depend neither on how many there are, nor on their
-/// cells, nor on the order in which they run, nor on how the input was cut into reads.
+/// collection is by so many workers as the settings say, the first on the caller's thread and each other on one of its own, and
+/// the gate is called before each step that they share; where they say one, no thread is started. At `Ok` the bytes depend
+/// neither on how many there are, nor on their cells, nor on the order in which they run, nor on how the input was cut into reads.
 pub fn run<
     R: Threads + Wait + Sync + AllocGlobal,
     G: Gate + Sync,

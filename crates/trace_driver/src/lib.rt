@@ -12,7 +12,7 @@ pub use apart::run;
 pub use collector::CellKind;
 pub use config::RunConfig;
 pub use heap_text::{CountedReader, ReadFailed, Source};
-pub use program::main_with;
+pub use program::{main_at, main_with};
 pub use replaying::replay;
 pub use running::run_one;
 pub use trace_session::Fault;

@@ -10,7 +10,7 @@ use crate::apart::run;
 use crate::command_line::{Options, Refused, Task, read_words};
 use crate::config::RunConfig;
 use crate::replaying::replay;
-use forwarding::OpenGate;
+use forwarding::{Gate, OpenGate};
 use heap::{BadConfig, Config};
 use heap_text::{Sink, Source, write_all};
 use std::alloc::AllocGlobal;
@@ -42,8 +42,8 @@ fn tell<E: Sink>(fault: &Fault, errors: &mut E) -> u8
     fault.status()
 }
 
-/// The status of a command line that isn't carried out: 0 for help, which goes to `writer`, and 3 for a mistake in the
-/// words, of which `errors` is told.
+/// The status of a command line that isn't carried out: 0 for help, which goes to `writer`, or 4 where it can't be written; 3 for
+/// a mistake in the words and 1 for want of memory, of which `errors` is told.
 fn refuse<W: Sink, E: Sink>(refused: &Refused, writer: &mut W, errors: &mut E) -> u8
     requires writable { W.failed_writes writer.old < 2 ^ 64 - 1 }
     requires tellable { E.failed_writes errors.old < 2 ^ 64 - 1 }
@@ -88,13 +88,13 @@ fn seeded_config(rt: &impl RandomSource, options: &Options) -> Result<RunConfig,
 }
 
 /// Carries out a trace with these numbers, and says the status.
-fn run_with<R: Threads + Wait + Sync + AllocGlobal + RandomSource, S: Source, W: Sink, E: Sink>(
-    rt: &R,
-    options: &Options,
-    reader: &mut S,
-    writer: &mut W,
-    errors: &mut E,
-) -> u8
+fn run_with<
+    R: Threads + Wait + Sync + AllocGlobal + RandomSource,
+    S: Source,
+    W: Sink,
+    E: Sink,
+    G: Gate + Sync,
+>(rt: &R, options: &Options, reader: &mut S, writer: &mut W, errors: &mut E, gate: &G) -> u8
     requires readable { S.failed_reads reader.old < 2 ^ 64 - 1 }
     requires writable { W.failed_writes writer.old < 2 ^ 64 - 1 }
     requires tellable { E.failed_writes errors.old < 2 ^ 64 - 1 }
@@ -118,7 +118,7 @@ fn run_with<R: Threads + Wait + Sync + AllocGlobal + RandomSource, S: Source, W:
         }
     };
     match options.task {
-        Task::Run => match run(rt, rt.alloc(), reader, writer, config, &OpenGate) {
+        Task::Run => match run(rt, rt.alloc(), reader, writer, config, gate) {
             Ok(()) => 0,
             Err(fault) => tell(&fault, errors),
         },
@@ -130,9 +130,9 @@ fn run_with<R: Threads + Wait + Sync + AllocGlobal + RandomSource, S: Source, W:
 }
 
 /// Reads a command line, carries out the trace that `reader` gives, and says the exit status: 0 for a trace without a
-/// fault and for help, 1 where blocks or memory are wanting or boxed cells were not settled, 2 for a faulty trace, 3 for a mistake in the words or a
-/// number out of its range, 4 for a failed read or write. What it tells of a fault goes to `errors`; a failed write of
-/// that doesn't change the status. Names are hashed with a seed that the runtime draws.
+/// fault and for help, 1 where blocks or memory are wanting or boxed cells were not settled, 2 for a faulty trace, 3 for a
+/// mistake in the words or a number out of its range, 4 for a failed read or write. What it tells of a fault goes to
+/// `errors`; a failed write of that doesn't change the status. Names are hashed with a seed that the runtime draws.
 pub fn main_with<
     R: Threads + Wait + Sync + AllocGlobal + RandomSource,
     T: AsStr,
@@ -160,8 +160,40 @@ pub fn main_with<
     ensures writes { W.failed_writes writer.new ≤ W.failed_writes writer.old + 1 }
     ensures error_writes { E.failed_writes errors.new ≤ E.failed_writes errors.old + 1 }
 {
+    main_at(rt, words, reader, writer, errors, &OpenGate)
+}
+
+/// The same, where the gate is called before each step that the workers of a run share.
+pub fn main_at<
+    R: Threads + Wait + Sync + AllocGlobal + RandomSource,
+    T: AsStr,
+    S: Source,
+    W: Sink,
+    E: Sink,
+    G: Gate + Sync,
+>(rt: &R, words: &[T], reader: &mut S, writer: &mut W, errors: &mut E, gate: &G) -> u8
+    requires readable { S.failed_reads reader.old < 2 ^ 64 - 1 }
+    requires writable { W.failed_writes writer.old < 2 ^ 64 - 1 }
+    requires tellable { E.failed_writes errors.old < 2 ^ 64 - 1 }
+    ensures status { result ≤ 4 }
+    ensures ends { ((options : Asked) ×
+        TaskEnds options ((writer.new ≡ writer.old) × (reader.new ≡ reader.old)) (errors.new ≡ errors.old)
+        (S.failed_reads reader.new ≡ S.failed_reads reader.old + 1)
+        (W.failed_writes writer.new ≡ W.failed_writes writer.old + 1)
+        (E.failed_writes errors.new ≡ E.failed_writes errors.old + 1)
+        (S.input reader.old) (S.input reader.new) (W.output writer.old) (W.output writer.new) (E.output errors.old)
+        (E.output errors.new) result)
+        ⊎ ((reader.new ≡ reader.old) ×
+        ((mistaken : Mistaken) × IsRefusal mistaken (writer.new ≡ writer.old) (errors.new ≡ errors.old)
+        (W.failed_writes writer.new ≡ W.failed_writes writer.old + 1)
+        (E.failed_writes errors.new ≡ E.failed_writes errors.old + 1)
+        (W.output writer.old) (W.output writer.new) (E.output errors.old) (E.output errors.new) result)) }
+    ensures reads { S.failed_reads reader.new ≤ S.failed_reads reader.old + 1 }
+    ensures writes { W.failed_writes writer.new ≤ W.failed_writes writer.old + 1 }
+    ensures error_writes { E.failed_writes errors.new ≤ E.failed_writes errors.old + 1 }
+{
     match read_words(rt.alloc(), words) {
-        Ok(options) => run_with(rt, &options, reader, writer, errors),
+        Ok(options) => run_with(rt, &options, reader, writer, errors, gate),
         Err(refused) => refuse(&refused, writer, errors),
     }
 }
