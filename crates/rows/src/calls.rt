@@ -102,6 +102,7 @@ fn assert_told(
 #[test]
 fn faults_as_text(rt: HostRuntime) -> Result<(), AllocError> {
     for (fault, told, status) in [
+        (Fault::HeapFull(None), "heap full", 1),
         (Fault::HeapFull(Some(6)), "line 6: heap full", 1),
         (Fault::NoMemory(None), "no memory", 1),
         (Fault::NoMemory(Some(3)), "line 3: no memory", 1),

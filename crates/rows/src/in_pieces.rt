@@ -3,7 +3,7 @@ use crate::pieces::{Failure, PieceReader, PieceWriter};
 use crate::program::text_of;
 use crate::refused::Task;
 use crate::table::row_named;
-use crate::{faults, generations, large, odd, pointers};
+use crate::{faults, field_faults, generations, large, odd, pointers};
 use forwarding::OpenGate;
 use heap::{BadConfig, Config, Sizes};
 use heap_text::Counted;
@@ -172,15 +172,49 @@ fn any_pieces(rt: HostRuntime) -> Result<(), Fail> {
 }
 
 #[test]
+fn any_pieces_of_faults(rt: HostRuntime) -> Result<(), Fail> {
+    for (rows, name, line, kind) in [
+        (
+            faults::ROWS,
+            "against the heap: drop x",
+            1,
+            Kind::UnknownName,
+        ),
+        (
+            field_faults::ROWS,
+            "fault: new a 0 1 0, new b 0 0 0, set a 1 b",
+            3,
+            Kind::NoField,
+        ),
+        (
+            field_faults::ROWS,
+            "fault: new a 0 0 1, put a 0 18446744073709551616",
+            2,
+            Kind::BadNumber,
+        ),
+    ] {
+        let fault = Err(Fault::BadTrace(line, kind));
+        let threads = Task::Threads(CellKind::Word);
+        assert_named(&rt, rows, name, Task::Run, sizes_of(1, 512), fault)?;
+        assert_named(&rt, rows, name, threads, sizes_of(1, 512), fault)?;
+    }
+    Ok(())
+}
+
+#[test]
 fn any_pieces_of_odd_lines(rt: HostRuntime) -> Result<(), BadConfig> {
     let kept = "collected 0: 1 kept, 0 freed\n";
     let too_big = Err(Fault::BadTrace(3, Kind::TooBig));
     let too_long = Err(Fault::BadTrace(1, Kind::LineTooLong));
     let unfinished = Err(Fault::BadTrace(1, Kind::UnfinishedLine));
+    let unfinished_later = Err(Fault::BadTrace(3, Kind::UnfinishedLine));
+    let unknown_later = Err(Fault::BadTrace(3, Kind::UnknownName));
     let line = [b'#'; 4097];
     for (name, reads, writes, result) in [
         ("fault", odd::BLANKS_AND_A_FAULT, "", too_big),
         ("blanks", odd::BLANKS_ROUND_WORDS, kept, Ok(())),
+        ("output before", odd::UNFINISHED, kept, unfinished_later),
+        ("line ends", odd::LINE_ENDS, kept, unknown_later),
         ("one byte", b"#".as_slice(), "", unfinished),
         ("a few bytes", b"new a 0 1 0", "", unfinished),
         ("4,096 bytes", &line[..4096], "", unfinished),

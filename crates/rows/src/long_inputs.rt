@@ -3,14 +3,17 @@ use crate::in_pieces::{config_of, sizes_of};
 use crate::program::text_of;
 use crate::refused::Task;
 use forwarding::OpenGate;
+use heap::{BadConfig, Sizes};
 use heap_text::Counted;
-use std::alloc::AllocGlobal;
+use refusing::Refusing;
+use std::alloc::{AllocGlobal, Global};
 use std::io;
 use std::io::Read;
+use std::process::Abort;
 use std::sync::Wait;
 use std::test::Fail;
 use std::thread::Threads;
-use trace_driver::{CountedReader, Fault, RunConfig, run};
+use trace_driver::{CellKind, CountedReader, Fault, RunConfig, replay, run};
 use trace_text::Kind;
 
 /// Gives a text again and again and then another one, and notes the most bytes that a read asked for.
@@ -71,12 +74,18 @@ struct Ended {
 
 fn ran<R: Threads + Wait + Sync + AllocGlobal>(
     rt: &R,
+    task: Task,
     config: RunConfig,
     input: Repeated<'_>,
 ) -> Ended {
     let mut reader = CountedReader::new(input);
     let mut writer = Counted::new(Vec::new(rt.alloc()));
-    let result = run(rt, rt.alloc(), &mut reader, &mut writer, config, &OpenGate);
+    let result = match task {
+        Task::Run | Task::Threads(_) => {
+            run(rt, rt.alloc(), &mut reader, &mut writer, config, &OpenGate)
+        }
+        Task::Replay => replay(rt.alloc(), &mut reader, &mut writer, config),
+    };
     Ended {
         result,
         output: writer.inner,
@@ -84,18 +93,41 @@ fn ran<R: Threads + Wait + Sync + AllocGlobal>(
     }
 }
 
-/// 500 objects, each of which is dropped.
-#[test]
-fn no_read_asks_for_more_than_a_piece(rt: HostRuntime) -> Result<(), Fail> {
-    let config = config_of(Task::Run, sizes_of(1, 512))?.with_piece(5)?;
-    let input = Repeated::new(b"new a 0 0 1\ndrop a\n", 500, b"collect 0\n");
-    let ended = ran(&rt, config, input);
+/// Makes and drops 500 objects, and asserts that a read asks for at most so many bytes, and that one does.
+fn assert_asks_for<R: Threads + Wait + Sync + AllocGlobal + Abort>(
+    rt: &R,
+    task: Task,
+    piece: u64,
+    last: &[u8],
+    printed: &str,
+) -> Result<(), BadConfig> {
+    let config = config_of(task, sizes_of(1, 512))?.with_piece(piece)?;
+    let input = Repeated::new(b"new a 0 0 1\ndrop a\n", 500, last);
+    let ended = ran(rt, task, config, input);
     let written = text_of(ended.output.as_slice());
     assert_eq!(rt;
-        (ended.result, written),
-        (Ok(()), "collected 0: 0 kept, 500 freed\n")
+        (ended.result, written, ended.most as u64),
+        (Ok(()), printed, piece)
     );
-    assert!(rt; ended.most <= 5);
+    Ok(())
+}
+
+/// What the schedule of a collection by two workers prints to whom nothing is left.
+const NONE_LEFT: &str = "collected 0: 0 kept, 500 freed
+worker 0: 0 won, 0 scanned
+worker 1: 0 won, 0 scanned
+";
+
+#[test]
+fn most_that_a_read_asks_for_is_a_piece(rt: HostRuntime) -> Result<(), BadConfig> {
+    let threads = Task::Threads(CellKind::Word);
+    let freed = "collected 0: 0 kept, 500 freed\n";
+    let scheduled = b"collect 0\nfinish\ncommit\n".as_slice();
+    for piece in [5, 4096, 65_536] {
+        assert_asks_for(&rt, Task::Run, piece, b"collect 0\n", freed)?;
+        assert_asks_for(&rt, threads, piece, b"collect 0\n", freed)?;
+        assert_asks_for(&rt, Task::Replay, piece, scheduled, NONE_LEFT)?;
+    }
     Ok(())
 }
 
@@ -107,10 +139,80 @@ const COMMENTS: &[u8] = b"#\n#\n#\n#\n#\n#\n#\n#\n#\n#\n";
 #[test]
 fn two_million_comments(rt: HostRuntime) -> Result<(), Fail> {
     let config = config_of(Task::Run, sizes_of(1, 512))?;
-    let ended = ran(&rt, config, Repeated::new(COMMENTS, 200_000, b"drop x\n"));
+    let input = Repeated::new(COMMENTS, 200_000, b"drop x\n");
+    let ended = ran(&rt, Task::Run, config, input);
     let fault = Fault::BadTrace(2_000_001, Kind::UnknownName);
     let written = text_of(ended.output.as_slice());
     assert_eq!(rt; (ended.result, written), (Err(fault), ""));
-    assert!(rt; ended.most <= 4096);
+    assert_eq!(rt; ended.most, 4096);
+    Ok(())
+}
+
+/// Gives a text, and notes how many bytes of memory are held at each read.
+#[derive(Drop)]
+struct Noting<'a> {
+    input: Repeated<'a>,
+    refusing: &'a Refusing<Global>,
+    /// What was held at the first read.
+    first: Option<u64>,
+    /// The most that was held at a read.
+    most: u64,
+}
+
+impl Read for Noting<'_> {
+    fn read(&mut self, buffer: &mut [u8]) -> io::Result<usize> {
+        let held = self.refusing.bytes_held();
+        if self.first.is_none() {
+            self.first = Some(held);
+        }
+        self.most = self.most.max(held);
+        self.input.read(buffer)
+    }
+}
+
+/// The fault of a run over 20,000 lines, and how many bytes of memory it holds at its first read, and at most at a read. At most
+/// one object is in use, and the nursery has room for 64.
+fn held_at_reads<R: Threads + Wait + Sync + AllocGlobal>(
+    rt: &R,
+    task: Task,
+) -> Result<(Result<(), Fault>, u64, u64), BadConfig> {
+    let sizes = Sizes {
+        block_words: 64,
+        blocks: 8,
+        mutators: 1,
+        nursery_blocks: 1,
+        generations: 1,
+        steps: 1,
+    };
+    let config = config_of(task, sizes)?;
+    let refusing = Refusing::new(rt.alloc(), u64::MAX);
+    let mut reader = CountedReader::new(Noting {
+        input: Repeated::new(b"new a 0 0 0\ndrop a\n", 10_000, b""),
+        refusing: &refusing,
+        first: None,
+        most: 0,
+    });
+    let mut writer = Counted::new(Vec::new(rt.alloc()));
+    let result = run(rt, &refusing, &mut reader, &mut writer, config, &OpenGate);
+    let first = reader.inner.first.unwrap_or(u64::MAX);
+    Ok((result, first, reader.inner.most))
+}
+
+#[test]
+fn memory_of_a_long_run_does_not_grow(rt: HostRuntime) -> Result<(), BadConfig> {
+    for (name, task) in [
+        ("one worker", Task::Run),
+        ("words", Task::Threads(CellKind::Word)),
+        ("boxes", Task::Threads(CellKind::Box)),
+    ] {
+        let (result, first, most) = held_at_reads(&rt, task)?;
+        assert_eq!(rt; result, Ok(()), "{name}");
+        // Of what it holds at first, 12,288 bytes are room for a line and a piece, and for what a read fills. Measured
+        // were 13,408 bytes at first, and at most 1,416 more.
+        assert!(rt;
+            first < 20_000 && most < first.saturating_add(4096),
+            "{name}: {first} at first, {most} at most"
+        );
+    }
     Ok(())
 }

@@ -1,4 +1,5 @@
-//! A trace of 60,000 names, each of a large object that takes a block, by one worker, by two threads, and by two workers in turn.
+//! A trace of 70,000 names, 60,000 of them of large objects that take a block each, by one worker, by two threads, and by two
+//! workers in turn.
 use crate::program::{Ended, assert_output, ran, text_of};
 use std::alloc::{AllocError, AllocGlobal, Global};
 use std::fmt::Write;
@@ -7,25 +8,45 @@ use std::random::RandomSource;
 use std::sync::Wait;
 use std::thread::Threads;
 
-/// How many names there are.
-const NAMES: u32 = 60_000;
+/// How many names there are: more than 16 bits number.
+const NAMES: u32 = 70_000;
+
+/// How many large objects there are. The others are small, and 16 mutators share them.
+const LARGE: u32 = 60_000;
 
 /// What is counted when all are kept.
-const COUNTS: &str = "gen 0 step 0: 0 objects 0 words
+const COUNTS: &str = "gen 0 step 0: 10000 objects 10000 words
 large: 60000 objects 600000 words
-roots: 60000
+roots: 70000
 remembered: 0
 ";
+
+/// A line that makes the object of this number.
+fn push_object(text: &mut String, number: u32) -> Result<(), AllocError> {
+    let (mutator, plain) = if number < LARGE {
+        (0, 9)
+    } else {
+        (number % 16, 0)
+    };
+    writeln!(text, "new n{number} {mutator} 0 {plain}")
+}
 
 /// The objects, so many lines that collect them, and a census.
 fn trace_of(alloc: Global, collection: &str) -> Result<String, AllocError> {
     let mut text = String::new(alloc);
     for number in 0..NAMES {
-        writeln!(&mut text, "new n{number} 0 0 9")?;
+        push_object(&mut text, number)?;
     }
     writeln!(&mut text, "{collection}")?;
     writeln!(&mut text, "census")?;
     Ok(text)
+}
+
+/// A command line for as many blocks as there may be.
+fn words_of(alloc: Global, words: &str) -> Result<String, AllocError> {
+    format!(in alloc;
+        "{words} --generations 1 --block-words 16 --blocks 65535 --mutators 16 --nursery 64"
+    )
 }
 
 /// What a run prints.
@@ -37,15 +58,16 @@ fn output_of(alloc: Global) -> Result<String, AllocError> {
 }
 
 #[test]
-fn sixty_thousand_names(rt: HostRuntime) -> Result<(), AllocError> {
+fn seventy_thousand_names(rt: HostRuntime) -> Result<(), AllocError> {
     let trace = trace_of(rt.alloc(), "collect 0")?;
     let output = output_of(rt.alloc())?;
     for words in [
-        "gctrace run --generations 1 --block-words 16 --blocks 65535",
-        "gctrace run --generations 1 --block-words 16 --blocks 65535 --threads 2",
-        "gctrace run --generations 1 --block-words 16 --blocks 65535 --threads 2 --cells box",
+        "gctrace run",
+        "gctrace run --threads 2",
+        "gctrace run --threads 2 --cells box",
     ] {
-        assert_output(&rt, words, trace.as_str(), output.as_str())?;
+        let words = words_of(rt.alloc(), words)?;
+        assert_output(&rt, words.as_str(), trace.as_str(), output.as_str())?;
     }
     Ok(())
 }
@@ -60,13 +82,13 @@ fn assert_replayed<R: Threads + Wait + Sync + AllocGlobal + RandomSource + Abort
     rt: &R,
 ) -> Result<(), AllocError> {
     let trace = trace_of(rt.alloc(), "collect 0\nfinish\ncommit")?;
-    let words = "gctrace replay --generations 1 --block-words 16 --blocks 65535 --threads 2";
-    let ended = ran(rt, words, trace.as_str().as_bytes())?;
+    let words = words_of(rt.alloc(), "gctrace replay --threads 2")?;
+    let ended = ran(rt, words.as_str(), trace.as_str().as_bytes())?;
     assert!(rt; is_counted(&ended), "{}", text_of(ended.errors.as_slice()));
     Ok(())
 }
 
 #[test]
-fn sixty_thousand_names_by_schedule(rt: HostRuntime) -> Result<(), AllocError> {
+fn seventy_thousand_names_by_schedule(rt: HostRuntime) -> Result<(), AllocError> {
     assert_replayed(&rt)
 }

@@ -43,6 +43,12 @@ pub(crate) const BLANKS_AND_A_FAULT: &[u8] =
 /// Blanks round words, and numbers that begin with zeros.
 pub(crate) const BLANKS_ROUND_WORDS: &[u8] = b"new\ta 00  0 01\t\r\n collect 000\r\n";
 
+/// Lines with two kinds of ends, and a name that isn't in use.
+pub(crate) const LINE_ENDS: &[u8] = b"new a 0 0 1\r\ncollect 0\ndrop x\r\n";
+
+/// Output before a line without an end.
+pub(crate) const UNFINISHED: &[u8] = b"new a 0 0 1\ncollect 0\ndrop a";
+
 #[test]
 fn line_ends(rt: HostRuntime) -> Result<(), AllocError> {
     for (words, input, left) in [

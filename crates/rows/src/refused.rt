@@ -233,8 +233,16 @@ fn first_of(wanted: Wanted) -> u64 {
     }
 }
 
-/// Asserts that each request of a trial is refused in turn, or each draw of a block, and that nothing is wanting only where
-/// more than `least` are given.
+/// The line in which a run or a replay stopped, or 0.
+fn line_of(ended: &Ended) -> u128 {
+    match ended.result {
+        Err(Fault::NoMemory(Some(number)) | Fault::HeapFull(Some(number))) => number,
+        _ => 0,
+    }
+}
+
+/// Asserts that each request of a trial is refused in turn, or each draw of a block, that the more are given the further it comes
+/// (two threads may ask for more in one run than in another), and that nothing is wanting only where more than `least` are given.
 pub(crate) fn assert_each_refused<R: Threads + Wait + Sync + AllocGlobal + Abort>(
     rt: &R,
     trial: &Trial,
@@ -244,6 +252,8 @@ pub(crate) fn assert_each_refused<R: Threads + Wait + Sync + AllocGlobal + Abort
     let alloc = rt.alloc();
     let mut input = String::new(alloc);
     push_input(&mut input, trial.trace)?;
+    let is_by_threads = matches!(trial.task, Task::Threads(_));
+    let mut line = 0;
     for number in first_of(wanted)..MANY {
         let ended = carried_out_at(rt, trial, input.as_str(), wanted, number)?;
         if ended.result.is_ok() {
@@ -252,7 +262,9 @@ pub(crate) fn assert_each_refused<R: Threads + Wait + Sync + AllocGlobal + Abort
             return Ok(());
         }
         let is_as_told = is_stopped(alloc, trial.trace, wanted, &ended)?;
-        assert!(rt; is_as_told, "{} at {number}", trial.name);
+        let is_further = is_by_threads || line <= line_of(&ended);
+        assert!(rt; is_as_told && is_further, "{} at {number}", trial.name);
+        line = line_of(&ended);
     }
     Err(Fail::from("each was refused"))
 }

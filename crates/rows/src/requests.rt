@@ -1,13 +1,18 @@
-//! How many requests for memory collections make: one uses again what the one before had, and boxes aren't counted.
+//! How many requests for memory collections make: one uses again what the one before had, and boxes aren't counted. And want of blocks
+//! is told before want of memory.
+use crate::in_pieces::config_of;
 use crate::refused::{Task, asked_by};
-use heap::Sizes;
+use forwarding::OpenGate;
+use heap::{BadConfig, Sizes};
+use heap_text::Counted;
+use refusing::Refusing;
 use std::alloc::{AllocError, AllocGlobal, Global};
 use std::fmt::Write;
 use std::process::Abort;
 use std::sync::Wait;
 use std::test::Fail;
 use std::thread::Threads;
-use trace_driver::CellKind;
+use trace_driver::{CellKind, CountedReader, Fault, replay, run};
 
 /// One generation, whose objects all fit in one block.
 fn one_generation() -> Sizes {
@@ -78,5 +83,53 @@ fn boxes_are_made_elsewhere(rt: HostRuntime) -> Result<(), Fail> {
         by_boxes < by_words,
         "{by_boxes} by boxes, {by_words} by words"
     );
+    Ok(())
+}
+
+/// What is told where one block is there for the two of the nursery, and this request for memory is refused.
+fn told_without_blocks<R: Threads + Wait + Sync + AllocGlobal>(
+    rt: &R,
+    task: Task,
+    refused: u64,
+) -> Result<Result<(), Fault>, BadConfig> {
+    let sizes = Sizes {
+        blocks: 1,
+        nursery_blocks: 2,
+        ..one_generation()
+    };
+    let config = config_of(task, sizes)?;
+    let refusing = Refusing::new(rt.alloc(), refused);
+    let mut reader = CountedReader::new(b"new\n".as_slice());
+    let mut writer = Counted::new(Vec::new(rt.alloc()));
+    Ok(match task {
+        Task::Run | Task::Threads(_) => {
+            run(rt, &refusing, &mut reader, &mut writer, config, &OpenGate)
+        }
+        Task::Replay => replay(&refusing, &mut reader, &mut writer, config),
+    })
+}
+
+/// Asserts that want of blocks is told whichever request for memory is refused.
+fn assert_full_first<R: Threads + Wait + Sync + AllocGlobal + Abort>(
+    rt: &R,
+    task: Task,
+) -> Result<(), BadConfig> {
+    for refused in 0..20 {
+        let told = told_without_blocks(rt, task, refused)?;
+        assert_eq!(rt; told, Err(Fault::HeapFull(None)), "{refused}");
+    }
+    Ok(())
+}
+
+#[test]
+fn want_of_blocks_is_told_first(rt: HostRuntime) -> Result<(), BadConfig> {
+    for task in [
+        Task::Run,
+        Task::Threads(CellKind::Word),
+        Task::Threads(CellKind::Box),
+        Task::Replay,
+    ] {
+        assert_full_first(&rt, task)?;
+    }
     Ok(())
 }

@@ -1,4 +1,5 @@
 //! Gates that hold workers until others come.
+use crate::meetings::order::Order;
 use crossbeam_utils::Backoff;
 use forwarding::{Gate, StepKind};
 use std::sync::atomic::{AtomicBool, AtomicU64, Ordering};
@@ -9,8 +10,11 @@ const TURNS: u32 = 10_000;
 /// How many yields a turn has.
 const YIELDS: u32 = 1_000;
 
-/// Waits until the flag is up, or for so many turns. Then it lets go, and raises `late`.
-fn wait_for(flag: &AtomicBool, late: &AtomicBool) {
+/// Waits until the flag is up, or for so many turns. Then it lets go, and raises `late`. Where that is up, nobody waits.
+pub(crate) fn wait_for(flag: &AtomicBool, late: &AtomicBool) {
+    if late.load(Ordering::SeqCst) {
+        return;
+    }
     let backoff = Backoff::new();
     for _turn in 0..TURNS {
         for _yield in 0..YIELDS {
@@ -79,11 +83,15 @@ pub(crate) struct Hands {
     pub(crate) to: u32,
 }
 
-/// Holds one worker before its first step after its first export until another comes to a look at a block that it took. A third
-/// worker takes nothing before.
+/// Holds one worker before its exports until another rests, and before its first step after its first export until the other
+/// comes to a look at a block that it took. A third worker takes nothing before.
 #[derive(Drop)]
 pub(crate) struct Handover {
     hands: Hands,
+    order: Order,
+    rested: AtomicBool,
+    woke: AtomicBool,
+    sought_twice: AtomicBool,
     exported: AtomicBool,
     held: AtomicBool,
     sought: AtomicBool,
@@ -96,6 +104,10 @@ impl Handover {
     pub(crate) fn new(hands: Hands) -> Handover {
         Handover {
             hands,
+            order: Order::new(),
+            rested: AtomicBool::new(false),
+            woke: AtomicBool::new(false),
+            sought_twice: AtomicBool::new(false),
             exported: AtomicBool::new(false),
             held: AtomicBool::new(false),
             sought: AtomicBool::new(false),
@@ -112,11 +124,31 @@ impl Handover {
             && !self.late.load(Ordering::SeqCst)
     }
 
+    /// Whether each worker told of its steps in order, and of a poll last, and the other of a wake and of two takes in a row:
+    /// one of its own queue, and one of another's.
+    pub(crate) fn is_told(&self) -> bool {
+        self.order.is_ended_by(self.hands.workers, StepKind::Poll)
+            && self.woke.load(Ordering::SeqCst)
+            && self.sought_twice.load(Ordering::SeqCst)
+    }
+
     /// How many races worker `t` ran.
     pub(crate) fn races_of(&self, t: usize) -> u64 {
         match self.races.get(t) {
             Some(races) => races.load(Ordering::SeqCst),
             None => 0,
+        }
+    }
+
+    /// The other worker rests, and then wakes and seeks a block in its own queue and in another's.
+    fn before_rest(&self, step: StepKind) {
+        match step {
+            StepKind::Poll => self.rested.store(true, Ordering::SeqCst),
+            StepKind::Wake => self.woke.store(true, Ordering::SeqCst),
+            StepKind::Take if self.order.last_of(self.hands.to) == Some(step) => {
+                self.sought_twice.store(true, Ordering::SeqCst)
+            }
+            _ => {}
         }
     }
 
@@ -135,6 +167,7 @@ impl Handover {
             wait_for(&self.looked, &self.late);
         }
         if step == StepKind::Export {
+            wait_for(&self.rested, &self.late);
             self.exported.store(true, Ordering::SeqCst);
         }
     }
@@ -148,11 +181,13 @@ impl Gate for Handover {
             }
         }
         if worker == self.hands.to {
+            self.before_rest(step);
             self.before_taker(step);
         } else if worker == self.hands.from {
             self.before_exporter(step);
         } else if step == StepKind::Take {
             wait_for(&self.looked, &self.late);
         }
+        self.order.before(worker, step);
     }
 }

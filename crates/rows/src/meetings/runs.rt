@@ -3,10 +3,12 @@ use crate::meetings::gates::Meeting;
 use heap::{Config, Sizes};
 use heap_text::Counted;
 use std::alloc::AllocGlobal;
+use std::process::Abort;
+use std::random::RandomSource;
 use std::sync::Wait;
 use std::test::Fail;
 use std::thread::Threads;
-use trace_driver::{CellKind, CountedReader, RunConfig, run};
+use trace_driver::{CellKind, CountedReader, RunConfig, main_at, run};
 
 /// A trace with one collection, of objects with a name each.
 #[derive(Clone, Copy)]
@@ -72,6 +74,47 @@ fn meet<R: Threads + Wait + Sync + AllocGlobal>(
     let gate = Meeting::new();
     let text = printed(rt, met, kind, &gate)?;
     Ok(gate.met() && gate.races() == met.races && text.as_slice() == met.printed.as_bytes())
+}
+
+/// What the program prints by two workers who meet, and the status with which it ends.
+fn printed_by_program<R: Threads + Wait + Sync + AllocGlobal + RandomSource>(
+    rt: &R,
+    words: &str,
+    gate: &Meeting,
+) -> Result<(u8, Vec<u8>), Fail> {
+    let words: Vec<&str> = words.split_whitespace().collect(rt.alloc())?;
+    let mut reader = CountedReader::new(ASKED_FOR.trace.as_bytes());
+    let mut writer = Counted::new(Vec::new(rt.alloc()));
+    let mut errors = Counted::new(Vec::new(rt.alloc()));
+    let status = main_at(
+        rt,
+        words.as_slice(),
+        &mut reader,
+        &mut writer,
+        &mut errors,
+        gate,
+    );
+    Ok((status, writer.inner))
+}
+
+/// Asserts that the two workers whom these words ask for meet.
+fn assert_asked_for<R: Threads + Wait + Sync + AllocGlobal + RandomSource + Abort>(
+    rt: &R,
+    words: &str,
+) -> Result<(), Fail> {
+    let gate = Meeting::new();
+    let (status, text) = printed_by_program(rt, words, &gate)?;
+    assert_eq!(rt; status, 0);
+    assert!(rt; text.as_slice() == ASKED_FOR.printed.as_bytes());
+    assert!(rt; gate.met() && gate.races() == ASKED_FOR.races, "{words}");
+    Ok(())
+}
+
+/// The two workers of a run of the program meet, whose words ask for two.
+#[test]
+fn two_workers_of_the_program_meet(rt: HostRuntime) -> Result<(), Fail> {
+    assert_asked_for(&rt, "gctrace run --block-words 64 --threads 2")?;
+    assert_asked_for(&rt, "gctrace run --threads 2 --cells box --block-words 64")
 }
 
 #[test]

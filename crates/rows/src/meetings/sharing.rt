@@ -10,16 +10,16 @@ use std::test::Fail;
 use std::thread::Threads;
 
 /// How many objects worker `t` won.
-fn won_by(report: &Report, t: usize) -> u64 {
+pub(crate) fn won_by(report: &Report, t: usize) -> u64 {
     match report.workers.get(t) {
         Some(worker) => worker.won().len() as u64,
         None => 0,
     }
 }
 
-/// A heap with two objects, each with a root.
-fn two_objects(alloc: Global) -> Result<Heap, Fail> {
-    let mut heap = Heap::new(alloc, Config::new(Sizes::default())?)?;
+/// A heap of these sizes with two objects, each with a root.
+pub(crate) fn two_objects(alloc: Global, sizes: Sizes) -> Result<Heap, Fail> {
+    let mut heap = Heap::new(alloc, Config::new(sizes)?)?;
     let _first = heap.allocate(0, 0, 0)?;
     let _second = heap.allocate(0, 0, 0)?;
     Ok(heap)
@@ -31,7 +31,7 @@ fn won_at_meeting<R: Threads + Wait + Sync + AllocGlobal>(
     kind: CellKind,
     gate: &Meeting,
 ) -> Result<(u64, u64), Fail> {
-    let mut heap = two_objects(rt.alloc())?;
+    let mut heap = two_objects(rt.alloc(), Sizes::default())?;
     let report = collect(rt, rt.alloc(), &mut heap, 0, 2, kind, gate)?;
     Ok((won_by(&report, 0), won_by(&report, 1)))
 }
@@ -108,12 +108,13 @@ fn handed_on(report: &Report, hands: Hands) -> bool {
     false
 }
 
-/// How many objects the workers won, if none won more than it ran races for.
+/// How many objects the workers won, if each won as many as it ran races. A small object of the ring has one slot that leads to it,
+/// and a worker that looks at the large one took a block of small ones, which comes after the race for the large one.
 fn won_by_races(report: &Report, gate: &Handover) -> Option<u64> {
     let mut won = 0_u64;
     for t in 0..report.workers.len() {
         let own = won_by(report, t);
-        if own > gate.races_of(t) {
+        if own != gate.races_of(t) {
             return None;
         }
         won = won.saturating_add(own);
@@ -174,7 +175,7 @@ fn share<R: Threads + Wait + Sync + AllocGlobal>(
     let (text, found) = left_by_several(rt, kind, hands, &gate)?;
     let same = text == left_by_one(rt.alloc(), hands.from)?;
     let won = hands.from as u64 + 14;
-    Ok(same && found == (Some(won), true) && gate.handed_over())
+    Ok(same && found == (Some(won), true) && gate.handed_over() && gate.is_told())
 }
 
 /// From the caller's thread to another, from another to the caller's, and from one other to another.
