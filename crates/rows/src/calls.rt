@@ -106,6 +106,13 @@ fn faults_as_text(rt: HostRuntime) -> Result<(), AllocError> {
         (Fault::HeapFull(Some(6)), "line 6: heap full", 1),
         (Fault::NoMemory(None), "no memory", 1),
         (Fault::NoMemory(Some(3)), "line 3: no memory", 1),
+        (Fault::HeapFull(Some(300)), "line 300: heap full", 1),
+        (Fault::NoMemory(Some(70_000)), "line 70000: no memory", 1),
+        (
+            Fault::Unsettled(u128::MAX),
+            "line 340282366920938463463374607431768211455: cells unsettled",
+            1,
+        ),
         (Fault::ReadFailed, "read failed", 4),
         (Fault::WriteFailed, "write failed", 4),
         (Fault::Unsettled(7), "line 7: cells unsettled", 1),

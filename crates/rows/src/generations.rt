@@ -92,6 +92,105 @@ large: 0 objects 0 words
 roots: 1
 remembered: 0
 -- tells
+== objects age through four generations
+gctrace run --generations 4 --steps 1 --block-words 64
+status 0
+-- reads
+new a 0 1 0
+collect 0
+collect 1
+collect 2
+new b 0 0 1
+put b 0 7
+set a 0 b
+drop b
+census
+collect 0
+collect 1
+collect 2
+heap
+collect 3
+-- writes
+collected 0: 1 kept, 0 freed
+collected 1: 1 kept, 0 freed
+collected 2: 1 kept, 0 freed
+gen 0 step 0: 1 objects 2 words
+gen 1 step 0: 0 objects 0 words
+gen 2 step 0: 0 objects 0 words
+gen 3 step 0: 1 objects 2 words
+large: 0 objects 0 words
+roots: 1
+remembered: 1
+collected 0: 1 kept, 0 freed
+collected 1: 1 kept, 0 freed
+collected 2: 1 kept, 0 freed
+root a #1
+#1 gen 3 step 0 ptrs [#2] words []
+#2 gen 3 step 0 ptrs [] words [7]
+collected 3: 2 kept, 0 freed
+-- tells
+== sixteen workers collect by themselves for three mutators
+gctrace run --generations 1 --block-words 16 --nursery 1 --mutators 3 --threads 16
+status 0
+-- reads
+new a 2 0 3
+new b 2 0 3
+new c 2 0 3
+new d 2 0 3
+drop c
+new e 2 0 3
+census
+-- writes
+auto 0: 3 kept, 1 freed
+gen 0 step 0: 4 objects 16 words
+large: 0 objects 0 words
+roots: 4
+remembered: 0
+-- tells
+== three workers collect an object through four generations of four steps
+gctrace run --generations 4 --steps 4 --threads 3
+status 0
+-- reads
+new a 0 1 0
+collect 3
+collect 3
+collect 3
+collect 3
+collect 3
+collect 3
+collect 3
+collect 3
+collect 3
+collect 3
+collect 3
+collect 3
+collect 3
+collect 3
+new b 0 0 1
+set a 0 b
+drop b
+collect 2
+heap
+-- writes
+collected 3: 1 kept, 0 freed
+collected 3: 1 kept, 0 freed
+collected 3: 1 kept, 0 freed
+collected 3: 1 kept, 0 freed
+collected 3: 1 kept, 0 freed
+collected 3: 1 kept, 0 freed
+collected 3: 1 kept, 0 freed
+collected 3: 1 kept, 0 freed
+collected 3: 1 kept, 0 freed
+collected 3: 1 kept, 0 freed
+collected 3: 1 kept, 0 freed
+collected 3: 1 kept, 0 freed
+collected 3: 1 kept, 0 freed
+collected 3: 1 kept, 0 freed
+collected 2: 1 kept, 0 freed
+root a #1
+#1 gen 3 step 0 ptrs [#2] words []
+#2 gen 0 step 1 ptrs [] words [0]
+-- tells
 == old object points to a young one
 gctrace run --block-words 64
 status 0

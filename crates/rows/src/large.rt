@@ -205,6 +205,31 @@ collect 0
 collected 0: 9 kept, 0 freed
 -- tells
 gctrace: line 27: heap full
+== pointer to a large object is read
+gctrace run --block-words 64
+status 0
+-- reads
+new a 0 1 0
+new b 0 0 16
+put b 15 7
+set a 0 b
+drop b
+get c a 0
+drop a
+collect 0
+heap
+census
+-- writes
+collected 0: 1 kept, 1 freed
+root c #1
+#1 gen 0 step 1 ptrs [] words [0 0 0 0 0 0 0 0 0 0 0 0 0 0 0 7]
+gen 0 step 0: 0 objects 0 words
+gen 0 step 1: 0 objects 0 words
+gen 1 step 0: 0 objects 0 words
+large: 1 objects 17 words
+roots: 1
+remembered: 0
+-- tells
 == large object is remembered
 gctrace run --block-words 64
 status 0

@@ -114,6 +114,49 @@ look 1
 -- writes
 -- tells
 gctrace: line 9: heap full
+== sixteen workers take turns, and the first has two objects
+gctrace replay --generations 1 --block-words 64 --threads 16
+status 0
+-- reads
+new n00 0 0 1
+new n01 0 0 1
+new n02 0 0 1
+new n03 0 0 1
+new n04 0 0 1
+new n05 0 0 1
+new n06 0 0 1
+new n07 0 0 1
+new n08 0 0 1
+new n09 0 0 1
+new n10 0 0 1
+new n11 0 0 1
+new n12 0 0 1
+new n13 0 0 1
+new n14 0 0 1
+new n15 0 0 1
+new n16 0 0 1
+collect 0
+finish
+commit
+-- writes
+collected 0: 17 kept, 0 freed
+worker 0: 2 won, 2 scanned
+worker 1: 1 won, 1 scanned
+worker 2: 1 won, 1 scanned
+worker 3: 1 won, 1 scanned
+worker 4: 1 won, 1 scanned
+worker 5: 1 won, 1 scanned
+worker 6: 1 won, 1 scanned
+worker 7: 1 won, 1 scanned
+worker 8: 1 won, 1 scanned
+worker 9: 1 won, 1 scanned
+worker 10: 1 won, 1 scanned
+worker 11: 1 won, 1 scanned
+worker 12: 1 won, 1 scanned
+worker 13: 1 won, 1 scanned
+worker 14: 1 won, 1 scanned
+worker 15: 1 won, 1 scanned
+-- tells
 == too many workers
 gctrace replay --generations 1 --threads 17
 status 3
