@@ -91,3 +91,57 @@ fn far_fields_lead_on(rt: HostRuntime) -> Result<(), Fail> {
     }
     Ok(())
 }
+
+/// Lets each field of the array lead to a new object with this mark, to which nothing else leads.
+fn mark_all(heap: &mut Heap, array: RootId, mark: u64) -> Result<(), Fail> {
+    let object = heap.allocate(0, 0, 1)?;
+    heap.put(object, 0, mark)?;
+    for field in 0..70_000 {
+        heap.store(array, field, Some(object))?;
+    }
+    heap.release(object)?;
+    Ok(())
+}
+
+/// Asserts that fields about 65,536, the first and the last lead to an object with this mark.
+fn assert_marks(rt: &impl Abort, heap: &mut Heap, array: RootId, mark: u64) -> Result<(), Fail> {
+    for field in [0, 65_535, 65_536, 69_999] {
+        assert_mark(rt, heap, array, field, mark)?;
+    }
+    Ok(())
+}
+
+/// Collects an array all of whose fields lead to one object, and then the one that all of the old array's lead to.
+fn assert_full_fields<R: Threads + Wait + Sync + AllocGlobal + Abort>(
+    rt: &R,
+    heap: &mut Heap,
+    way: Way,
+) -> Result<(), Fail> {
+    let array = heap.allocate(0, 70_000, 0)?;
+    mark_all(heap, array, 7)?;
+    assert_keeps(rt, heap, 0, way, 2)?;
+    assert_marks(rt, heap, array, 7)?;
+    mark_all(heap, array, 8)?;
+    assert_keeps(rt, heap, 0, way, 1)?;
+    assert_marks(rt, heap, array, 8)?;
+    let all = collected(rt, rt.alloc(), heap, 1, way)?;
+    assert_eq!(rt; all, Answer::Counts(2, 1), "{way:?}");
+    assert_marks(rt, heap, array, 8)
+}
+
+/// The same of a new heap.
+fn assert_full_fields_by<R: Threads + Wait + Sync + AllocGlobal + Abort>(
+    rt: &R,
+    way: Way,
+) -> Result<(), Fail> {
+    let mut heap = heap_of(rt.alloc(), SIZES)?;
+    assert_full_fields(rt, &mut heap, way)
+}
+
+#[test]
+fn full_fields_lead_on(rt: HostRuntime) -> Result<(), Fail> {
+    for way in WAYS {
+        assert_full_fields_by(&rt, way)?;
+    }
+    Ok(())
+}

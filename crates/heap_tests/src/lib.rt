@@ -4,6 +4,8 @@
 #[cfg(test)]
 mod at_size;
 #[cfg(test)]
+mod block_sizes;
+#[cfg(test)]
 mod collections;
 #[cfg(test)]
 mod counting;
@@ -19,6 +21,8 @@ mod many_pointers;
 mod many_roots;
 #[cfg(test)]
 mod noted;
+#[cfg(test)]
+mod old_at_size;
 #[cfg(test)]
 mod order;
 #[cfg(test)]

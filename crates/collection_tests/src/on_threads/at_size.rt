@@ -1,8 +1,8 @@
 //! Collections by threads at a size at which real programs work.
 use crate::heaps::heap_of;
 use crate::ways::{Answer, Way, collected};
-use collector::CellKind;
-use heap::{Heap, RootId, Sizes};
+use collector::{CellKind, collect_one};
+use heap::{AllocateError, Heap, RootId, Sizes};
 use std::alloc::{AllocGlobal, Global};
 use std::process::Abort;
 use std::sync::Wait;
@@ -77,4 +77,58 @@ fn assert_kept_by<R: Threads + Wait + Sync + AllocGlobal + Abort>(
 fn sixty_thousand_large_objects(rt: HostRuntime) -> Result<(), Fail> {
     assert_kept_by(&rt, CellKind::Word)?;
     assert_kept_by(&rt, CellKind::Box)
+}
+
+/// Blocks of 64 words, of which 1,024 are the nurseries'.
+const MANY_BLOCKS: Sizes = Sizes {
+    block_words: 64,
+    blocks: 65_535,
+    mutators: 16,
+    nursery_blocks: 64,
+    generations: 1,
+    steps: 1,
+};
+
+/// A new object of four words, by the mutator whose turn it is. Where its nursery is full the heap is collected first.
+fn small_object(alloc: Global, heap: &mut Heap, mark: u64) -> Result<RootId, Fail> {
+    let mutator = mark % 16;
+    let root = match heap.allocate(mutator, 1, 2) {
+        Ok(root) => root,
+        Err(AllocateError::NurseryFull) => {
+            let _report = collect_one(alloc, heap, 0)?;
+            heap.allocate(mutator, 1, 2)?
+        }
+        Err(error) => return Err(Fail::from(error)),
+    };
+    heap.put(root, 0, mark)?;
+    Ok(root)
+}
+
+/// Makes so many of these, of which each has its mark.
+fn small_objects(alloc: Global, heap: &mut Heap, count: u64) -> Result<Vec<RootId>, Fail> {
+    let mut roots = Vec::new(alloc);
+    for mark in 0..count {
+        roots.push(small_object(alloc, heap, mark)?)?;
+    }
+    Ok(roots)
+}
+
+/// Collects 200,000 small objects, which take 12,500 blocks, by two threads over each kind of cells, and again.
+fn assert_small_kept<R: Threads + Wait + Sync + AllocGlobal + Abort>(
+    rt: &R,
+    heap: &mut Heap,
+) -> Result<(), Fail> {
+    let roots = small_objects(rt.alloc(), heap, 200_000)?;
+    for kind in [CellKind::Word, CellKind::Box, CellKind::Word, CellKind::Box] {
+        let all = collected(rt, rt.alloc(), heap, 0, Way::OnThreads(2, kind))?;
+        assert_eq!(rt; all, Answer::Counts(200_000, 0), "{kind:?}");
+    }
+    assert_marks(rt, heap, &roots);
+    Ok(())
+}
+
+#[test]
+fn two_hundred_thousand_small_objects(rt: HostRuntime) -> Result<(), Fail> {
+    let mut heap = heap_of(rt.alloc(), MANY_BLOCKS)?;
+    assert_small_kept(&rt, &mut heap)
 }

@@ -4,6 +4,7 @@ ghost use Rattle.std.specs.Prelude.{◌≤◌};
 use crate::refused::shared_tree::{live_of, shared_tree};
 use crate::refused::trials::WAYS;
 use crate::ways::{Answer, Ended, Way, end_of};
+use collector::CellKind;
 use heap::{Heap, RootId};
 use scavenge::space_bound;
 use std::alloc::{AllocGlobal, Global};
@@ -17,11 +18,12 @@ const BLOCKS: u64 = 120;
 
 /// How many workers each way has that is tried.
 fn workers_of(way: Way) -> u32
-    ensures { result ≤ 2 }
+    ensures { result ≤ 3 }
 {
     match way {
-        Way::Alone | Way::OnThreads(1, _) => 1,
-        Way::InTurn | Way::OnThreads(..) => 2,
+        Way::Alone => 1,
+        Way::InTurn => 2,
+        Way::OnThreads(n, _) => n.min(3),
     }
 }
 
@@ -102,6 +104,14 @@ fn each_number_of_blocks_of_each_way_to_collect(rt: HostRuntime) -> Result<(), F
         for generation in 0..2 {
             assert_with_each(&rt, generation, way)?;
         }
+    }
+    Ok(())
+}
+
+#[test]
+fn each_number_of_blocks_of_three_threads(rt: HostRuntime) -> Result<(), Fail> {
+    for generation in 0..2 {
+        assert_with_each(&rt, generation, Way::OnThreads(3, CellKind::Word))?;
     }
     Ok(())
 }

@@ -3,6 +3,7 @@ use crate::heaps::seen;
 use crate::refused::shared_tree::shared_tree;
 use crate::refused::trials::{MANY, WAYS, outstanding};
 use crate::ways::{Answer, Ended, Way, collected, end_of};
+use collector::CellKind;
 use heap::{Heap, RootId};
 use refusing::Refusing;
 use std::alloc::{AllocGlobal, Global};
@@ -185,6 +186,14 @@ fn each_request_of_each_way_to_collect(rt: HostRuntime) -> Result<(), Fail> {
         for generation in 0..2 {
             refuse_each(&rt, generation, way)?;
         }
+    }
+    Ok(())
+}
+
+#[test]
+fn each_request_of_three_threads(rt: HostRuntime) -> Result<(), Fail> {
+    for generation in 0..2 {
+        refuse_each(&rt, generation, Way::OnThreads(3, CellKind::Word))?;
     }
     Ok(())
 }
