@@ -307,6 +307,7 @@ impl<A: Allocator> Block<A> {
         self.offsets[k] as usize
     }
 
+    /// The block's number in its heap, by which places name it.
     pub fn number(&self) -> u32
         ensures value { result ≡ self.now.number }
         ensures in_range { result < 65535 }
@@ -314,12 +315,14 @@ impl<A: Allocator> Block<A> {
         self.label.number
     }
 
+    /// The generation of the block's objects, 0 for the youngest.
     pub fn generation(&self) -> u8
         ensures { result ≡ self.now.generation }
     {
         self.label.generation
     }
 
+    /// The step of the block's objects in their generation, 0 for the youngest.
     pub fn step(&self) -> u8
         ensures { result ≡ self.now.step }
     {
@@ -343,6 +346,7 @@ impl<A: Allocator> Block<A> {
         self.len
     }
 
+    /// Whether the block holds no object.
     pub fn is_empty(&self) -> bool
         ensures { IsTrue result ↔ (self.now.objects ≡ []) }
     {

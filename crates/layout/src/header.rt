@@ -21,8 +21,11 @@ pub struct TooBig;
 /// How many pointers and plain words an object has, and its ordinal in its block.
 #[derive(Clone, Copy, Debug, PartialEq, Eq)]
 pub struct Header {
+    /// How many pointers it has, at most `MOST_FIELDS`.
     pub pointers: u32,
+    /// How many plain words it has, at most `MOST_FIELDS`.
     pub plain: u32,
+    /// How many objects stand before it in its block; of a large object 0.
     pub ordinal: u16,
     pub ghost pointers_in_range: { pointers ≤ 100000 },
     pub ghost plain_in_range: { plain ≤ 100000 },

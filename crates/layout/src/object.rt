@@ -6,8 +6,11 @@ use crate::header::{Header, MOST_FIELDS};
 /// An object where it lies: its header, the words of its pointers, and its plain words.
 #[derive(Clone, Copy, Debug)]
 pub struct ObjectRef<'a> {
+    /// How many pointers and plain words it has, and its ordinal.
     pub header: Header,
+    /// The words of its pointers, 0 for nil.
     pub pointers: &'a [u64],
+    /// Its plain words.
     pub words: &'a [u64],
     pub ghost pointer_count: { length pointers.now ≡ header.pointers },
     pub ghost plain_count: { length words.now ≡ header.plain },

@@ -4,7 +4,9 @@ ghost use Rattle.std.specs.Prelude.{◌≡◌, ◌≢◌, ◌<◌, Some, IfSome,
 /// Where a small object is: a block's number, and the index of the object's first word in it.
 #[derive(Clone, Copy, Debug, PartialEq, Eq, PartialOrd, Ord, Hash)]
 pub struct SmallPlace {
+    /// The block's number, below 65,535.
     pub block: u16,
+    /// The index of the object's first word, its header, in the block, below 512.
     pub offset: u16,
     pub ghost block_in_range: { block < 65535 },
     pub ghost offset_in_range: { offset < 512 },
@@ -13,6 +15,7 @@ pub struct SmallPlace {
 /// The number of a large object.
 #[derive(Clone, Copy, Debug, PartialEq, Eq, PartialOrd, Ord, Hash)]
 pub struct LargeNumber {
+    /// Below 65,535.
     pub number: u16,
     pub ghost in_range: { number < 65535 },
 }
@@ -20,7 +23,9 @@ pub struct LargeNumber {
 /// Where an object is. Small places come first, by block and offset, and then large numbers, as the words of pointers do.
 #[derive(Clone, Copy, Debug, PartialEq, Eq, PartialOrd, Ord, Hash)]
 pub enum Place {
+    /// Of a small object, which lies in a block.
     Small(SmallPlace),
+    /// Of a large object, which has memory of its own.
     Large(LargeNumber),
 }
 

@@ -36,6 +36,8 @@ pub enum Command<'a> {
     Collect {
         generation: u64,
     },
+    /// Writes what the heap holds, by generations and steps.
     Census,
+    /// Writes what can be reached from the names, object by object.
     Heap,
 }
