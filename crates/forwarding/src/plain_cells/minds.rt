@@ -11,9 +11,13 @@ pub type Holdings = LinkedList<Option<Held>>;
 /// The number of a pass and how many were made with it, the place that it knows for each name, and the pairs that it
 /// won. No value of it is made.
 pub struct Mind {
+    /// The number of the pass, from 0 and below `passes`.
     pub number: usize,
+    /// How many passes were made with the cells, this one included.
     pub passes: usize,
+    /// One entry for each name, by its number: the place that is known, or `None`.
     pub known: LinkedList<Option<Place>>,
+    /// The names that it won, each with the place that it raced with, in the order of the races.
     pub won: LinkedList<(u32, Place)>,
 }
 

@@ -10,8 +10,11 @@ use std::alloc::AllocError;
 /// Cells that are lent to worker `worker`, behind its gate.
 #[derive(Drop)]
 pub struct Lent<'a, S, G> {
+    /// The cells, which all workers share.
     pub cells: &'a S,
+    /// What is called before each look and each race.
     pub gate: &'a G,
+    /// The worker's number, from 0. Its pass has the same number, and the gate is told it.
     pub worker: u32,
 }
 

@@ -6,15 +6,20 @@ use std::collections::LinkedList;
 /// How many cells and passes there are.
 #[derive(Clone, Copy)]
 pub struct Plan {
+    /// How many cells there are. Names are below it.
     pub count: u32,
+    /// How many passes there are, at least 1.
     pub passes: usize,
 }
 
 /// What a pass knows: its parts of the right to know all, the pairs that it knows, and those that it won. No value of
 /// it is made.
 pub struct Mind {
+    /// 1 for a pass of one worker, and as many as there are passes before they are dealt and once all are gathered.
     pub parts: u64,
+    /// Names with the places that it knows, those that it won among them. A name may stand there more than once.
     pub known: LinkedList<(u32, Place)>,
+    /// Names with the places that it won, in the order of the races where it is the pass of one worker.
     pub won: LinkedList<(u32, Place)>,
 }
 

@@ -14,7 +14,7 @@ use std::alloc::{Allocator, Global};
 use std::marker::Model;
 
 /// One word for each name: 0, or the word of the place that was won. A load or one exchange from 0 is the only step, so
-/// that threads share the cells. No call takes memory or waits but those that make and settle the cells.
+/// that threads share the cells. No call takes memory but those that make the cells, and no look and no race waits.
 #[derive(Drop)]
 pub struct WordCells<A: Allocator = Global> {
     pub(crate) table: Table<(), Mind, Plan, Rule, A>,
