@@ -3,8 +3,8 @@
 /// What ended a collection.
 #[derive(Clone, Copy, PartialEq, Eq, Debug)]
 pub enum Cause {
-    /// All workers were idle.
+    /// It ended by itself. No collection raises this: it stands in the box of a seat until the seat raises a cause.
     Ended,
-    /// A worker could not go on.
+    /// A worker could not go on, or could not be started.
     Refused,
 }

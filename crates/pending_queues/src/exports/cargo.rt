@@ -2,6 +2,7 @@
 
 /// What blocks are handed over for: a key that all seats know, and what holds of it and of each block that is handed over.
 pub trait Cargo {
+    /// What all seats know, and a cargo is checked against: in a collection, the heap that is collected.
     type Key;
 
     ghost use Rattle.block_pool.specs.BlockValue.{BlockValue};

@@ -35,7 +35,7 @@ impl<C: Cargo, A: Allocator> Model for PlainQueue<C, A> {
 }
 
 impl<C: Cargo, A: Allocator + Clone> PlainQueue<C, A> {
-    // An empty queue.
+    /// An empty queue of blocks that fit the key. An error says that memory ran out.
     pub fn new(alloc: A, key: &C::Key) -> Result<Self, AllocError>
         ensures { IfOk result (λ q. q ≡ record { key = key.now; lane = empty_lane }) }
     {
@@ -50,7 +50,7 @@ impl<C: Cargo, A: Allocator + Clone> PlainQueue<C, A> {
 }
 
 impl<C: Cargo, A: Allocator> PlainQueue<C, A> {
-    // Puts a block at the back, with its exporter's label.
+    /// Puts a block at the back, with its exporter's label. It comes back as it was where memory ran out.
     pub fn push(&mut self, exporter: u32, mut block: Block<A>) -> Result<(), (Block<A>, AllocError)>
         requires { C.fits self.old.key (labelled exporter (length self.old.lane.sent) block) }
         ensures { MatchResult result
@@ -70,7 +70,7 @@ impl<C: Cargo, A: Allocator> PlainQueue<C, A> {
         Ok(())
     }
 
-    // Takes the block at the front, where there is one.
+    /// Takes the block at the front, where there is one. At an error memory ran out, and nothing was taken.
     pub fn pop(&mut self, taker: u32) -> Result<Option<Block<A>>, AllocError>
         ensures front { IfOk result (λ r. r ≡ front_of self.old.lane) }
         ensures lane { MatchResult result (λ r. self.new ≡ record self.old { lane = with_taker self.old.lane taker r })
@@ -85,14 +85,14 @@ impl<C: Cargo, A: Allocator> PlainQueue<C, A> {
         Ok(Some(block))
     }
 
-    // Whether a block waits.
+    /// Whether a block waits, so that there is one to take.
     pub fn is_waiting(&self) -> bool
         ensures { IsTrue result ↔ IsSome (front_of self.now.lane) }
     {
         !self.waiting.is_empty()
     }
 
-    // What became of each block.
+    /// What became of each block that was pushed, by position. An error says that memory ran out.
     pub fn outcomes(&self, alloc: A) -> Result<Vec<Delivery, A>, AllocError>
         ensures { IfOk result (λ v. v.items ≡ outcomes self.now.lane.sent self.now.lane.takers) }
     {
