@@ -9,16 +9,22 @@ use std::marker::Model;
 /// The small objects of a step, reachable or not, and how many words they take.
 #[derive(Clone, Copy, Debug, Default, PartialEq, Eq)]
 pub struct StepCount {
+    /// The generation, 0 for the youngest.
     pub generation: u32,
+    /// The step of that generation, 0 for the youngest.
     pub step: u32,
+    /// How many small objects the step holds.
     pub objects: u64,
+    /// How many words they take, headers included.
     pub words: u64,
 }
 
 /// The large objects, reachable or not, and how many words they take.
 #[derive(Clone, Copy, Debug, Default, PartialEq, Eq)]
 pub struct LargeCount {
+    /// How many large objects there are, of all generations.
     pub objects: u64,
+    /// How many words they take, headers included.
     pub words: u64,
 }
 
@@ -78,6 +84,7 @@ impl Census {
         self.steps.as_slice()
     }
 
+    /// How many large objects there are, of all generations.
     pub fn large_objects(&self) -> u64
         ensures { result ≡ self.now.large_objects }
     {
@@ -91,6 +98,7 @@ impl Census {
         self.large_words
     }
 
+    /// How many roots there are.
     pub fn roots(&self) -> u64
         ensures { result ≡ self.now.roots }
     {

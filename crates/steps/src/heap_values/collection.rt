@@ -15,6 +15,7 @@ use std::marker::Model;
 /// Where a collection starts: what leads to an object that it may keep.
 #[derive(Clone, Copy, Debug)]
 pub enum Slot {
+    /// A root that leads to an object.
     Root {
         root: RootId,
         target: Place,
@@ -137,12 +138,15 @@ impl<A: Allocator> Collection<A> {
 /// What the workers of a collection bring back.
 #[derive(Drop)]
 pub struct Settled<A: Allocator = Global> {
+    /// The collection that was opened, whose objects are numbered.
     pub collection: Collection<A>,
     /// The new place of each object by its number, or none where it is gone.
     pub places: Forwards<A>,
     /// The blocks that hold the copies.
     pub blocks: Vec<Block<A>, A>,
+    /// What each worker won and scanned, by its number.
     pub workers: Vec<WorkerReport<A>, A>,
+    /// The blocks that were exported and taken.
     pub deliveries: Vec<Delivery, A>,
     /// Memory that they did not need.
     pub spare: Spare<A>,

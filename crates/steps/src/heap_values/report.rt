@@ -10,7 +10,9 @@ use std::marker::Model;
 /// An object that a worker won: its number in the collection, and its new place.
 #[derive(Clone, Copy, Debug)]
 pub struct Won {
+    /// The object's number among those of the generations collected, from 0.
     pub number: u32,
+    /// The place of its copy. A large object stays at its own.
     pub place: PackedPlace,
 }
 
@@ -61,12 +63,14 @@ impl<A: Allocator> WorkerReport<A> {
         (self.won, self.scanned)
     }
 
+    /// The objects that the worker won, in the order of the races.
     pub fn won(&self) -> &[Won]
         ensures { map won_value result.now ≡ self.now.won }
     {
         self.won.as_slice()
     }
 
+    /// The new places of the objects that the worker scanned, in this order.
     pub fn scanned(&self) -> &[PackedPlace]
         ensures { map packed_word result.now ≡ self.now.scanned }
     {
@@ -77,11 +81,13 @@ impl<A: Allocator> WorkerReport<A> {
 /// A block that one worker exported and another, or the same, took.
 #[derive(Clone, Copy, Debug, PartialEq, Eq)]
 pub struct Delivery {
+    /// The number of the worker that exported it, from 0.
     pub exporter: u32,
     /// The place of the block among its exporter's, from 0.
     pub position: u64,
     /// How many objects the block holds.
     pub objects: u32,
+    /// The number of the worker that took it, from 0.
     pub taker: u32,
 }
 
@@ -92,6 +98,8 @@ pub struct Report<A: Allocator = Global> {
     pub kept: u64,
     /// How many others of these generations are gone.
     pub freed: u64,
+    /// What each worker won and scanned, by its number.
     pub workers: Vec<WorkerReport<A>, A>,
+    /// The blocks that were exported and taken.
     pub deliveries: Vec<Delivery, A>,
 }
