@@ -43,6 +43,7 @@ pub enum MakeError {
     /// The nurseries want more blocks than there are.
     #[error("the nurseries want more blocks than there are")]
     HeapFull,
+    /// Memory was refused.
     #[error("no memory")]
     NoMemory,
 }
@@ -50,6 +51,7 @@ pub enum MakeError {
 /// Why an object was not allocated. The heap is as before.
 #[derive(Clone, Copy, Debug, PartialEq, Eq, Error)]
 pub enum AllocateError {
+    /// The mutator's number is not below the number of mutators.
     #[error("no such mutator")]
     NoMutator,
     /// More than 100,000 pointers or plain words.
@@ -61,6 +63,7 @@ pub enum AllocateError {
     /// The object is large, and fewer blocks are free than it takes. No collection is made for it.
     #[error("heap full")]
     HeapFull,
+    /// Memory was refused.
     #[error("no memory")]
     NoMemory,
 }
@@ -68,8 +71,10 @@ pub enum AllocateError {
 /// Why a collection was not opened.
 #[derive(Clone, Copy, Debug, PartialEq, Eq, Error)]
 pub enum OpenError {
+    /// The generation's number is not below the number of generations.
     #[error("no such generation")]
     NoGeneration,
+    /// Memory was refused.
     #[error("no memory")]
     NoMemory,
 }
@@ -82,6 +87,7 @@ pub struct NoRoot;
 /// Why a plain word was not read or written. The heap is as before.
 #[derive(Clone, Copy, Debug, PartialEq, Eq, Error)]
 pub enum FieldError {
+    /// No root has this number.
     #[error("no such root")]
     NoRoot,
     /// The object has no such field.
@@ -98,6 +104,7 @@ pub enum StoreError {
     /// The object has no such pointer.
     #[error("no such field")]
     BadField,
+    /// Memory was refused.
     #[error("no memory")]
     NoMemory,
 }
@@ -105,11 +112,13 @@ pub enum StoreError {
 /// Why no pointer was loaded. The heap is as before.
 #[derive(Clone, Copy, Debug, PartialEq, Eq, Error)]
 pub enum LoadError {
+    /// No root has this number.
     #[error("no such root")]
     NoRoot,
     /// The object has no such pointer.
     #[error("no such field")]
     BadField,
+    /// Memory was refused.
     #[error("no memory")]
     NoMemory,
 }
