@@ -57,6 +57,7 @@ fn has_digits(word: &[u8]) -> bool
     word.iter().all(|byte| byte.is_ascii_digit())
 }
 
+/// The number that a word says in decimal. An error says that it has no number's form, or is one of 2^64 or more.
 pub fn number(word: &[u8]) -> Result<u64, Kind>
     ensures { Gives (λ found. found) result (number_of word.now) }
 {

@@ -6,5 +6,6 @@ use model::Command;
 pub enum Line<'a> {
     /// A blank line or a comment.
     Nothing,
+    /// A command, whatever its names lead to.
     Command(Command<'a>),
 }

@@ -32,6 +32,7 @@ pub enum ScheduleEvent {
 pub enum ScheduleLine {
     /// A blank line or a comment.
     Nothing,
+    /// An event of a worker, whether or not it may come now.
     Event(ScheduleEvent),
     /// The next events come until every worker has ended.
     Finish,
@@ -42,9 +43,11 @@ pub enum ScheduleLine {
 /// What is wrong with a line of a schedule.
 #[derive(Clone, Copy, Debug, PartialEq, Eq)]
 pub enum ScheduleKind {
+    /// A first word that names no event.
     UnknownEvent,
     /// An event with too few or too many words.
     WrongWords,
+    /// A word that should be a number, and has no number's form, or is one of 2^64 or more.
     BadNumber,
     /// The event may not come now.
     NotLawful,
@@ -57,6 +60,8 @@ pub enum ScheduleKind {
 /// What is wrong with a line: as with any line of a trace, or as with one of a schedule.
 #[derive(Clone, Copy, Debug, PartialEq, Eq)]
 pub enum LineFault {
+    /// As with any line of a trace.
     Trace(Kind),
+    /// As with a line of a schedule alone.
     Schedule(ScheduleKind),
 }

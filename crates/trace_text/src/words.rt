@@ -63,6 +63,7 @@ pub fn no_words(rest: &[u8]) -> Result<(), Kind>
     }
 }
 
+/// The one word that is left. An error says that there are more or fewer.
 pub fn one_word(rest: &[u8]) -> Result<&[u8], Kind>
     ensures ok { IfOk result (λ a. words rest.now ≡ a.now ∷ []) }
     ensures err { IfErr result (λ e. (e ≡ Kind.WrongWords) × (length (words rest.now) ≢ 1)) }
@@ -72,6 +73,7 @@ pub fn one_word(rest: &[u8]) -> Result<&[u8], Kind>
     Ok(a)
 }
 
+/// The two words that are left. An error says that there are more or fewer.
 pub fn two_words(rest: &[u8]) -> Result<(&[u8], &[u8]), Kind>
     ensures ok { IfOk result (λ found. words rest.now ≡ found.0.now ∷ found.1.now ∷ []) }
     ensures err { IfErr result (λ e. (e ≡ Kind.WrongWords) × (length (words rest.now) ≢ 2)) }
@@ -81,6 +83,7 @@ pub fn two_words(rest: &[u8]) -> Result<(&[u8], &[u8]), Kind>
     Ok((a, b))
 }
 
+/// The three words that are left. An error says that there are more or fewer.
 pub fn three_words(rest: &[u8]) -> Result<(&[u8], &[u8], &[u8]), Kind>
     ensures ok { IfOk result (λ found. words rest.now
         ≡ found.0.now ∷ found.1.now ∷ found.2.now ∷ []) }
@@ -92,6 +95,7 @@ pub fn three_words(rest: &[u8]) -> Result<(&[u8], &[u8], &[u8]), Kind>
     Ok((a, b, c))
 }
 
+/// The four words that are left. An error says that there are more or fewer.
 pub fn four_words(rest: &[u8]) -> Result<(&[u8], &[u8], &[u8], &[u8]), Kind>
     ensures ok { IfOk result (λ found. words rest.now
         ≡ found.0.now ∷ found.1.now ∷ found.2.now ∷ found.3.now ∷ []) }

@@ -7,11 +7,17 @@ use std::marker::Model;
 /// Words of a block, blocks in all, mutators, nursery blocks of each, generations, and steps of each but the oldest.
 #[derive(Clone, Copy, Debug)]
 pub struct Config {
+    /// How many words a block has. An object of more than a quarter is large.
     pub block_words: u64,
+    /// How many blocks there are in all.
     pub blocks: u64,
+    /// How many mutators there are, each with a nursery of its own.
     pub mutators: u64,
+    /// How many blocks each nursery has.
     pub nursery_blocks: u64,
+    /// How many generations there are.
     pub generations: u64,
+    /// How many steps each generation has but the oldest, which has one.
     pub steps: u64,
 }
 

@@ -37,6 +37,7 @@ impl<A: Allocator> Model for Object<A> {
 }
 
 impl<A: Allocator> Object<A> {
+    /// Its generation, 0 for the youngest.
     pub fn generation(&self) -> u64
         ensures { result ≡ self.now.generation }
     {
@@ -57,18 +58,21 @@ impl<A: Allocator> Object<A> {
         Ok(found)
     }
 
+    /// Its step in its generation, 0 for the youngest.
     pub fn step(&self) -> u64
         ensures { result ≡ self.now.step }
     {
         self.step
     }
 
+    /// Its pointers, each the name of an object or nil.
     pub fn pointers(&self) -> &[Option<usize>]
         ensures { result.now ≡ self.now.pointers }
     {
         self.pointers.as_slice()
     }
 
+    /// Its plain words.
     pub fn plain(&self) -> &[u64]
         ensures { result.now ≡ self.now.plain }
     {
@@ -83,6 +87,7 @@ impl<A: Allocator> Object<A> {
         1 + self.pointers.len() as u64 + self.plain.len() as u64
     }
 
+    /// Whether it takes more than a quarter of a block of so many words.
     pub fn is_large(&self, block_words: u64) -> bool
         ensures { result ≡ is_large block_words self.now }
     {
@@ -107,6 +112,7 @@ impl<A: Allocator> Object<A> {
         }
     }
 
+    /// The pointer of this number leads to the target from now on.
     pub fn set_pointer(&mut self, field: usize, target: Option<usize>)
         requires { field < length self.old.pointers }
         ensures { self.new ≡ with_pointer self.old field target }
@@ -114,6 +120,7 @@ impl<A: Allocator> Object<A> {
         self.pointers[field] = target;
     }
 
+    /// The plain word of this number is the value from now on.
     pub fn set_plain(&mut self, field: usize, value: u64)
         requires { field < length self.old.plain }
         ensures { self.new ≡ record self.old { plain = slice_set self.old.plain field value } }

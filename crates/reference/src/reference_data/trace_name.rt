@@ -10,6 +10,7 @@ use std::alloc::{AllocError, Allocator, Global};
 use std::cmp::Ordering;
 use std::marker::Model;
 
+/// A name of a trace, and the object that it leads to, by the object's own name, a number.
 #[derive(Drop)]
 pub struct Named<A: Allocator = Global> {
     text: Vec<u8, A>,
@@ -25,12 +26,14 @@ impl<A: Allocator> Model for Named<A> {
 }
 
 impl<A: Allocator> Named<A> {
+    /// The name of the object, a number.
     pub fn name(&self) -> usize
         ensures { result ≡ self.now.1 }
     {
         self.name
     }
 
+    /// The name as it stands in the trace.
     pub fn text(&self) -> &[u8]
         ensures { result.now ≡ self.now.0 }
     {
