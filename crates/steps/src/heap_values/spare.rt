@@ -17,7 +17,8 @@ use std::mem;
 const FEW_ENTRIES: usize = 1024;
 
 /// Blocks, cells and lists whose contents have no meaning any more, of which a collection makes use before it asks for new
-/// memory. A block is cleared when it is given out. It is memory alone: contracts see how much it has, and a collection does the same without it.
+/// memory. A block is cleared when it is given out. It is memory alone: contracts see how much it has, and a collection
+/// does the same without it.
 #[derive(Drop)]
 pub struct Spare<A: Allocator = Global> {
     // The block that is given out first stands in front.
