@@ -8,6 +8,7 @@ pub enum WriteError {
     /// Nothing was written.
     #[error("no memory")]
     NoMemory,
+    /// A write failed. A front of the text may have been written.
     #[error("write failed")]
     WriteFailed,
 }

@@ -21,7 +21,9 @@ use std::io::{self, Write};
 /// A name in use, and its root.
 #[derive(Clone, Copy, Debug)]
 pub struct Name<'a> {
+    /// The bytes of the name, which are written as they are.
     pub text: &'a [u8],
+    /// The root that the name leads to, which has to be in use in the heap that is written.
     pub root: RootId,
 }
 
