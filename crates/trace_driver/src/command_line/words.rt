@@ -27,10 +27,13 @@ pub enum Task {
 /// What a command line gives: its task, and the numbers, in no particular range.
 #[derive(Clone, Copy, Debug)]
 pub struct Options {
+    /// Which subcommand was given, `run` or `replay`.
     pub task: Task,
+    /// How many workers a collection has. 1 to 16 are in range.
     pub threads: u64,
     /// The cells that threads share, which a replay has none of.
     pub cells: CellKind,
+    /// The sizes of the heap, any of which may be out of range.
     pub sizes: Sizes,
 }
 
@@ -43,6 +46,7 @@ pub enum Refused {
     /// There is a mistake in them.
     #[error("{0}")]
     Usage(String),
+    /// Memory was refused while the words were read, or for the text that tells of them.
     #[error("no memory")]
     NoMemory,
 }

@@ -28,8 +28,10 @@ pub enum Fault {
     /// A boxed cell showed a place that no worker won, in the collection of this line.
     #[error("line {0}: cells unsettled")]
     Unsettled(u128),
+    /// A read of the input failed, or 2^64 - 1 reads found no end of it. No line is told.
     #[error("read failed")]
     ReadFailed,
+    /// A write of the output failed. No line is told.
     #[error("write failed")]
     WriteFailed,
 }
