@@ -34,6 +34,7 @@ pub enum ThreadsError {
     /// The number of workers is not 1 to 16.
     #[error("bad configuration")]
     BadConfig,
+    /// The number of workers is 1 to 16, but the generation's is not below the number of generations.
     #[error("no such generation")]
     NoGeneration,
     /// A live object needs a new block, and none is free.

@@ -9,8 +9,10 @@ pub enum MachineError {
     /// There are 1 to 16 workers.
     #[error("there are 1 to 16 workers")]
     BadConfig,
+    /// The generation's number is not below the number of generations.
     #[error("no such generation")]
     NoGeneration,
+    /// Memory was refused.
     #[error("no memory")]
     NoMemory,
 }

@@ -12,6 +12,7 @@ pub enum StepError {
     /// A copy needed a block, and all were drawn.
     #[error("heap full")]
     HeapFull,
+    /// Memory was refused.
     #[error("no memory")]
     NoMemory,
 }

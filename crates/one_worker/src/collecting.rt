@@ -17,11 +17,13 @@ use thiserror::Error;
 /// Why a collection was not carried out. The heap is as before.
 #[derive(Clone, Copy, Debug, PartialEq, Eq, Error)]
 pub enum CollectError {
+    /// The generation's number is not below the number of generations.
     #[error("no such generation")]
     NoGeneration,
     /// A live object needs a new block, and none is free.
     #[error("heap full")]
     HeapFull,
+    /// Memory was refused.
     #[error("no memory")]
     NoMemory,
 }

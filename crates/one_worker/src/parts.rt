@@ -11,10 +11,15 @@ use std::alloc::{Allocator, Global};
 /// The cells and what the worker knows of them, its queue, and its own part.
 #[derive(Drop)]
 pub struct SerialParts<A: Allocator = Global> {
+    /// The forwarding cells, which hold the places that the worker won.
     pub cells: PlainCells<A>,
+    /// What the worker knows of the cells and has won, for contracts alone.
     pub pass: PlainPass,
+    /// The one queue, to which the worker exported its blocks.
     pub queues: PlainPending<Copies<A>, A>,
+    /// The worker's seat at the queue.
     pub seat: PlainSeat,
+    /// The worker's own part: its blocks, its lists and what it has in hand.
     pub workspace: Workspace<A>,
 }
 

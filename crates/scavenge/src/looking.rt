@@ -29,6 +29,7 @@ pub enum LookError {
     /// The copy needs a block, and all were drawn.
     #[error("all free blocks were drawn")]
     HeapFull,
+    /// Memory was refused.
     #[error("no memory")]
     NoMemory,
 }

@@ -15,10 +15,15 @@ use std::alloc::{AllocError, Allocator, Global};
 /// What the workers of a collection shared, and with which seats; and each worker's own part.
 #[derive(Drop)]
 pub struct Seats<A: Allocator = Global> {
+    /// The draws of free blocks that all workers shared.
     pub claims: Claims<A>,
+    /// Each worker's seat at the draws, in the order of their numbers.
     pub draws: Vec<ClaimSeat, A>,
+    /// The queues of exported blocks, one for each worker.
     pub queues: RuledPending<Copies<A>, A>,
+    /// Each worker's seat at the queues, in the order of their numbers.
     pub seats: Vec<PendingSeat<Copies<A>, A>, A>,
+    /// Each worker's own part, in the order of their numbers.
     pub workspaces: Vec<Workspace<A>, A>,
 }
 
@@ -27,7 +32,9 @@ pub struct Seats<A: Allocator = Global> {
 pub struct Apart<P, A: Allocator = Global> {
     /// How all ended: with the refusal of the lowest-numbered worker that was refused; else early, where one left early.
     pub ending: Outcome,
+    /// What each worker knows of the cells and has won, in the order of their numbers.
     pub passes: Vec<P, A>,
+    /// What they shared, and each worker's seats and own part.
     pub seats: Seats<A>,
 }
 

@@ -8,6 +8,7 @@ pub enum SettleError {
     /// Some worker hasn't ended.
     #[error("a worker hasn't ended")]
     NotEnded,
+    /// Memory was refused.
     #[error("no memory")]
     NoMemory,
 }

@@ -12,9 +12,13 @@ use std::alloc::{Allocator, Global};
 /// The cells and what is known of them, the queues, and each worker.
 #[derive(Drop)]
 pub struct InterleavedParts<A: Allocator = Global> {
+    /// The forwarding cells that all workers share.
     pub cells: PlainCells<A>,
+    /// What is known of the cells and was won, one pass for all workers.
     pub pass: PlainPass,
+    /// The queues of exported blocks, one for each worker.
     pub queues: PlainPending<Copies<A>, A>,
+    /// The workers, in the order of their numbers.
     pub members: Vec<Member<A>, A>,
 }
 

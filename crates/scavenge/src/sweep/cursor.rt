@@ -15,7 +15,9 @@ use std::alloc::Allocator;
 /// The first unscanned object of a block: the offset in words at which it begins, and how many pointers it has.
 #[derive(Clone, Copy)]
 pub struct Cursor {
+    /// Where the object begins: its offset in words from the block's first word.
     pub at: usize,
+    /// How many pointers the object has, 0 or more.
     pub pointers: usize,
 }
 

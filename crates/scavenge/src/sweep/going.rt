@@ -10,7 +10,9 @@ use steps::{Config, StepId};
 /// A generation and step, and the number of the destination to which the small objects go that stand there.
 #[derive(Clone, Copy)]
 pub struct Going {
+    /// Where the small objects stand before they are copied.
     pub from: StepId,
+    /// The number of the destination to which they are copied.
     pub to: usize,
 }
 

@@ -9,6 +9,7 @@ use std::alloc::{Allocator, Global};
 /// What a worker scans.
 #[derive(Drop)]
 pub enum Hand<A: Allocator = Global> {
+    /// No block and no large object is in hand.
     Nothing,
     /// The allocation block for a destination, which is still copied into.
     Open(usize),

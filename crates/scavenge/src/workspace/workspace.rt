@@ -63,11 +63,13 @@ pub struct Workspace<A: Allocator = Global> {
 pub struct Parts<A: Allocator = Global> {
     /// The allocation block for each destination, where there is one.
     pub allocation: Vec<Option<Block<A>>, A>,
+    /// The retired and taken blocks in which each copy is scanned.
     pub done: Vec<Block<A>, A>,
     /// The large objects that it scanned.
     pub large: Vec<Place, A>,
     /// Each object that it won, by number, and its place.
     pub won: Vec<Won, A>,
+    /// The places of the copies and large objects that it scanned, in the order of the scans.
     pub scanned: Vec<PackedPlace, A>,
     /// Memory that it did not need.
     pub spare: Spare<A>,

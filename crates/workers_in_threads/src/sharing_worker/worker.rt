@@ -43,10 +43,15 @@ impl<'a, C: Cells, A: Allocator> Model for SharingWorker<'a, C, A> {
 
 /// What a worker has that it doesn't share.
 pub struct SharingParts<C, P, A: Allocator = Global> {
+    /// The cells as they were lent to it.
     pub cells: C,
+    /// What it knows of the cells and has won.
     pub pass: P,
+    /// Its seat at the draws, with the free blocks that it drew.
     pub draws: ClaimSeat,
+    /// Its seat at the queues, with what it exported and took.
     pub seat: PendingSeat<Copies<A>, A>,
+    /// Its own part: its blocks, its lists and what it has in hand.
     pub workspace: Workspace<A>,
 }
 
