@@ -14,5 +14,3 @@ mod reference_tests;
 #[cfg(test)]
 mod remembered_tests;
 mod sharing_tests;
-#[cfg(test)]
-mod text_tests;

@@ -30,6 +30,6 @@ mod pointers;
 #[cfg(test)]
 mod requests;
 #[cfg(test)]
-mod spare;
+mod sizes;
 #[cfg(test)]
-mod texts;
+mod spare;
