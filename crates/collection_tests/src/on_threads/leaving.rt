@@ -54,7 +54,7 @@ struct Tried {
     /// How many workers reported, or what was wanting.
     answer: Result<usize, ThreadsError>,
     was_refused: bool,
-    /// Whether worker 1 was refused it, so that worker 0 was held until then.
+    /// Whether worker 0 was held until it was refused, so that worker 1 was refused it.
     is_of_second: bool,
     /// How many races worker 0 ran.
     races: u64,
@@ -107,7 +107,8 @@ fn requests_of_making(alloc: Global) -> Result<u64, Fail> {
     Ok(refusing.asked())
 }
 
-/// Asserts that a collection by two workers that is refused a request says so, and isn't carried out by one in their place.
+/// Asserts that a collection by two workers that is refused a request says so, or is carried out by both where the request
+/// comes once more, and that one of which the second worker was refused a request is refused.
 fn assert_told<R: Threads + Wait + Sync + AllocGlobal + Abort>(
     rt: &R,
     refused: u64,

@@ -1,4 +1,4 @@
-//! The gate is called before each step that workers share, and not after it.
+//! The gate is called before a race and a look, and not after them, and is told that a refused worker tells the others.
 use crate::meetings::order::Order;
 use crate::meetings::sharing::{two_objects, won_by};
 use crate::meetings::turns::{Hold, Turns};
