@@ -32,16 +32,6 @@ impl<A: Allocator> Model for AllocationBlocks<A> {
 }
 
 #[inline(always)]
-fn take_back<A: Allocator>(block: &mut Block<A>)
-    ensures { block.old.front < length block.old.objects →
-        block.new ≡ record block.old { objects = without_last block.old.objects } }
-{
-    if block.front() < block.len() {
-        block.take_back_last();
-    }
-}
-
-#[inline(always)]
 fn note<A: Allocator>(block: &mut Block<A>, origin: u64)
     requires { length block.old.origins < length block.old.objects }
     ensures { block.new ≡ record block.old { origins = block.old.origins ++ origin ∷ [] } }
@@ -268,18 +258,17 @@ impl<A: Allocator> AllocationBlocks<A> {
         }
     }
 
-    /// Takes back the last object of the block for a destination.
+    /// Takes back the last object of the block for a destination, which isn't scanned.
     pub fn take_back(&mut self, d: usize)
-        ensures { (block : BlockValue) → slot_at self.old d ≡ Some block → block.front < length block.objects
-            → self.new ≡ slice_set self.old d (Some (record block { objects = without_last block.objects })) }
+        requires there { d < length self.old }
+        requires some { IsSomeAnd (slot_at self.old d) (λ b. b.front < length b.objects) }
+        ensures { (block : BlockValue) → slot_at self.old d ≡ Some block →
+            self.new ≡ slice_set self.old d (Some (record block { objects = without_last block.objects })) }
     {
-        if d >= self.blocks.len() {
-            return;
-        }
         let slot = &mut self.blocks[d];
         match slot {
-            Some(block) => take_back(block),
-            None => {}
+            Some(block) => block.take_back_last(),
+            None => unreachable!(),
         }
     }
 
