@@ -18,7 +18,7 @@ abbrev pub Row : Type 0 → Type 0 → Type 0
 Row C A = HeapValue × CollectionValue × C × ClaimsValue × Source A CopiesKeyValue × ℕ × ℕ
 
 abbrev pub row_of_promise : {S A P : Type 0} → OfShared S A P → Row S A
-row_of_promise p = (p.0.now, p.1.now, p.2.now, p.3.now, p.4.now, p.5, p.6)
+row_of_promise p = (p.heap.now, p.collection.now, p.cells.now, p.claims.now, p.queues.now, p.workers, p.worker)
 
 module _ {P A C H : Type 0} (is_pass : C → ℕ → P → Type 0) (known : P → ℕ → Option Place) (won : P → List (ℕ × Place)) (row_of : H → Row C A) where
   abbrev pub Kept : Row C A → Brought P A → Type 0

@@ -1,5 +1,5 @@
 //! The first worker on the thread of the caller, each other in a thread of its own.
-ghost use Rattle.std.specs.Prelude.{◌≡◌, ◌+◌, ◌<◌, IfOk, IsSome, length};
+ghost use Rattle.std.specs.Prelude.{◌≡◌, ◌+◌, ◌<◌, ◌≤◌, [], IfOk, IfErr, IsSome, length, vec_capacity};
 ghost use denote.Param.Send.{IsSend, IsSync, Frees};
 ghost use Rattle.forwarding.specs.Passes.{AtEach};
 ghost use Rattle.workers_in_threads.specs.Kits.{AreKits, AreBroughtBack, IsBroughtBack, IsKit};
@@ -17,34 +17,26 @@ use std::sync::Wait;
 use std::thread;
 use std::thread::{Promise, PromisedHandle, Threads};
 
-/// What a thread brings back is what worker `.6` of `.5` brings.
+/// What a thread promises: it brings back what this worker of so many brings, of what all share.
 #[derive(Drop)]
-pub struct OfShared<'a, S: SharedCells, A: Allocator>(
-    pub &'a Heap<A>,
-    pub &'a Collection<A>,
-    pub &'a S,
-    pub &'a Claims<A>,
-    pub &'a RuledPending<Copies<A>, A>,
-    pub u32,
-    pub u32,
-);
+pub struct OfShared<'a, S: SharedCells, A: Allocator> {
+    heap: &'a Heap<A>,
+    collection: &'a Collection<A>,
+    cells: &'a S,
+    claims: &'a Claims<A>,
+    queues: &'a RuledPending<Copies<A>, A>,
+    workers: u32,
+    worker: u32,
+}
 
 impl<'a, S: SharedCells, A: Allocator> Promise<Brought<S::Pass, A>> for OfShared<'a, S, A> {
-    ghost kept_by = { λ p r. IsBroughtBack (S.is_pass p.2.now) S.known S.won p.0.now p.1.now p.3.now p.4.now p.5 p.6 r };
+    ghost kept_by = { λ p r. IsBroughtBack (S.is_pass p.cells.now) S.known S.won
+        p.heap.now p.collection.now p.claims.now p.queues.now p.workers p.worker r };
 }
 
-/// Joins threads whose results are not wanted. A scope waits until each of its threads has returned, but not until what it
-/// returned is dropped: so that memory is given back before the scope ends.
-fn joined_for_nothing<R: Threads, T: Drop, P: Promise<T>, A: Allocator>(
-    rt: &R,
-    handles: Vec<PromisedHandle<T, P>, A>,
-) {
-    for handle in handles {
-        let _ = handle.join(rt);
-    }
-}
-
-/// The same of threads that wait for one which was not started: so they have to be told to leave before.
+/// Waits for threads whose results are not wanted. They may wait for one that was not started, so they have to be told to leave
+/// before. A scope waits until each of its threads has returned, but not until what it returned is dropped: so that memory
+/// is given back before the scope ends.
 fn dismissed<R: Threads, T: Drop, P: Promise<T>, A: Allocator>(
     rt: &R,
     handles: Vec<PromisedHandle<T, P>, A>,
@@ -52,7 +44,24 @@ fn dismissed<R: Threads, T: Drop, P: Promise<T>, A: Allocator>(
 )
     requires told { IsSome _voice.now.known }
 {
-    joined_for_nothing(rt, handles);
+    for handle in handles {
+        let _ = handle.join(rt);
+    }
+}
+
+/// Tells threads to leave, and waits for them. The seat knows the verdict then.
+fn given_up<R: Threads, T: Drop, P: Promise<T>, A: Allocator>(
+    rt: &R,
+    verdict: &Verdict,
+    mut voice: VerdictSeat,
+    handles: Vec<PromisedHandle<T, P>, A>,
+) -> VerdictSeat
+    requires voice { voice.name ≡ verdict.now.name }
+    ensures told { IsSome result.known }
+{
+    verdict.raise(&mut voice, Cause::Refused);
+    dismissed(rt, handles, &voice);
+    voice
 }
 
 /// The work of the first kit on the caller's thread, and that of each other in a thread of its own. An error says that a
@@ -74,7 +83,7 @@ pub fn work_in_threads<
     verdict: &Verdict,
     gate: &G,
     mut kits: Vec<Kit<S::Pass, A>, A>,
-    mut voice: VerdictSeat,
+    voice: VerdictSeat,
 ) -> Result<Vec<Brought<S::Pass, A>, A>, AllocError>
     requires kits { AreKits (S.limit cells.now)
         (S.is_pass cells.now) S.won heap.now collection.now claims.now queues.now idle.now verdict.now
@@ -90,14 +99,17 @@ pub fn work_in_threads<
     }
     let workers = kits.len() as u32;
     let own = kits.remove(0);
-    thread::scope(
+    let mut handles = Vec::with_capacity(alloc, kits.len())?;
+    let joined = thread::scope(
         thread::scope_env(),
         rt,
-        |scope| -> Result<Vec<Brought<S::Pass, A>, A>, AllocError>
+        |scope| -> Result<(Brought<S::Pass, A>, Vec<Brought<S::Pass, A>, A>), VerdictSeat>
             requires kits { AtEach (λ i. IsKit (S.limit cells.now)
                 (S.is_pass cells.now) S.won heap.now collection.now claims.now queues.now idle.now verdict.now
                 workers (1 + i)) kits.items }
             requires many { workers ≡ 1 + length kits.items }
+            requires none { handles.items ≡ [] }
+            requires room { length kits.items ≤ vec_capacity handles }
             requires own { IsKit (S.limit cells.now)
                 (S.is_pass cells.now) S.won heap.now collection.now claims.now queues.now idle.now verdict.now
                 workers own.seat.index own }
@@ -105,16 +117,27 @@ pub fn work_in_threads<
             requires voice { voice.name ≡ verdict.now.name }
             requires bounds { IsSync R.row × IsSync S.row × IsSync G.row × IsSync A.row × IsSend A.row ×
                 IsSend S.Pass.row × Frees A.Allocator A.dealloc_token }
-            ensures { IfOk result (λ v. (length v.items ≡ workers) ×
-                AreBroughtBack (S.is_pass cells.entry.now) S.known S.won heap.entry.now collection.entry.now
-                claims.entry.now queues.entry.now workers v.items) }
+            ensures first { IfOk result (λ brought. IsBroughtBack
+                (S.is_pass cells.entry.now) S.known S.won heap.entry.now collection.entry.now
+                claims.entry.now queues.entry.now workers 0 brought.0) }
+            ensures others { IfOk result (λ brought. (1 + length brought.1.items ≡ workers) × AtEach (λ i. IsBroughtBack
+                (S.is_pass cells.entry.now) S.known S.won heap.entry.now collection.entry.now
+                claims.entry.now queues.entry.now workers (1 + i)) brought.1.items) }
+            ensures told { IfErr result (λ seat. IsSome seat.known) }
         {
             let others = kits.len();
-            let mut handles = Vec::with_capacity(alloc.clone()?, others)?;
             for kit in kits {
-                let number = kit.seat.index();
+                let worker = kit.seat.index();
                 let started = scope.spawn_with(
-                    OfShared(heap, collection, cells, claims, queues, workers, number),
+                    OfShared {
+                        heap,
+                        collection,
+                        cells,
+                        claims,
+                        queues,
+                        workers,
+                        worker,
+                    },
                     move || -> Brought<S::Pass, A>
                         requires { IsKit (S.limit cells.now)
                             (S.is_pass cells.now) S.won heap.now collection.now claims.now queues.now idle.now
@@ -135,23 +158,20 @@ pub fn work_in_threads<
                 handles.push_reserved(handle);
             }
             if handles.len() < others {
-                verdict.raise(&mut voice, Cause::Refused);
-                dismissed(rt, handles, &voice);
-                return Err(AllocError);
+                return Err(given_up(rt, verdict, voice, handles));
             }
             let first = work_apart(
                 rt, heap, collection, cells, claims, queues, idle, verdict, gate, workers, own,
             );
             match thread::join_promised(rt, handles) {
-                Ok(mut brought) => {
-                    brought.insert(0, first)?;
-                    Ok(brought)
-                }
-                Err(failed) => {
-                    joined_for_nothing(rt, failed.value);
-                    Err(AllocError)
-                }
+                Ok(brought) => Ok((first, brought)),
+                Err(failed) => Err(given_up(rt, verdict, voice, failed.value)),
             }
         },
-    )
+    );
+    let Ok((first, mut brought)) = joined else {
+        return Err(AllocError);
+    };
+    brought.insert(0, first)?;
+    Ok(brought)
 }

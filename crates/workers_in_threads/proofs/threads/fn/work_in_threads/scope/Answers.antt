@@ -6,18 +6,19 @@ use Rattle.idle_count.proofs.verdict.Verdict.TheSendSync as verdict
 use Rattle.forwarding.specs.Passes.{AtEach}
 use Rattle.workers_in_threads.specs.Kits.{IsKit, IsBroughtBack}
 use Rattle.workers_in_threads.proofs.Crossing.{kit_send, brought_send, heap_sync, collection_sync, claims_sync, idle_sync, queues_sync}
-use Rattle.workers_in_threads.proofs.Places.{at_push, at_rest, at_first, at_begin, at_both, at_none}
+use Rattle.workers_in_threads.proofs.Places.{at_push, at_rest, at_first, at_begin, at_none}
 use Rattle.workers_in_threads.proofs.Promised.{Row, row_of_promise, are_kept}
 use Rattle.workers_in_threads.proofs.threads.fn.work_in_threads.scope.Goals as goal
 
 pub loop-kit-init : goal.loop-kit-init
-loop-kit-init g c = record {
-  many = omega (arith, c.in_ok-handles.ensures.len, c.into_iter-kit-iterator.ensures.into_iter_gives.1, c.len-others.ensures);
-  room = c.in_ok-handles.ensures.capacity;
-  rest = at_begin (λ i. IsKit (g.S.SharedCells.limit c.captures.cells.now) (g.S.SharedCells.is_pass c.captures.cells.now) g.S.SharedCells.won c.captures.heap.now c.captures.collection.now c.captures.claims.now c.captures.queues.now c.captures.idle.now c.captures.verdict.now c.captures.workers (1 + i)) _ _ _
-      c.into_iter-kit-iterator.ensures.into_iter_gives.0 c.in_ok-handles.ensures.len c.requires.kits;
-  made = at_none _ _ c.in_ok-handles.ensures.items;
-}
+loop-kit-init g c =
+    let none : vec_len c.captures.handles ≡ 0 = c.captures.handles.ok.0 ∙ ap length c.requires.none in record {
+      many = omega (arith, none, c.into_iter-kit-iterator.ensures.into_iter_gives.1, c.len-others.ensures);
+      room = omega (arith, c.requires.room, c.len-others.ensures, c.captures.kits.ok.0);
+      rest = at_begin (λ i. IsKit (g.S.SharedCells.limit c.captures.cells.now) (g.S.SharedCells.is_pass c.captures.cells.now) g.S.SharedCells.won c.captures.heap.now c.captures.collection.now c.captures.claims.now c.captures.queues.now c.captures.idle.now c.captures.verdict.now c.captures.workers (1 + i)) _ _ _
+          c.into_iter-kit-iterator.ensures.into_iter_gives.0 none c.requires.kits;
+      made = at_none _ _ c.requires.none;
+    }
 
 pub push_reserved-requires : goal.push_reserved-requires
 push_reserved-requires g c = omega (arith, c.loop-kit.invariant.many, c.loop-kit.invariant.room, c.in-Some.ensures.steps.1)
@@ -26,7 +27,7 @@ pub loop-kit-preserved : goal.loop-kit-preserved
 loop-kit-preserved g c =
     let F = λ (i : ℕ). IsKit (g.S.SharedCells.limit c.captures.cells.now) (g.S.SharedCells.is_pass c.captures.cells.now) g.S.SharedCells.won c.captures.heap.now c.captures.collection.now c.captures.claims.now c.captures.queues.now c.captures.idle.now c.captures.verdict.now c.captures.workers (1 + i) in
     let first = at_first F _ _ _ _ c.in-Some.ensures.steps.0 c.loop-kit.invariant.rest in
-    let number = c.index-number.ensures ∙ ap (λ s. s.index) first.seat ∙ ap (λ m. 1 + m) c.loop-kit.handles.ok.0 in record {
+    let number = c.index-worker.ensures ∙ ap (λ s. s.index) first.seat ∙ ap (λ m. 1 + m) c.loop-kit.handles.ok.0 in record {
       many = omega (arith, c.loop-kit.invariant.many, c.push_reserved.ensures.len, c.in-Some.ensures.steps.1);
       room = omega (arith, c.loop-kit.invariant.room, c.push_reserved.ensures.capacity);
       rest = at_rest F _ _ _ _ _ c.in-Some.ensures.steps.0 c.push_reserved.ensures.len c.loop-kit.invariant.rest;
@@ -36,20 +37,18 @@ loop-kit-preserved g c =
           (ap row_of_promise c.in-Ok.ensures.ok)));
     }
 
-pub returns-in_ok-insert-in-Ok-join_promised : goal.returns-in_ok-insert-in-Ok-join_promised
-returns-in_ok-insert-in-Ok-join_promised g c =
+pub returns-in-Ok-join_promised : goal.returns-in-Ok-join_promised
+returns-in-Ok-join_promised g c =
     let i = c.loop-kit.invariant in
     let e = c.in-Ok-join_promised.ensures in
-    let items = c.in_ok-insert-in-Ok-join_promised.ensures.items in
     let all : vec_len c.loop-kit.handles ≡ c.len-others.result = omega (arith, i.many, c.len.ensures, c.if-len-others.false) in
     let brought : c.len-others.result ≡ length c.in-Ok-join_promised.brought.items = sym all ∙ sym e.len ∙ c.in-Ok-join_promised.brought.ok.0 in
-    let others = are_kept g.S.SharedCells.is_pass g.S.SharedCells.known g.S.SharedCells.won (λ h. (h.promise.0.now, h.promise.1.now, h.promise.2.now, h.promise.3.now, h.promise.4.now, h.promise.5, h.promise.6))
+    let first = subst (λ t. IsBroughtBack (g.S.SharedCells.is_pass c.captures.cells.now) g.S.SharedCells.known g.S.SharedCells.won c.captures.heap.now c.captures.collection.now c.captures.claims.now c.captures.queues.now c.captures.workers t c.work_apart-first.result) c.requires.first c.work_apart-first.ensures in
+    let many : 1 + length c.in-Ok-join_promised.brought.items ≡ c.captures.workers = omega (arith, brought, c.len-others.ensures, c.requires.many, c.captures.kits.ok.0) in
+    let others = are_kept g.S.SharedCells.is_pass g.S.SharedCells.known g.S.SharedCells.won (λ h. (h.promise.heap.now, h.promise.collection.now, h.promise.cells.now, h.promise.claims.now, h.promise.queues.now, h.promise.workers, h.promise.worker))
     c.captures.heap.now c.captures.collection.now c.captures.cells.now c.captures.claims.now c.captures.queues.now c.captures.workers c.len-others.result c.loop-kit.handles.items c.in-Ok-join_promised.brought.items
     (sym all ∙ c.loop-kit.handles.ok.0) brought i.made (λ j r w. let k = (e.each j r (omega (arith, w, all))).1 in (k.handle, k.handle_is, k.kept)) in
-    let first = subst (λ t. IsBroughtBack (g.S.SharedCells.is_pass c.captures.cells.now) g.S.SharedCells.known g.S.SharedCells.won c.captures.heap.now c.captures.collection.now c.captures.claims.now c.captures.queues.now c.captures.workers t c.work_apart-first.result) c.requires.first c.work_apart-first.ensures in (
-      omega (arith, ap length items, brought, c.len-others.ensures, c.requires.many, c.captures.kits.ok.0),
-      at_both _ _ _ _ items first others,
-    )
+    record { first = first; others = (many, others); told = tt }
 
 pub spawn_with-started-requires-clause-runs : goal.spawn_with-started-requires-clause-runs
 spawn_with-started-requires-clause-runs g c κs within =
