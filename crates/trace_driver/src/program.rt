@@ -22,8 +22,13 @@ use trace_session::{Fault, write_fault};
 
 /// The settings that the words ask for.
 fn run_config(options: &Options) -> Result<RunConfig, BadConfig>
-    ensures ok { IfOk result (λ run. (run.config ≡ config_of options.now) × (run.workers ≡ options.now.threads) ×
-        (run.kind ≡ options.now.cells)) }
+    ensures ok { IfOk result (λ run. run ≡ record {
+      config = config_of options.now;
+      workers = options.now.threads;
+      kind = options.now.cells;
+      piece = 4096;
+      seed = 0;
+    }) }
     ensures in_range { IsOk result ↔ AreInRange options.now }
 {
     let config = Config::new(options.sizes)?;
@@ -80,7 +85,7 @@ fn drawn_seed(rt: &impl RandomSource) -> u128 {
 /// The settings that the words ask for, with a seed that the system draws.
 fn seeded_config(rt: &impl RandomSource, options: &Options) -> Result<RunConfig, BadConfig>
     ensures ok { IfOk result (λ run. (run.config ≡ config_of options.now) × (run.workers ≡ options.now.threads) ×
-        (run.kind ≡ options.now.cells)) }
+        (run.kind ≡ options.now.cells) × (run.piece ≡ 4096)) }
     ensures in_range { IsOk result ↔ AreInRange options.now }
 {
     let config = run_config(options)?;
