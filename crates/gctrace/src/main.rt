@@ -6,6 +6,7 @@ ghost use Rattle.std.specs.Prelude.{◌≡◌, ◌≢◌, ◌⊎◌, IfErr, code
 ghost use Rattle.std.specs.declared.io.ErrorKind.TheVariants.{OutOfMemory};
 
 use heap_text::{Counted, write_all};
+use std::io::{Stderr, Stdin, Stdout};
 use std::process::ExitCode;
 use std::{env, io};
 use trace_driver::{CountedReader, main_with};
@@ -54,6 +55,13 @@ fn main(rt: HostRuntime) -> ExitCode {
     let mut reader = CountedReader::new(rt.stdin());
     let mut writer = Counted::new(rt.stdout());
     let mut errors = Counted::new(rt.stderr());
-    let status = main_with(&rt, words.as_slice(), &mut reader, &mut writer, &mut errors);
+    // No other stream is taken for one of these, and nothing that keeps bytes back.
+    let status = main_with::<
+        HostRuntime,
+        String,
+        CountedReader<Stdin>,
+        Counted<Stdout>,
+        Counted<Stderr>,
+    >(&rt, words.as_slice(), &mut reader, &mut writer, &mut errors);
     ExitCode::from(status)
 }
