@@ -65,14 +65,15 @@ fn assert_agree<R: Threads + Wait + Sync + AllocGlobal + Abort>(
     Ok(())
 }
 
-/// Asserts that one, two and four threads leave what one worker leaves of a heap with old objects.
+/// Asserts that so many threads, and so many, leave what one worker leaves of a heap with old objects.
 fn assert_old_agree<R: Threads + Wait + Sync + AllocGlobal + Abort>(
     rt: &R,
     drawing: Drawing,
+    numbers: [u32; 2],
 ) -> Result<(), Fail> {
     let one = told_of(rt, drawing, Way::Alone)?;
     assert!(rt; one.has_remembered(), "seed {}", drawing.seed);
-    for n in [1, 2, 4] {
+    for n in numbers {
         assert_agree(rt, drawing, n, &one)?;
     }
     Ok(())
@@ -92,9 +93,13 @@ fn old_drawing(seed: u32, generations: u32) -> Drawing {
 
 #[test]
 fn generations_in_a_row(rt: HostRuntime) -> Result<(), Fail> {
-    for seed in 0..12 {
-        assert_old_agree(&rt, old_drawing(seed, 2))?;
-        assert_old_agree(&rt, old_drawing(seed, 3))?;
+    let mut number = 0_u32;
+    for seed in 0..8 {
+        for generations in [2, 3, 4] {
+            let numbers = [1 + number % 4, 5 + number % 12];
+            assert_old_agree(&rt, old_drawing(seed, generations), numbers)?;
+            number = number.saturating_add(1);
+        }
     }
     Ok(())
 }

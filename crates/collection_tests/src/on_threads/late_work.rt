@@ -1,4 +1,4 @@
-//! What the last of five workers exports after another has come to rest is taken by that one: a gate holds them to that.
+//! What the last of sixteen workers exports after another has come to rest is taken by that one: a gate holds them to that.
 use crate::heaps::{heap_of, seen};
 use collector::{CellKind, collect, collect_one};
 use crossbeam_utils::Backoff;
@@ -14,8 +14,8 @@ use std::thread::Threads;
 /// How many yields a worker waits at most.
 const YIELDS: u32 = 10_000_000;
 
-/// The worker that exports.
-const FROM: u32 = 4;
+/// The worker that exports, the last one.
+const FROM: u32 = 15;
 
 /// The worker that takes.
 const TO: u32 = 1;
@@ -32,8 +32,8 @@ fn wait_for(flag: &AtomicBool, late: &AtomicBool) {
     late.store(true, Ordering::SeqCst);
 }
 
-/// Holds worker 4 before its first export until worker 1 rests, and then until that one comes to a look at what it took. The others
-/// take nothing before.
+/// Holds the last worker before its first export until worker 1 rests, and then until that one comes to a look at what it took. The
+/// others take nothing before.
 #[derive(Drop)]
 struct Late {
     rested: AtomicBool,
@@ -112,8 +112,8 @@ fn add_spoke(heap: &mut Heap, large: RootId, field: u64) -> Result<(), Fail> {
     Ok(())
 }
 
-/// Four objects without pointers, a root for each, and a large one with 13 fields, each of which leads to an object that leads back.
-/// Roots are dealt to workers in turn, so the large one's goes to worker 4.
+/// An object without pointers for each other worker, with a root, and a large one with 13 fields, each of which leads to an object
+/// that leads back. Roots are dealt to workers in turn, so the large one's goes to the last.
 fn add_ring(heap: &mut Heap) -> Result<RootId, Fail> {
     for _other in 0..FROM {
         let _root = heap.allocate(0, 0, 0)?;
@@ -125,7 +125,7 @@ fn add_ring(heap: &mut Heap) -> Result<RootId, Fail> {
     Ok(large)
 }
 
-/// Whether a block went from worker 4 to worker 1.
+/// Whether a block went from the last worker to worker 1.
 fn is_handed_on(report: &Report) -> bool {
     for delivery in report.deliveries.iter() {
         if delivery.exporter == FROM && delivery.taker == TO {
@@ -148,15 +148,15 @@ fn left_by_one(alloc: Global) -> Result<Vec<u8>, Fail> {
     left_in_one(alloc, &mut heap)
 }
 
-/// What five workers leave of the ring, and whether a block went from worker 4 to worker 1.
-fn left_in_five<R: Threads + Wait + Sync + AllocGlobal>(
+/// What all workers leave of the ring, and whether a block went from the last to worker 1.
+fn left_in_all<R: Threads + Wait + Sync + AllocGlobal>(
     rt: &R,
     heap: &mut Heap,
     kind: CellKind,
     gate: &Late,
 ) -> Result<(Vec<u8>, bool), Fail> {
     let large = add_ring(heap)?;
-    let report = collect(rt, rt.alloc(), heap, 0, 5, kind, gate)?;
+    let report = collect(rt, rt.alloc(), heap, 0, FROM + 1, kind, gate)?;
     Ok((
         seen(rt.alloc(), rt.alloc(), heap, &[large])?,
         is_handed_on(&report),
@@ -164,22 +164,22 @@ fn left_in_five<R: Threads + Wait + Sync + AllocGlobal>(
 }
 
 /// The same, of a heap of its own.
-fn left_by_five<R: Threads + Wait + Sync + AllocGlobal>(
+fn left_by_all<R: Threads + Wait + Sync + AllocGlobal>(
     rt: &R,
     kind: CellKind,
     gate: &Late,
 ) -> Result<(Vec<u8>, bool), Fail> {
     let mut heap = heap_of(rt.alloc(), SIZES)?;
-    left_in_five(rt, &mut heap, kind, gate)
+    left_in_all(rt, &mut heap, kind, gate)
 }
 
-/// Asserts that worker 1 takes what worker 4 exports, and that all is as one worker leaves it.
+/// Asserts that worker 1 takes what the last one exports, and that all is as one worker leaves it.
 fn assert_taken<R: Threads + Wait + Sync + AllocGlobal + Abort>(
     rt: &R,
     kind: CellKind,
 ) -> Result<(), Fail> {
     let gate = Late::new();
-    let (left, is_taken) = left_by_five(rt, kind, &gate)?;
+    let (left, is_taken) = left_by_all(rt, kind, &gate)?;
     assert!(rt; is_taken && gate.came(), "{kind:?}");
     assert!(rt; left == left_by_one(rt.alloc())?, "{kind:?}");
     Ok(())

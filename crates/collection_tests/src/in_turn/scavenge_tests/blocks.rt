@@ -26,6 +26,15 @@ fn passed(table: &mut AllocationBlocks, d: usize) -> Option<(Place, bool)> {
     Some(table.pass_front(d))
 }
 
+/// Takes back the last copy for a destination, where something is unscanned. Whether it was.
+fn is_taken_back(table: &mut AllocationBlocks, d: usize) -> bool {
+    if !table.has_unscanned(d) {
+        return false;
+    }
+    table.take_back(d);
+    true
+}
+
 #[test]
 fn copies_lie_one_after_the_other(rt: HostRuntime) -> Result<(), Fail> {
     let mut table = table_of_two(rt.alloc())?;
@@ -66,9 +75,10 @@ fn a_copy_is_taken_back(rt: HostRuntime) -> Result<(), Fail> {
         assert!(rt; table.fits(1, object.size() as usize));
         let _place = table.push(1, object);
     }
-    table.take_back(1);
+    assert!(rt; is_taken_back(&mut table, 1));
     assert_eq!(rt; passed(&mut table, 1), Some((Place::small(7, 0), true)));
     assert_eq!(rt; passed(&mut table, 1), Some((Place::small(7, 2), false)));
+    assert!(rt; !is_taken_back(&mut table, 1));
     assert_eq!(rt; passed(&mut table, 1), None);
     assert_eq!(rt; passed(&mut table, 0), None);
     Ok(())
