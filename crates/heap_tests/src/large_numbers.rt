@@ -60,3 +60,27 @@ fn the_blocks_of_dead_large_objects_are_free(rt: HostRuntime) -> Result<(), Fail
     let mut heap = heap_of(rt.alloc(), 16, 1, 20)?;
     assert_blocks(&rt, rt.alloc(), &mut heap)
 }
+
+/// Makes so many, and gives up the root of each but the last.
+fn add_last_of(heap: &mut Heap<Global>, count: u32) -> Result<(), Fail> {
+    let mut last = heap.allocate(0, 0, 9)?;
+    for _object in 1..count {
+        let next = heap.allocate(0, 0, 9)?;
+        heap.release(last)?;
+        last = next;
+    }
+    Ok(())
+}
+
+/// A collection finds the one that is in use without a walk over each number below it. A body that goes from number to number takes
+/// more than the sixty seconds that a test has.
+#[test]
+fn numbers_out_of_use_cost_no_time(rt: HostRuntime) -> Result<(), Fail> {
+    let mut heap = heap_of(rt.alloc(), 16, 1, 65_535)?;
+    add_last_of(&mut heap, 60_000)?;
+    assert_collected(&rt, rt.alloc(), &mut heap, (1, 59_999));
+    for _collection in 0..8_000 {
+        assert_collected(&rt, rt.alloc(), &mut heap, (1, 0));
+    }
+    Ok(())
+}

@@ -142,3 +142,40 @@ fn large_objects_that_lead_to_old_ones_are_not_noted(rt: HostRuntime) -> Result<
     }
     Ok(())
 }
+
+/// Makes an old large object, beside as many old small ones as there are young ones then, which lead to it or have a pointer that
+/// is nil. How many requests for memory the collection takes that leaves the young ones young.
+fn asked_by_young<'a>(
+    alloc: Global,
+    refusing: &'a Refusing<Global>,
+    heap: &mut Counting<'a>,
+    leads: bool,
+) -> Result<u64, Fail> {
+    let large = heap.allocate(0, 0, 300)?;
+    let _old = added(alloc, heap, bare(1_000, 3))?;
+    for _collection in 0..3 {
+        let _asked = asked_with_lists(refusing, heap, 1)?;
+    }
+    let young = added(alloc, heap, with_pointers(bare(1_000, 3), false))?;
+    if leads {
+        for root in young {
+            heap.store(root, 0, Some(large))?;
+        }
+    }
+    asked_with_lists(refusing, heap, 1)
+}
+
+/// The same of a new heap.
+fn asked_by_new_young(alloc: Global, leads: bool) -> Result<u64, Fail> {
+    let refusing = Refusing::new(alloc, NONE);
+    let mut heap = large_heap(&refusing, 2)?;
+    asked_by_young(alloc, &refusing, &mut heap, leads)
+}
+
+/// No set remembers an object of the youngest generation, wherever it leads.
+#[test]
+fn young_objects_that_lead_to_a_large_one_are_not_noted(rt: HostRuntime) -> Result<(), Fail> {
+    let leading = asked_by_new_young(rt.alloc(), true)?;
+    assert_eq!(&rt; leading, asked_by_new_young(rt.alloc(), false)?);
+    Ok(())
+}

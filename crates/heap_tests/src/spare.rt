@@ -1,7 +1,8 @@
 //! The memory that a heap keeps from one collection for the next.
 use crate::counting::{Counting, NONE, asked_with_lists, bare_objects, large_heap, release_all};
 use crate::heaps::{allocated, collected, heap_of};
-use heap::RootId;
+use heap::{PackedPlace, RootId, Spare, Won, WorkerReport};
+use layout::Place;
 use one_worker::collect_one;
 use refusing::Refusing;
 use std::alloc::Global;
@@ -368,6 +369,50 @@ fn lists_with_room_for_few_entries_are_kept_for_none(rt: HostRuntime) -> Result<
         let refusing = Refusing::new(rt.alloc(), NONE);
         assert_pieces_of_none_in_new(&rt, rt.alloc(), &refusing, count, pieces)?;
         assert_eq!(rt; refusing.asked(), refusing.returned());
+    }
+    Ok(())
+}
+
+/// A worker's lists, each with room for so many entries, of which it holds so many.
+fn lists_of(alloc: Global, room: usize, held: usize) -> Result<WorkerReport, Fail> {
+    let mut won = Vec::with_capacity(alloc, room)?;
+    let mut scanned = Vec::with_capacity(alloc, room)?;
+    let place = PackedPlace::new(Place::small(0, 0));
+    for _entry in 0..held {
+        won.push(Won { number: 0, place })?;
+        scanned.push(place)?;
+    }
+    Ok(WorkerReport::new(won, scanned))
+}
+
+/// Whether the lists of two workers are kept, which have so much room and hold so many entries.
+fn are_kept(alloc: Global, first: (usize, usize), second: (usize, usize)) -> Result<bool, Fail> {
+    let mut lists = Vec::new(alloc);
+    lists.push(lists_of(alloc, first.0, first.1)?)?;
+    lists.push(lists_of(alloc, second.0, second.1)?)?;
+    let mut spare = Spare::none();
+    spare.keep_lists(lists);
+    Ok(spare.lists().is_some())
+}
+
+/// Both lists of each have the same room. All of them may have 1,024 entries more than three times what all hold.
+#[test]
+fn lists_of_two_workers_count_together(rt: HostRuntime) -> Result<(), Fail> {
+    for (first, second, kept) in [
+        ((512, 0), (0, 0), true),
+        ((0, 0), (512, 0), true),
+        ((512, 0), (1, 0), false),
+        ((1, 0), (512, 0), false),
+        ((2_000, 0), (1_000, 830), true),
+        ((1_000, 830), (2_000, 0), true),
+        ((2_000, 0), (1_000, 829), false),
+        ((1_000, 829), (2_000, 0), false),
+    ] {
+        assert_eq!(&rt;
+            are_kept(rt.alloc(), first, second)?,
+            kept,
+            "{first:?}, {second:?}"
+        );
     }
     Ok(())
 }
