@@ -294,6 +294,15 @@ status 3
 error: invalid value 'x' for '--threads <NUMBER>': invalid digit found in string
 
 For more information, try '--help'.
+== negative number
+gctrace run --threads=-1
+status 3
+-- reads
+-- writes
+-- tells
+error: invalid value '-1' for '--threads <NUMBER>': invalid digit found in string
+
+For more information, try '--help'.
 == no command of the program
 gctrace
 status 3

@@ -123,7 +123,7 @@ fn most_that_a_read_asks_for_is_a_piece(rt: HostRuntime) -> Result<(), BadConfig
     let threads = Task::Threads(CellKind::Word);
     let freed = "collected 0: 0 kept, 500 freed\n";
     let scheduled = b"collect 0\nfinish\ncommit\n".as_slice();
-    for piece in [5, 4096, 65_536] {
+    for piece in [1, 5, 4096, 65_536] {
         assert_asks_for(&rt, Task::Run, piece, b"collect 0\n", freed)?;
         assert_asks_for(&rt, threads, piece, b"collect 0\n", freed)?;
         assert_asks_for(&rt, Task::Replay, piece, scheduled, NONE_LEFT)?;

@@ -112,6 +112,9 @@ gctrace run --generations=1 --block-words=18
 gctrace run --generations=1 --block-words=516
 gctrace run --generations=1 --blocks=0
 gctrace run --generations=1 --blocks=65536
+gctrace run --generations=1 --blocks=4294967296
+gctrace run --generations=1 --blocks=4294971392
+gctrace run --generations=1 --blocks=18446744073709551615
 gctrace run --generations=1 --mutators=0
 gctrace run --generations=1 --mutators=17
 gctrace run --generations=1 --nursery=0
@@ -120,6 +123,9 @@ gctrace run --generations=1 --steps=0
 gctrace run --generations=1 --steps=5
 gctrace run --generations=1 --threads=0
 gctrace run --generations=1 --threads=17
+gctrace run --generations=1 --threads=4294967297
+gctrace run --generations=1 --threads=18446744073709551615
+gctrace replay --generations=1 --threads=4294967297
 ";
 
 #[test]
@@ -196,6 +202,9 @@ gctrace run --blocks=18446744073709551616
 gctrace run --cells=words
 gctrace run --steps
 gctrace run --threads 1 --threads 1
+gctrace replay --threads 1 --threads 1
+gctrace run --cells box --cells box
+gctrace run --cells box --cells word
 gctrace run --frob 1
 gctrace run trace
 ";

@@ -1,5 +1,5 @@
-//! A reader and a writer that go on in small pieces, and fail once, after so many calls. A call after the failed one goes well
-//! again, so that a body which tries a second time is told apart.
+//! A reader and a writer that go on in small pieces, and fail once, after so many calls: they are interrupted, which some take
+//! for a reason to try again. A call after the failed one goes well again, so that a body which does so is told apart.
 use std::io;
 use std::io::{Read, Write};
 
@@ -15,7 +15,7 @@ impl Read for PieceReader<'_> {
     fn read(&mut self, buffer: &mut [u8]) -> io::Result<usize> {
         if self.left == 0 {
             self.left = u64::MAX;
-            return Err(io::Error::from(io::ErrorKind::Other));
+            return Err(io::Error::from(io::ErrorKind::Interrupted));
         }
         self.left -= 1;
         let len = buffer.len().min(self.piece).min(self.bytes.len());
@@ -47,7 +47,7 @@ impl Write for PieceWriter {
         if self.left == 0 {
             self.left = u64::MAX;
             return match self.failure {
-                Failure::Error => Err(io::Error::from(io::ErrorKind::Other)),
+                Failure::Error => Err(io::Error::from(io::ErrorKind::Interrupted)),
                 Failure::TakesNothing => Ok(0),
             };
         }
