@@ -1,4 +1,6 @@
 //! Terms from text: `SKKx` is `((S K) K) x`, and brackets group.
+ghost use Rattle.std.specs.Prelude.{◌≡◌, IfErr};
+
 use crate::nodes::{Nodes, Trouble};
 use heap::RootId;
 use std::alloc::Global;
@@ -20,11 +22,15 @@ impl Open {
         self.terms.push(Some(whole)).map_err(|_| Trouble::NoMemory)
     }
 
-    fn open(&mut self) -> Result<(), Trouble> {
+    fn open(&mut self) -> Result<(), Trouble>
+        ensures { IfErr result (λ e. e ≡ Trouble.NoMemory) }
+    {
         self.terms.push(None).map_err(|_| Trouble::NoMemory)
     }
 
-    fn close(&mut self) -> Result<RootId, Trouble> {
+    fn close(&mut self) -> Result<RootId, Trouble>
+        ensures { IfErr result (λ e. e ≡ Trouble.NoTerm) }
+    {
         self.terms.pop().flatten().ok_or(Trouble::NoTerm)
     }
 }

@@ -1,4 +1,6 @@
 //! Rewriting: `I x` is `x`, `K x y` is `x`, and `S f g x` is `f x (g x)`, leftmost first.
+ghost use Rattle.std.specs.Prelude.{◌≡◌, ◌⊎◌, IfErr};
+
 use crate::nodes::{Nodes, Trouble};
 use heap::RootId;
 use std::alloc::Global;
@@ -15,7 +17,9 @@ const MOST_STEPS: u32 = 1_000_000;
 
 impl Spine {
     /// Goes down to the function of the head, which is an application.
-    fn descend(&mut self, nodes: &mut Nodes) -> Result<(), Trouble> {
+    fn descend(&mut self, nodes: &mut Nodes) -> Result<(), Trouble>
+        ensures { IfErr result (λ e. (e ≡ Trouble.BadNode) ⊎ (e ≡ Trouble.NoMemory)) }
+    {
         let function = nodes.function(self.head)?;
         self.applications
             .push(self.head)

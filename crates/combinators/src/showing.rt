@@ -1,4 +1,6 @@
 //! The text of a term: its head, and then its arguments, each rewritten.
+ghost use Rattle.std.specs.Prelude.{◌≡◌, IfErr};
+
 use crate::nodes::{Nodes, Trouble};
 use crate::rewriting::rewrite;
 use heap::RootId;
@@ -23,11 +25,15 @@ struct Writing {
 }
 
 impl Writing {
-    fn write(&mut self, letter: u8) -> Result<(), Trouble> {
+    fn write(&mut self, letter: u8) -> Result<(), Trouble>
+        ensures { IfErr result (λ e. e ≡ Trouble.NoMemory) }
+    {
         self.text.push(letter).map_err(|_| Trouble::NoMemory)
     }
 
-    fn plan(&mut self, task: Task) -> Result<(), Trouble> {
+    fn plan(&mut self, task: Task) -> Result<(), Trouble>
+        ensures { IfErr result (λ e. e ≡ Trouble.NoMemory) }
+    {
         self.tasks.push(task).map_err(|_| Trouble::NoMemory)
     }
 

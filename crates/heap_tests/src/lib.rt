@@ -6,6 +6,8 @@ mod at_size;
 #[cfg(test)]
 mod block_sizes;
 #[cfg(test)]
+mod bytes;
+#[cfg(test)]
 mod collections;
 #[cfg(test)]
 mod counting;

@@ -172,6 +172,76 @@ fn asked_by_new_young(alloc: Global, leads: bool) -> Result<u64, Fail> {
     asked_by_young(alloc, &refusing, &mut heap, leads)
 }
 
+/// How many requests for memory a collection of the young takes that leaves none of them young: each is a large object, and each but
+/// the first may lead to the one before it.
+fn asked_by_promoted<'a>(
+    alloc: Global,
+    refusing: &'a Refusing<Global>,
+    heap: &mut Counting<'a>,
+    linked: bool,
+) -> Result<u64, Fail> {
+    let roots = added(alloc, heap, with_pointers(bare(40, 300), linked))?;
+    if linked {
+        link(heap, roots.as_slice())?;
+    }
+    asked_with_lists(refusing, heap, 0)
+}
+
+/// The same of a new heap of two generations of one step.
+fn asked_by_new_promoted(alloc: Global, linked: bool) -> Result<u64, Fail> {
+    let refusing = Refusing::new(alloc, NONE);
+    let mut heap = large_heap(&refusing, 1)?;
+    asked_by_promoted(alloc, &refusing, &mut heap, linked)
+}
+
+/// Where all that survives is promoted, nothing younger is left, and no set grows. The pointers of 39 large objects are put in a list,
+/// and what is to be written there in another: each grows five times, from 4 entries to 64.
+#[test]
+fn objects_that_are_promoted_together_are_not_noted(rt: HostRuntime) -> Result<(), Fail> {
+    let unlinked = asked_by_new_promoted(rt.alloc(), false)?;
+    let linked = asked_by_new_promoted(rt.alloc(), true)?;
+    assert!(&rt;
+        linked <= unlinked.saturating_add(10),
+        "{linked} {unlinked}"
+    );
+    Ok(())
+}
+
+/// How many bytes a heap of such old objects has, beside one that stays young, and what is spare is given back.
+fn bytes_beside_young<'a>(
+    alloc: Global,
+    refusing: &'a Refusing<Global>,
+    heap: &mut Counting<'a>,
+    objects: Objects,
+) -> Result<u64, Fail> {
+    let _old = added(alloc, heap, objects)?;
+    for _collection in 0..3 {
+        let _young = heap.allocate(0, 0, 1)?;
+        let _asked = asked_with_lists(refusing, heap, 1)?;
+    }
+    drop(heap.take_spare());
+    Ok(refusing.bytes_held())
+}
+
+/// The same of a new heap, whose younger generation has so many steps. With one of them no object stays young.
+fn bytes_of_new(alloc: Global, steps: u64, objects: Objects) -> Result<u64, Fail> {
+    let refusing = Refusing::new(alloc, NONE);
+    let mut heap = large_heap(&refusing, steps)?;
+    bytes_beside_young(alloc, &refusing, &mut heap, objects)
+}
+
+/// Sets keep the room that they once had, so what was noted can be told by the bytes that a heap has: beside a young object old ones
+/// without a pointer take no entry, and no flag. Two blocks and the lists of few objects are 20,000 bytes at most.
+#[test]
+fn old_objects_without_pointers_are_not_noted(rt: HostRuntime) -> Result<(), Fail> {
+    for objects in [bare(7_000, 3), bare(4_000, 300)] {
+        let old = bytes_of_new(rt.alloc(), 1, objects)?;
+        let beside = bytes_of_new(rt.alloc(), 2, objects)?;
+        assert!(&rt; beside <= old.saturating_add(20_000), "{beside} {old}");
+    }
+    Ok(())
+}
+
 /// No set remembers an object of the youngest generation, wherever it leads.
 #[test]
 fn young_objects_that_lead_to_a_large_one_are_not_noted(rt: HostRuntime) -> Result<(), Fail> {

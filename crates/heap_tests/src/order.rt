@@ -23,10 +23,27 @@ fn three_blocks(refusing: &Refusing<Global>) -> Result<Spare<&Refusing<Global>>,
     Ok(spare)
 }
 
+/// The same once they are in order, each is given out, and each is spare again with another number, that of 20 words between the
+/// others.
+fn three_again(refusing: &Refusing<Global>) -> Result<Spare<&Refusing<Global>>, AllocError> {
+    let mut spare = three_blocks(refusing)?;
+    spare.order_by_memory(refusing)?;
+    let first = spare.block(refusing, 20)?;
+    let second = spare.block(refusing, 24)?;
+    let third = spare.block(refusing, 16)?;
+    spare.keep(numbered(third, 7));
+    spare.keep(numbered(first, 9));
+    spare.keep(numbered(second, 8));
+    Ok(spare)
+}
+
 /// Asserts that the block of 20 words is the first that is given out once blocks are in the order of the numbers that they were
 /// given first: it is there, so it takes no memory. A block of other words would be made anew.
-fn assert_ordered(rt: &impl Abort, refusing: &Refusing<Global>) -> Result<(), Fail> {
-    let mut spare = three_blocks(refusing)?;
+fn assert_ordered<'a>(
+    rt: &impl Abort,
+    refusing: &'a Refusing<Global>,
+    mut spare: Spare<&'a Refusing<Global>>,
+) -> Result<(), Fail> {
     spare.order_by_memory(refusing)?;
     let before = refusing.asked();
     let _block = spare.block(refusing, 20)?;
@@ -40,7 +57,8 @@ fn assert_ordered(rt: &impl Abort, refusing: &Refusing<Global>) -> Result<(), Fa
 #[test]
 fn spare_blocks_stand_in_the_order_of_their_first_numbers(rt: HostRuntime) -> Result<(), Fail> {
     let refusing = Refusing::new(rt.alloc(), u64::MAX);
-    assert_ordered(&rt, &refusing)?;
+    assert_ordered(&rt, &refusing, three_blocks(&refusing)?)?;
+    assert_ordered(&rt, &refusing, three_again(&refusing)?)?;
     assert_eq!(rt; refusing.asked(), refusing.returned());
     Ok(())
 }

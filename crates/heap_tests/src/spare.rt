@@ -373,23 +373,64 @@ fn lists_with_room_for_few_entries_are_kept_for_none(rt: HostRuntime) -> Result<
     Ok(())
 }
 
-/// A worker's lists, each with room for so many entries, of which it holds so many.
-fn lists_of(alloc: Global, room: usize, held: usize) -> Result<WorkerReport, Fail> {
-    let mut won = Vec::with_capacity(alloc, room)?;
-    let mut scanned = Vec::with_capacity(alloc, room)?;
+/// A worker's list of what it won and its list of what it scanned, with room for so many entries, of which each holds so many.
+fn lists_of(
+    alloc: Global,
+    of_won: (usize, usize),
+    of_scanned: (usize, usize),
+) -> Result<WorkerReport, Fail> {
+    let mut won = Vec::with_capacity(alloc, of_won.0)?;
+    let mut scanned = Vec::with_capacity(alloc, of_scanned.0)?;
     let place = PackedPlace::new(Place::small(0, 0));
-    for _entry in 0..held {
+    for _entry in 0..of_won.1 {
         won.push(Won { number: 0, place })?;
+    }
+    for _entry in 0..of_scanned.1 {
         scanned.push(place)?;
     }
     Ok(WorkerReport::new(won, scanned))
 }
 
+/// Whether the lists of one worker are kept.
+fn are_kept_of_one(
+    alloc: Global,
+    of_won: (usize, usize),
+    of_scanned: (usize, usize),
+) -> Result<bool, Fail> {
+    let mut lists = Vec::new(alloc);
+    lists.push(lists_of(alloc, of_won, of_scanned)?)?;
+    let mut spare = Spare::none();
+    spare.keep_lists(lists);
+    Ok(spare.lists().is_some())
+}
+
+/// Both may have room for 1,024 entries more than three times what both hold.
+#[test]
+fn what_is_won_and_what_is_scanned_count_together(rt: HostRuntime) -> Result<(), Fail> {
+    for (of_won, of_scanned, kept) in [
+        ((1_024, 0), (0, 0), true),
+        ((0, 0), (1_024, 0), true),
+        ((1_025, 0), (0, 0), false),
+        ((0, 0), (1_025, 0), false),
+        ((2_000, 0), (1_000, 659), true),
+        ((1_000, 659), (2_000, 0), true),
+        ((2_000, 0), (1_000, 658), false),
+        ((1_000, 658), (2_000, 0), false),
+    ] {
+        assert_eq!(&rt;
+            are_kept_of_one(rt.alloc(), of_won, of_scanned)?,
+            kept,
+            "{of_won:?}, {of_scanned:?}"
+        );
+    }
+    Ok(())
+}
+
 /// Whether the lists of two workers are kept, which have so much room and hold so many entries.
 fn are_kept(alloc: Global, first: (usize, usize), second: (usize, usize)) -> Result<bool, Fail> {
     let mut lists = Vec::new(alloc);
-    lists.push(lists_of(alloc, first.0, first.1)?)?;
-    lists.push(lists_of(alloc, second.0, second.1)?)?;
+    lists.push(lists_of(alloc, first, first)?)?;
+    lists.push(lists_of(alloc, second, second)?)?;
     let mut spare = Spare::none();
     spare.keep_lists(lists);
     Ok(spare.lists().is_some())

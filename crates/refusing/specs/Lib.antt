@@ -1,2 +1,2 @@
--- What an allocator that refuses one request shows.
+-- What an allocator that refuses requests shows.
 pub mod Refused

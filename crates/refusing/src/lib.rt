@@ -1,23 +1,44 @@
-//! An allocator that refuses one of its requests, and counts, for tests of what happens where memory runs out.
+//! An allocator that refuses one of its requests, or each from one on, and counts, for tests of what happens where memory runs out.
 //! Threads share it by `&`.
 #![tactic(auto)]
 
 use std::alloc::{AllocError, Allocator};
 use std::sync::atomic::{AtomicU64, Ordering};
 
-/// How many requests there were, which one is refused, how many blocks came back, and how many bytes these and those had.
+/// How many requests there were, which are refused, how many blocks came back, and how many bytes these and those had.
 #[derive(Drop)]
 pub struct Requests {
     asked: AtomicU64,
     returned: AtomicU64,
     bytes_granted: AtomicU64,
     bytes_returned: AtomicU64,
-    refused: u64,
+    first_refused: u64,
+    last_refused: u64,
 }
 
-/// Counts a request for so many bytes, and says whether it is the one to refuse. The bytes of that one don't count.
+impl Requests {
+    ghost use Rattle.std.specs.Prelude.{◌≡◌};
+
+    /// None yet, of which those from the first of these numbers to the last will be refused.
+    fn refusing(first_refused: u64, last_refused: u64) -> Requests
+        ensures first { result.first_refused ≡ first_refused }
+        ensures last { result.last_refused ≡ last_refused }
+    {
+        Requests {
+            asked: AtomicU64::new(0),
+            returned: AtomicU64::new(0),
+            bytes_granted: AtomicU64::new(0),
+            bytes_returned: AtomicU64::new(0),
+            first_refused,
+            last_refused,
+        }
+    }
+}
+
+/// Counts a request for so many bytes, and says whether it is one to refuse. The bytes of such a one don't count.
 fn refuses_next(requests: &Requests, size: usize) -> bool {
-    if requests.asked.fetch_add(1, Ordering::SeqCst) == requests.refused {
+    let number = requests.asked.fetch_add(1, Ordering::SeqCst);
+    if requests.first_refused <= number && number <= requests.last_refused {
         return true;
     }
     requests
@@ -34,7 +55,8 @@ fn counts_return(requests: &Requests, size: usize) {
         .fetch_add(size as u64, Ordering::SeqCst);
 }
 
-/// Hands each request to an inner allocator but one, which it refuses. `&Refusing<B>` is an allocator too.
+/// Hands each request to an inner allocator but one, or but those from one on, which it refuses. `&Refusing<B>` is an allocator
+/// too.
 #[derive(Drop)]
 pub struct Refusing<B: Allocator> {
     inner: B,
@@ -43,24 +65,33 @@ pub struct Refusing<B: Allocator> {
 
 impl<B: Allocator> Refusing<B> {
     ghost use Rattle.std.specs.Prelude.{◌≡◌};
-    ghost use Rattle.refusing.specs.Refused.{refused_number, inner_allocator};
+    ghost use Rattle.refusing.specs.Refused.{first_refused, last_refused, inner_allocator};
 
     /// Refuses the request of this number, counted from 0, and no other.
     pub fn new(inner: B, refused: u64) -> Refusing<B>
-        ensures refused { refused_number result ≡ refused }
+        ensures first { first_refused result ≡ refused }
+        ensures last { last_refused result ≡ refused }
         ensures inner { inner_allocator result ≡ inner }
     {
-        let requests = Requests {
-            asked: AtomicU64::new(0),
-            returned: AtomicU64::new(0),
-            bytes_granted: AtomicU64::new(0),
-            bytes_returned: AtomicU64::new(0),
-            refused,
-        };
-        Refusing { inner, requests }
+        Refusing {
+            inner,
+            requests: Requests::refusing(refused, refused),
+        }
     }
 
-    /// The number of requests so far, the refused one among them. What it is no contract can say.
+    /// Refuses the request of this number, counted from 0, and each that comes after it.
+    pub fn from_on(inner: B, first: u64) -> Refusing<B>
+        ensures first { first_refused result ≡ first }
+        ensures last { last_refused result ≡ 18446744073709551615 }
+        ensures inner { inner_allocator result ≡ inner }
+    {
+        Refusing {
+            inner,
+            requests: Requests::refusing(first, u64::MAX),
+        }
+    }
+
+    /// The number of requests so far, the refused ones among them. What it is no contract can say.
     pub fn asked(&self) -> u64 {
         self.requests.asked.load(Ordering::SeqCst)
     }
@@ -129,6 +160,17 @@ mod tests {
         let refusing = Refusing::new(rt.alloc(), 2);
         assert!(rt; pair(&refusing).is_ok());
         assert_eq!(rt; (refusing.asked(), refusing.returned()), (2, 2));
+        Ok(())
+    }
+
+    #[test]
+    fn refuses_each_request_from_one_on(rt: HostRuntime) -> Result<(), Fail> {
+        let refusing = Refusing::from_on(rt.alloc(), 1);
+        for number in 0_u64..3 {
+            assert!(rt; pair(&refusing).is_err());
+            // The first of the first pair is granted, and nothing after it.
+            assert_eq!(rt; (refusing.asked(), refusing.returned()), (number + 2, 1));
+        }
         Ok(())
     }
 

@@ -170,8 +170,20 @@ impl Read for Noting<'_> {
     }
 }
 
-/// The fault of a run over 20,000 lines, and how many bytes of memory it holds at its first read, and at most at a read. At most
-/// one object is in use, and the nursery has room for 64.
+/// Lines of a run, and of a replay, again and again.
+fn lines_of(task: Task) -> Repeated<'static> {
+    match task {
+        Task::Run | Task::Threads(_) => Repeated::new(b"new a 0 0 0\ndrop a\n", 10_000, b""),
+        Task::Replay => Repeated::new(
+            b"new a 0 0 0\ndrop a\ncollect 0\nfinish\ncommit\n",
+            2_000,
+            b"",
+        ),
+    }
+}
+
+/// The fault of a run over 20,000 lines, or of a replay of 2,000 schedules, and how many bytes of memory it holds at its first read,
+/// and at most at a read. At most one object is in use, and the nursery has room for 64. What is written is not held.
 fn held_at_reads<R: Threads + Wait + Sync + AllocGlobal>(
     rt: &R,
     task: Task,
@@ -187,13 +199,18 @@ fn held_at_reads<R: Threads + Wait + Sync + AllocGlobal>(
     let config = config_of(task, sizes)?;
     let refusing = Refusing::new(rt.alloc(), u64::MAX);
     let mut reader = CountedReader::new(Noting {
-        input: Repeated::new(b"new a 0 0 0\ndrop a\n", 10_000, b""),
+        input: lines_of(task),
         refusing: &refusing,
         first: None,
         most: 0,
     });
     let mut writer = Counted::new(Vec::new(rt.alloc()));
-    let result = run(rt, &refusing, &mut reader, &mut writer, config, &OpenGate);
+    let result = match task {
+        Task::Run | Task::Threads(_) => {
+            run(rt, &refusing, &mut reader, &mut writer, config, &OpenGate)
+        }
+        Task::Replay => replay(&refusing, &mut reader, &mut writer, config),
+    };
     let first = reader.inner.first.unwrap_or(u64::MAX);
     Ok((result, first, reader.inner.most))
 }
@@ -204,6 +221,7 @@ fn memory_of_a_long_run_does_not_grow(rt: HostRuntime) -> Result<(), BadConfig> 
         ("one worker", Task::Run),
         ("words", Task::Threads(CellKind::Word)),
         ("boxes", Task::Threads(CellKind::Box)),
+        ("schedules", Task::Replay),
     ] {
         let (result, first, most) = held_at_reads(&rt, task)?;
         assert_eq!(rt; result, Ok(()), "{name}");

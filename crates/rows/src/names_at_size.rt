@@ -1,5 +1,5 @@
 //! A trace of 70,000 names, 60,000 of them of large objects that take a block each, by one worker, by two threads, and by two
-//! workers in turn.
+//! workers in turn: all are counted, and shown.
 use crate::program::{Ended, assert_output, ran, text_of};
 use std::alloc::{AllocError, AllocGlobal, Global};
 use std::fmt::Write;
@@ -21,6 +21,9 @@ roots: 70000
 remembered: 0
 ";
 
+/// The number in the first name, so that all names have as many digits, and come in order.
+const FIRST: u32 = 10_000;
+
 /// A line that makes the object of this number.
 fn push_object(text: &mut String, number: u32) -> Result<(), AllocError> {
     let (mutator, plain) = if number < LARGE {
@@ -28,10 +31,11 @@ fn push_object(text: &mut String, number: u32) -> Result<(), AllocError> {
     } else {
         (number % 16, 0)
     };
-    writeln!(text, "new n{number} {mutator} 0 {plain}")
+    let name = number.saturating_add(FIRST);
+    writeln!(text, "new n{name} {mutator} 0 {plain}")
 }
 
-/// The objects, so many lines that collect them, and a census.
+/// The objects, so many lines that collect them, and a census and the heap.
 fn trace_of(alloc: Global, collection: &str) -> Result<String, AllocError> {
     let mut text = String::new(alloc);
     for number in 0..NAMES {
@@ -39,7 +43,26 @@ fn trace_of(alloc: Global, collection: &str) -> Result<String, AllocError> {
     }
     writeln!(&mut text, "{collection}")?;
     writeln!(&mut text, "census")?;
+    writeln!(&mut text, "heap")?;
     Ok(text)
+}
+
+/// What is shown of the heap: a line for each root, and then one for each object, of which none leads anywhere.
+fn push_heap(text: &mut String) -> Result<(), AllocError> {
+    for number in 0..NAMES {
+        let (name, shown) = (number.saturating_add(FIRST), number.saturating_add(1));
+        writeln!(text, "root n{name} #{shown}")?;
+    }
+    for number in 0..NAMES {
+        let words = if number < LARGE {
+            "0 0 0 0 0 0 0 0 0"
+        } else {
+            ""
+        };
+        let shown = number.saturating_add(1);
+        writeln!(text, "#{shown} gen 0 step 0 ptrs [] words [{words}]")?;
+    }
+    Ok(())
 }
 
 /// A command line for as many blocks as there may be.
@@ -49,11 +72,20 @@ fn words_of(alloc: Global, words: &str) -> Result<String, AllocError> {
     )
 }
 
+/// What a run prints of the census and of the heap.
+fn shown_of(alloc: Global) -> Result<String, AllocError> {
+    let mut text = String::new(alloc);
+    write!(&mut text, "{COUNTS}")?;
+    push_heap(&mut text)?;
+    Ok(text)
+}
+
 /// What a run prints.
 fn output_of(alloc: Global) -> Result<String, AllocError> {
     let mut text = String::new(alloc);
     writeln!(&mut text, "collected 0: {NAMES} kept, 0 freed")?;
     write!(&mut text, "{COUNTS}")?;
+    push_heap(&mut text)?;
     Ok(text)
 }
 
@@ -72,9 +104,9 @@ fn seventy_thousand_names(rt: HostRuntime) -> Result<(), AllocError> {
     Ok(())
 }
 
-/// Whether the run ended well, and its last lines count all.
-fn is_counted(ended: &Ended) -> bool {
-    ended.status == 0 && ended.output.as_slice().ends_with(COUNTS.as_bytes())
+/// Whether the run ended well, and its last lines count and show all.
+fn is_shown(ended: &Ended, shown: &str) -> bool {
+    ended.status == 0 && ended.output.as_slice().ends_with(shown.as_bytes())
 }
 
 /// Asserts that two workers in turn keep all, each event the one that comes next by itself.
@@ -84,7 +116,12 @@ fn assert_replayed<R: Threads + Wait + Sync + AllocGlobal + RandomSource + Abort
     let trace = trace_of(rt.alloc(), "collect 0\nfinish\ncommit")?;
     let words = words_of(rt.alloc(), "gctrace replay --threads 2")?;
     let ended = ran(rt, words.as_str(), trace.as_str().as_bytes())?;
-    assert!(rt; is_counted(&ended), "{}", text_of(ended.errors.as_slice()));
+    let shown = shown_of(rt.alloc())?;
+    assert!(rt;
+        is_shown(&ended, shown.as_str()),
+        "{}",
+        text_of(ended.errors.as_slice())
+    );
     Ok(())
 }
 

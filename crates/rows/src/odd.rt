@@ -201,7 +201,19 @@ gctrace run --threads=-1
 gctrace run --blocks=18446744073709551616
 gctrace run --cells=words
 gctrace run --steps
+gctrace ru --threads 1
+gctrace run --thread 1
+gctrace run --threads 1,2
+gctrace run --threads 1 2
 gctrace run --threads 1 --threads 1
+gctrace run --mutators 1 --mutators 1
+gctrace run --generations 1 --generations 1
+gctrace run --steps 1 --steps 1
+gctrace run --block-words 16 --block-words 16
+gctrace run --nursery 1 --nursery 1
+gctrace run --blocks 9 --blocks 9
+gctrace run --frob --help
+gctrace run --threads x --help
 gctrace replay --threads 1 --threads 1
 gctrace run --cells box --cells box
 gctrace run --cells box --cells word
@@ -214,6 +226,7 @@ const HELP: &str = "gctrace --help
 gctrace help replay
 gctrace run -h
 gctrace run --steps 3 --help --blocks 9
+gctrace run --threads 99 --help
 ";
 
 #[test]

@@ -26,47 +26,84 @@ fn one_generation() -> Sizes {
     }
 }
 
+/// What makes a collection.
+#[derive(Clone, Copy, Debug)]
+enum Cause {
+    /// A line of the trace.
+    Command,
+    /// A nursery that is full.
+    FullNursery,
+}
+
+/// Lines that make a collection. A nursery has room for 2,048 objects of a word each.
+fn push_collection(trace: &mut String, cause: Cause) -> Result<(), AllocError> {
+    match cause {
+        Cause::Command => trace.push_str("collect 0\n"),
+        Cause::FullNursery => {
+            for _object in 0..2_100 {
+                trace.push_str("new d 0 0 0\ndrop d\n")?;
+            }
+            Ok(())
+        }
+    }
+}
+
 /// So many objects of a word each, which four collections keep.
-fn trace_of(alloc: Global, objects: u32) -> Result<String, AllocError> {
+fn trace_of(alloc: Global, objects: u32, cause: Cause) -> Result<String, AllocError> {
     let mut trace = String::new(alloc);
     for number in 0..objects {
         writeln!(&mut trace, "new n{number} 0 0 0")?;
     }
-    trace.push_str("collect 0\ncollect 0\ncollect 0\ncollect 0\n")?;
+    for _collection in 0..4 {
+        push_collection(&mut trace, cause)?;
+    }
     Ok(trace)
 }
 
-/// How many requests a fifth collection makes.
+/// How many requests a fifth collection makes, behind four of that cause.
 fn asked_by_fifth<R: Threads + Wait + Sync + AllocGlobal + Abort>(
     rt: &R,
     task: Task,
     objects: u32,
+    cause: Cause,
 ) -> Result<u64, Fail> {
-    let mut trace = trace_of(rt.alloc(), objects)?;
+    let mut trace = trace_of(rt.alloc(), objects, cause)?;
     let four = asked_by(rt, task, one_generation(), trace.as_str())?;
     trace.push_str("collect 0\n")?;
     let five = asked_by(rt, task, one_generation(), trace.as_str())?;
     Ok(five.saturating_sub(four))
 }
 
-#[test]
-fn lists_are_used_again(rt: HostRuntime) -> Result<(), Fail> {
+/// Asserts that the lists of a collection of that cause are the next one's.
+fn assert_used_again<R: Threads + Wait + Sync + AllocGlobal + Abort>(
+    rt: &R,
+    task: Task,
+    cause: Cause,
+    name: &str,
+) -> Result<(), Fail> {
     // Two lists hold what was won and what was scanned. Of two workers each has a half of the slots, and since no block is full
     // it scans what it wins: so each of its lists has 200 entries, and those of one worker 400. A list that starts anew takes
     // a request for its first entries, and one more each time that it doubles, from 4 to 512 or to 256. So without those
     // of the collection before, one worker asks 14 times more for 400 objects than for two, and two workers 24 times more.
     // The rest depends little on how many objects there are.
+    let few = asked_by_fifth(rt, task, 2, cause)?;
+    let many = asked_by_fifth(rt, task, 400, cause)?;
+    assert!(rt;
+        many.saturating_sub(few) < 10,
+        "{name}, {cause:?}: {few} for few, {many} for many"
+    );
+    Ok(())
+}
+
+#[test]
+fn lists_are_used_again(rt: HostRuntime) -> Result<(), Fail> {
     for (name, task) in [
         ("one worker", Task::Run),
         ("words", Task::Threads(CellKind::Word)),
         ("boxes", Task::Threads(CellKind::Box)),
     ] {
-        let few = asked_by_fifth(&rt, task, 2)?;
-        let many = asked_by_fifth(&rt, task, 400)?;
-        assert!(rt;
-            many.saturating_sub(few) < 10,
-            "{name}: {few} for few, {many} for many"
-        );
+        assert_used_again(&rt, task, Cause::Command, name)?;
+        assert_used_again(&rt, task, Cause::FullNursery, name)?;
     }
     Ok(())
 }

@@ -3,3 +3,7 @@
 pub mod LineByLine
 pub mod WholeRun
 pub mod Endings
+-- What the words of a command line ask for.
+pub mod Building
+pub mod Reading
+pub mod Refusing

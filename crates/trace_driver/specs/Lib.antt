@@ -12,6 +12,8 @@ pub use Rattle.trace_replay.specs.ReplayStops
 pub mod RunValue
 pub mod Running
 pub mod Program
--- Why the words of a command line ask for no run, and what is told of it.
+-- What the words of a command line ask for, or why they ask for no run, and what is told of it.
 pub mod Refusals
-pub mod Words
+pub mod Gctrace
+pub mod Defaults
+pub mod Asked

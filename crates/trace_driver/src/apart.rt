@@ -52,10 +52,7 @@ fn carry_out_lines_apart<
             Ok(Next::End) => return Ok(()),
             Err(ReadFailed) => return Err(Fault::ReadFailed),
         }
-        match carry_out_apart(crew, session, number, lines.line(), writer) {
-            Ok(()) => {}
-            Err(fault) => return Err(fault),
-        }
+        carry_out_apart(crew, session, number, lines.line(), writer)?;
         number += 1;
     }
 }
@@ -92,10 +89,7 @@ fn run_apart<
     let Ok(text_alloc) = alloc.clone() else {
         return Err(Fault::NoMemory(None));
     };
-    let mut session = match Session::new(alloc, config.config(), config.seed()) {
-        Ok(session) => session,
-        Err(fault) => return Err(fault),
-    };
+    let mut session = Session::new(alloc, config.config(), config.seed())?;
     let Ok(mut lines) = Lines::new(text_alloc, config.piece()) else {
         return Err(Fault::NoMemory(None));
     };

@@ -1,6 +1,7 @@
 //! The whole program: the words of a command line, and what is read and written.
-ghost use Rattle.std.specs.Prelude.{◌≡◌, ◌+◌, ◌-◌, ◌^◌, ◌<◌, ◌≤◌, ◌⊎◌, ◌↔◌, IfOk, IsOk};
+ghost use Rattle.std.specs.Prelude.{◌≡◌, ◌+◌, ◌-◌, ◌^◌, ◌<◌, ◌≤◌, ◌⊎◌, ◌↔◌, IfOk, IsOk, map};
 ghost use Rattle.trace_session.specs.FaultText.{fault_line, status_of};
+ghost use Rattle.trace_driver.specs.Asked.{AreAskedBy, AreToldOf};
 ghost use Rattle.trace_driver.specs.Program.{config_of, AreInRange, Tells, TaskEnds};
 ghost use Rattle.trace_driver.specs.Refusals.{IsRefusal};
 ghost use Rattle.trace_driver.specs.declared.command_line.words.Options.{Options as Asked};
@@ -134,10 +135,11 @@ fn run_with<
     }
 }
 
-/// Reads a command line, carries out the trace that `reader` gives, and says the exit status: 0 for a trace without a
-/// fault and for help, 1 where blocks or memory are wanting or boxed cells were not settled, 2 for a faulty trace, 3 for a
-/// mistake in the words or a number out of its range, 4 for a failed read or write. What it tells of a fault goes to
-/// `errors`; a failed write of that doesn't change the status. Names are hashed with a seed that the runtime draws.
+/// Reads a command line, whose first word is the program's name, carries out the trace that `reader` gives by the options that the
+/// words ask for (`AreAskedBy`), and says the exit status: 0 for a trace without a fault and for help, 1 where blocks or memory are
+/// wanting or boxed cells were not settled, 2 for a faulty trace, 3 for a mistake in the words or a number out of its range, 4 for a
+/// failed read or write. What it tells of a fault goes to `errors`; a failed write of that doesn't change the status. Names are
+/// hashed with a seed that the runtime draws.
 pub fn main_with<
     R: Threads + Wait + Sync + AllocGlobal + RandomSource,
     T: AsStr,
@@ -149,7 +151,7 @@ pub fn main_with<
     requires writable { W.failed_writes writer.old < 2 ^ 64 - 1 }
     requires tellable { E.failed_writes errors.old < 2 ^ 64 - 1 }
     ensures status { result ≤ 4 }
-    ensures ends { ((options : Asked) ×
+    ensures ends { ((options : Asked) × AreAskedBy (map T.text words.now) options ×
         TaskEnds options ((writer.new ≡ writer.old) × (reader.new ≡ reader.old)) (errors.new ≡ errors.old)
         (S.failed_reads reader.new ≡ S.failed_reads reader.old + 1)
         (W.failed_writes writer.new ≡ W.failed_writes writer.old + 1)
@@ -157,7 +159,8 @@ pub fn main_with<
         (S.input reader.old) (S.input reader.new) (W.output writer.old) (W.output writer.new) (E.output errors.old)
         (E.output errors.new) result)
         ⊎ ((reader.new ≡ reader.old) ×
-        ((mistaken : Mistaken) × IsRefusal mistaken (writer.new ≡ writer.old) (errors.new ≡ errors.old)
+        ((mistaken : Mistaken) × AreToldOf (map T.text words.now) mistaken ×
+        IsRefusal mistaken (writer.new ≡ writer.old) (errors.new ≡ errors.old)
         (W.failed_writes writer.new ≡ W.failed_writes writer.old + 1)
         (E.failed_writes errors.new ≡ E.failed_writes errors.old + 1)
         (W.output writer.old) (W.output writer.new) (E.output errors.old) (E.output errors.new) result)) }
@@ -181,7 +184,7 @@ pub fn main_at<
     requires writable { W.failed_writes writer.old < 2 ^ 64 - 1 }
     requires tellable { E.failed_writes errors.old < 2 ^ 64 - 1 }
     ensures status { result ≤ 4 }
-    ensures ends { ((options : Asked) ×
+    ensures ends { ((options : Asked) × AreAskedBy (map T.text words.now) options ×
         TaskEnds options ((writer.new ≡ writer.old) × (reader.new ≡ reader.old)) (errors.new ≡ errors.old)
         (S.failed_reads reader.new ≡ S.failed_reads reader.old + 1)
         (W.failed_writes writer.new ≡ W.failed_writes writer.old + 1)
@@ -189,7 +192,8 @@ pub fn main_at<
         (S.input reader.old) (S.input reader.new) (W.output writer.old) (W.output writer.new) (E.output errors.old)
         (E.output errors.new) result)
         ⊎ ((reader.new ≡ reader.old) ×
-        ((mistaken : Mistaken) × IsRefusal mistaken (writer.new ≡ writer.old) (errors.new ≡ errors.old)
+        ((mistaken : Mistaken) × AreToldOf (map T.text words.now) mistaken ×
+        IsRefusal mistaken (writer.new ≡ writer.old) (errors.new ≡ errors.old)
         (W.failed_writes writer.new ≡ W.failed_writes writer.old + 1)
         (E.failed_writes errors.new ≡ E.failed_writes errors.old + 1)
         (W.output writer.old) (W.output writer.new) (E.output errors.old) (E.output errors.new) result)) }

@@ -38,10 +38,7 @@ fn carry_out_lines<A: Allocator + Clone, S: Source, W: Sink>(
             Ok(Next::End) => return Ok(()),
             Err(ReadFailed) => return Err(Fault::ReadFailed),
         }
-        match carry_out(session, number, lines.line(), writer) {
-            Ok(()) => {}
-            Err(fault) => return Err(fault),
-        }
+        carry_out(session, number, lines.line(), writer)?;
         number += 1;
     }
 }
@@ -71,10 +68,7 @@ pub fn run_one<A: Allocator + Clone, S: Source, W: Sink>(
     let Ok(text_alloc) = alloc.clone() else {
         return Err(Fault::NoMemory(None));
     };
-    let mut session = match Session::new(alloc, config.config(), config.seed()) {
-        Ok(session) => session,
-        Err(fault) => return Err(fault),
-    };
+    let mut session = Session::new(alloc, config.config(), config.seed())?;
     let Ok(mut lines) = Lines::new(text_alloc, config.piece()) else {
         return Err(Fault::NoMemory(None));
     };

@@ -78,7 +78,7 @@ pub(crate) fn collect<A: Allocator + Clone, S: Source, W: Sink>(
     let Ok(text_alloc) = session.alloc.clone() else {
         return Err(Fault::NoMemory(Some(number)));
     };
-    let (settled, commit) = match settled_by_schedule(
+    let (settled, commit) = settled_by_schedule(
         alloc,
         &session.heap,
         generation,
@@ -86,10 +86,7 @@ pub(crate) fn collect<A: Allocator + Clone, S: Source, W: Sink>(
         number,
         lines,
         reader,
-    ) {
-        Ok(found) => found,
-        Err(fault) => return Err(fault),
-    };
+    )?;
     let (won, taken) = (settled.workers.as_slice(), settled.deliveries.as_slice());
     let Ok(told) = workers_text(text_alloc, won, taken) else {
         return Err(Fault::NoMemory(Some(commit)));
@@ -146,10 +143,7 @@ pub(crate) fn make_room<A: Allocator + Clone, W: Sink>(
     let Ok(text_alloc) = session.alloc.clone() else {
         return Err(Fault::NoMemory(Some(number)));
     };
-    let settled = match settled_by_itself(alloc, &session.heap, 0, workers, number) {
-        Ok(settled) => settled,
-        Err(fault) => return Err(fault),
-    };
+    let settled = settled_by_itself(alloc, &session.heap, 0, workers, number)?;
     let (won, taken) = (settled.workers.as_slice(), settled.deliveries.as_slice());
     let Ok(lines) = workers_text(text_alloc, won, taken) else {
         return Err(Fault::NoMemory(Some(number)));

@@ -52,20 +52,15 @@ fn carry_out_line<A: Allocator + Clone, W: Sink>(
       write = W.failed_writes writer.new ≡ W.failed_writes writer.old + 1;
     })) }
 {
-    match attempt_line(session, number, line, writer) {
-        Ok(Attempt::Done) => return Ok(()),
-        Ok(Attempt::NurseryFull) => {}
-        Err(fault) => return Err(fault),
+    match attempt_line(session, number, line, writer)? {
+        Attempt::Done => return Ok(()),
+        Attempt::NurseryFull => {}
     }
-    match make_room(session, workers, number, writer) {
-        Ok(()) => {}
-        Err(fault) => return Err(fault),
-    }
-    match attempt_line(session, number, line, writer) {
-        Ok(Attempt::Done) => Ok(()),
+    make_room(session, workers, number, writer)?;
+    match attempt_line(session, number, line, writer)? {
+        Attempt::Done => Ok(()),
         // A collection leaves each nursery with room.
-        Ok(Attempt::NurseryFull) => Err(Fault::HeapFull(Some(number))),
-        Err(fault) => Err(fault),
+        Attempt::NurseryFull => Err(Fault::HeapFull(Some(number))),
     }
 }
 
@@ -117,10 +112,8 @@ fn carry_out_first<A: Allocator + Clone, S: Source, W: Sink>(
     if let Some(generation) = collected(lines.line()) {
         return collect(session, workers, number, generation, lines, reader, writer);
     }
-    match carry_out_line(session, workers, number, lines.line(), writer) {
-        Ok(()) => Ok(number + 1),
-        Err(fault) => Err(fault),
-    }
+    carry_out_line(session, workers, number, lines.line(), writer)?;
+    Ok(number + 1)
 }
 
 /// Reads and carries out the lines of a trace to its end.
@@ -173,10 +166,7 @@ fn carry_out_lines<A: Allocator + Clone, S: Source, W: Sink>(
             Ok(Next::End) => return Ok(()),
             Err(ReadFailed) => return Err(Fault::ReadFailed),
         }
-        match carry_out_first(session, workers, number, lines, reader, writer) {
-            Ok(next) => number = next,
-            Err(fault) => return Err(fault),
-        }
+        number = carry_out_first(session, workers, number, lines, reader, writer)?;
     }
 }
 
@@ -209,10 +199,7 @@ pub fn replay<A: Allocator + Clone, S: Source, W: Sink>(
     let Ok(text_alloc) = alloc.clone() else {
         return Err(Fault::NoMemory(None));
     };
-    let mut session = match Session::new(alloc, config, seed) {
-        Ok(session) => session,
-        Err(fault) => return Err(fault),
-    };
+    let mut session = Session::new(alloc, config, seed)?;
     let Ok(mut lines) = Lines::new(text_alloc, piece) else {
         return Err(Fault::NoMemory(None));
     };

@@ -13,6 +13,7 @@ pub mod CarriedLemmas
 pub mod TextLemmas
 pub mod LineLemmas
 pub mod CommandFaults
+pub mod HandedOn
 pub mod SecondAttempt
 -- A store and the heap that stands for it, after each change of both.
 pub mod StoreObjects

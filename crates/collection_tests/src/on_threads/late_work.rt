@@ -21,7 +21,7 @@ const FROM: u32 = 15;
 const TO: u32 = 1;
 
 /// Waits until the flag is up, or for so many yields. Then it lets go, and raises `late`, and nobody waits any more.
-fn wait_for(flag: &AtomicBool, late: &AtomicBool) {
+pub(crate) fn wait_for(flag: &AtomicBool, late: &AtomicBool) {
     let backoff = Backoff::new();
     for _yield in 0..YIELDS {
         if flag.load(Ordering::SeqCst) || late.load(Ordering::SeqCst) {

@@ -13,3 +13,5 @@ mod late_work;
 mod leaving;
 #[cfg(test)]
 mod memory;
+#[cfg(test)]
+mod resting;

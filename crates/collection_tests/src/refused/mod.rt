@@ -4,6 +4,8 @@ mod blocks;
 #[cfg(test)]
 mod commands;
 #[cfg(test)]
+mod for_good;
+#[cfg(test)]
 mod memory;
 #[cfg(test)]
 pub(crate) mod shared_tree;

@@ -5,7 +5,7 @@ ghost use Rattle.layout.specs.Place.{place_word};
 ghost use Rattle.workers.specs.Worker.{Nothing};
 ghost use Rattle.workers.specs.WorkerSteps.{after_scan, finish_slot};
 ghost use Rattle.workers.specs.Ready.{CanFinish, CanPass};
-ghost use Rattle.scavenge.specs.Shown.{CanRead, Holds, known_slot};
+ghost use Rattle.scavenge.specs.Shown.{CanRead, Holds, has_another, known_slot};
 ghost use Rattle.scavenge.specs.Swept.{left_in_hand};
 
 use crate::sweep::cursor::{cursor_of, pointer_at, write_at};
@@ -49,6 +49,7 @@ impl<A: Allocator> Sweep<A> {
         ensures some { result ≡ true → self.new ≡ record self.old { worker = after_scan self.old.worker } }
         ensures less { result ≡ true → left_in_hand self.new.worker < left_in_hand self.old.worker }
         ensures none { result ≡ false → self.new ≡ self.old }
+        ensures which { result ≡ has_another self.old.worker.hand }
         ensures proposal { self.new.worker.proposal ≡ None }
     {
         if self.held.len() - self.held.front() < 2 {

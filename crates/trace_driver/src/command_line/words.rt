@@ -1,11 +1,16 @@
 //! The words of a command line.
-ghost use Rattle.std.specs.Prelude.{◌≡◌, ◌↔◌, IfSome, Some, codes};
-ghost use Rattle.clap.specs.Matches.{found_of, first_value};
+ghost use Rattle.std.specs.Prelude.{◌≡◌, ◌↔◌, IfErr, IfOk, IfSome, Some, codes, false, map};
+ghost use Rattle.clap.specs.Walk.{first_of, one_of, rows_of, rule_of};
+ghost use Rattle.clap.specs.Simple.{app_of, subcommand_rows_of};
+ghost use Rattle.clap.specs.Matches.{found_of};
 ghost use Rattle.clap.specs.Values.{kind_of};
+ghost use Rattle.clap.specs.declared.builder.command.Command.TheViews.{out-Command as fields_of};
 ghost use Rattle.collector.specs.declared.apart.CellKind.TheVariants.{Box, Word};
+ghost use Rattle.steps.specs.ConfigRange.{default_sizes};
 ghost use Rattle.trace_driver.specs.Refusals.{IsToldOf};
-ghost use Rattle.trace_driver.specs.Words.{AreCellsOf, HasNumber, HasSizes};
-ghost use Rattle.trace_driver.specs.declared.command_line.words.Task.TheVariants.{Run, Replay};
+ghost use Rattle.trace_driver.specs.Gctrace.{IsCellsRule, IsGctrace, number_rule, task_app};
+ghost use Rattle.trace_driver.specs.Asked.{AreAskedBy, AreRefusedFor, AreToldOf, AreCellsOf, AreOptionsIn, AreOptionsOf, AreSizesIn, IsNumberOf, IsTaskOf};
+ghost use Rattle.trace_driver.specs.Defaults.{AreDefaultsOf};
 
 use clap::error::ErrorKind;
 use clap::{Arg, ArgMatches, Command, Error, value_parser};
@@ -90,7 +95,9 @@ struct Defaults {
 }
 
 impl Defaults {
-    fn of(alloc: Global, sizes: Sizes) -> Result<Defaults, AllocError> {
+    fn of(alloc: Global, sizes: Sizes) -> Result<Defaults, AllocError>
+        ensures { IfOk result (AreDefaultsOf sizes) }
+    {
         Ok(Defaults {
             mutators: format!(in alloc; "{}", sizes.mutators)?,
             generations: format!(in alloc; "{}", sizes.generations)?,
@@ -103,7 +110,10 @@ impl Defaults {
 }
 
 /// An option with one whole number.
-fn number_option<'a>(alloc: Global, name: &'a str, default: &'a str, help: &'a str) -> Arg<'a> {
+fn number_option<'a>(alloc: Global, name: &'a str, default: &'a str, help: &'a str) -> Arg<'a>
+    ensures rule { rule_of result ≡ number_rule name.now default.now }
+    ensures local { result.global ≡ false }
+{
     Arg::new(alloc, name)
         .long(name)
         .value_name("NUMBER")
@@ -113,7 +123,10 @@ fn number_option<'a>(alloc: Global, name: &'a str, default: &'a str, help: &'a s
 }
 
 /// The kind of forwarding cells.
-fn cells_option<'a>(alloc: Global) -> Arg<'a> {
+fn cells_option<'a>(alloc: Global) -> Arg<'a>
+    ensures rule { IsCellsRule (rule_of result) }
+    ensures local { result.global ≡ false }
+{
     Arg::new(alloc, "cells")
         .long("cells")
         .value_name("KIND")
@@ -129,7 +142,10 @@ fn task_command<'a>(
     about: &'a str,
     threads: &'a str,
     defaults: &'a Defaults,
-) -> Result<Command<'a>, AllocError> {
+) -> Result<Command<'a>, AllocError>
+    requires { AreDefaultsOf default_sizes defaults.now }
+    ensures { IfOk result (λ c. (app_of c ≡ task_app name.now default_sizes) × ((fields_of c).has_globals ≡ false)) }
+{
     let of_nurseries = "Blocks of each mutator's nursery: 1 to 64";
     let of_steps = "Steps of each generation but the oldest: 1 to 4";
     let of_words = "Words of a block: 16 to 512, a multiple of 4";
@@ -155,7 +171,10 @@ fn task_command<'a>(
         ))
 }
 
-fn gctrace_command<'a>(alloc: Global, defaults: &'a Defaults) -> Result<Command<'a>, AllocError> {
+fn gctrace_command<'a>(alloc: Global, defaults: &'a Defaults) -> Result<Command<'a>, AllocError>
+    requires { AreDefaultsOf default_sizes defaults.now }
+    ensures { IfOk result (λ c. IsGctrace (app_of c) × ((fields_of c).has_globals ≡ false)) }
+{
     let of_run = "Workers of a collection, each on a thread: 1 to 16";
     let run = task_command(alloc, "run", ABOUT_RUN, of_run, defaults)?;
     let of_replay = "Workers of a collection, in turn: 1 to 16";
@@ -171,8 +190,7 @@ fn gctrace_command<'a>(alloc: Global, defaults: &'a Defaults) -> Result<Command<
 
 /// The task of the subcommand of this name.
 fn task_of(name: &str) -> Option<Task>
-    ensures run { (result ≡ Some Run) ↔ (name.now ≡ codes "run") }
-    ensures replay { (result ≡ Some Replay) ↔ (name.now ≡ codes "replay") }
+    ensures { IfSome result (IsTaskOf name.now) }
 {
     match name {
         "run" => Some(Task::Run),
@@ -193,46 +211,65 @@ fn cells_of(name: &str) -> Option<CellKind>
     }
 }
 
+/// The number of the option of this name.
+fn number_of(matches: &ArgMatches<'_>, name: &str) -> Option<u64>
+    ensures { IfSome result (IsNumberOf (one_of name.now (rows_of (found_of matches.now)))) }
+{
+    let number = matches.get_one::<u64>(name)?;
+    Some(number)
+}
+
+/// The cells of the option `cells`, and words where the command has none.
+fn cells_in(matches: &ArgMatches<'_>) -> Option<CellKind>
+    ensures { IfSome result (AreCellsOf (first_of (codes "cells") (rows_of (found_of matches.now)))) }
+{
+    cells_of(matches.get_str("cells").unwrap_or("word"))
+}
+
 /// The sizes of the heap, in no particular range.
 fn sizes_of(matches: &ArgMatches<'_>) -> Option<Sizes>
-    ensures { IfSome result (HasSizes (found_of matches.now)) }
+    ensures { IfSome result (AreSizesIn (rows_of (found_of matches.now))) }
 {
     Some(Sizes {
-        block_words: matches.get_one::<u64>("block-words")?,
-        blocks: matches.get_one::<u64>("blocks")?,
-        mutators: matches.get_one::<u64>("mutators")?,
-        nursery_blocks: matches.get_one::<u64>("nursery")?,
-        generations: matches.get_one::<u64>("generations")?,
-        steps: matches.get_one::<u64>("steps")?,
+        block_words: number_of(matches, "block-words")?,
+        blocks: number_of(matches, "blocks")?,
+        mutators: number_of(matches, "mutators")?,
+        nursery_blocks: number_of(matches, "nursery")?,
+        generations: number_of(matches, "generations")?,
+        steps: number_of(matches, "steps")?,
     })
 }
 
 /// The options of the subcommand of this name.
 fn options_of(name: &str, matches: &ArgMatches<'_>) -> Option<Options>
-    ensures run { IfSome result (λ options. (options.task ≡ Run) ↔ (name.now ≡ codes "run")) }
-    ensures replay { IfSome result (λ options. (options.task ≡ Replay) ↔ (name.now ≡ codes "replay")) }
-    ensures cells { IfSome result
-        (λ options. AreCellsOf (first_value (found_of matches.now) (codes "cells")) options.cells) }
-    ensures threads { IfSome result (λ options. HasNumber (found_of matches.now) (codes "threads") options.threads) }
-    ensures sizes { IfSome result (λ options. HasSizes (found_of matches.now) options.sizes) }
+    ensures { IfSome result (AreOptionsOf name.now (rows_of (found_of matches.now))) }
 {
     Some(Options {
         task: task_of(name)?,
-        cells: cells_of(matches.get_str("cells").unwrap_or("word"))?,
-        threads: matches.get_one::<u64>("threads")?,
+        cells: cells_in(matches)?,
+        threads: number_of(matches, "threads")?,
         sizes: sizes_of(matches)?,
     })
 }
 
+/// The options of the subcommand that was met.
+fn options_in(matches: &ArgMatches<'_>) -> Option<Options>
+    ensures { IfSome result (AreOptionsIn (subcommand_rows_of matches.now)) }
+{
+    let (name, inner) = matches.subcommand()?;
+    options_of(name, inner)
+}
+
 /// What the words ask for, or the mistake in them as `clap` tells of it.
-fn parsed_words<'a, T: AsStr>(alloc: Global, words: &'a [T]) -> Result<Options, Error> {
+#[tactic(auto, using(crate::proofs::Refusing::for_memory, crate::proofs::Refusing::for_no_task))]
+fn parsed_words<'a, T: AsStr>(alloc: Global, words: &'a [T]) -> Result<Options, Error>
+    ensures ok { IfOk result (AreAskedBy (map T.text words.now)) }
+    ensures err { IfErr result (λ e. AreRefusedFor (map T.text words.now) (kind_of e)) }
+{
     let defaults = Defaults::of(alloc, Sizes::default())?;
     let mut command = gctrace_command(alloc, &defaults)?;
     let matches = command.try_get_matches_from_mut(words)?;
-    match matches
-        .subcommand()
-        .and_then(|(name, inner)| options_of(name, inner))
-    {
+    match options_in(&matches) {
         Some(options) => Ok(options),
         // Each option has a default, so that it has a value.
         None => Err(command.error(ErrorKind::MissingSubcommand, "a subcommand is wanted")?),
@@ -257,7 +294,11 @@ fn refused_by(alloc: Global, error: &Error) -> Refused
 }
 
 /// What the words ask for, the first being the program's name, or why they can't be carried out.
-pub fn read_words<'a, T: AsStr>(alloc: Global, words: &'a [T]) -> Result<Options, Refused> {
+#[tactic(auto, using(crate::proofs::Refusing::told_of))]
+pub fn read_words<'a, T: AsStr>(alloc: Global, words: &'a [T]) -> Result<Options, Refused>
+    ensures ok { IfOk result (AreAskedBy (map T.text words.now)) }
+    ensures err { IfErr result (AreToldOf (map T.text words.now)) }
+{
     match parsed_words(alloc, words) {
         Ok(options) => Ok(options),
         Err(error) => Err(refused_by(alloc, &error)),

@@ -34,10 +34,7 @@ pub fn settled_by_itself<A: Allocator + Clone>(
         Err(MachineError::NoMemory) => return Err(Fault::NoMemory(Some(number))),
         Err(MachineError::BadConfig | MachineError::NoGeneration) => unreachable!(),
     };
-    match finish(&mut machine, number) {
-        Ok(()) => {}
-        Err(fault) => return Err(fault),
-    }
+    finish(&mut machine, number)?;
     match machine.settle() {
         Ok(settled) => Ok(settled),
         Err(SettleError::NotEnded) => unreachable!(),

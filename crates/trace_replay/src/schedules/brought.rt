@@ -65,10 +65,7 @@ pub fn settled_by_schedule<A: Allocator + Clone, S: Source>(
         Err(MachineError::NoMemory) => return Err(Fault::NoMemory(Some(start))),
         Err(MachineError::BadConfig | MachineError::NoGeneration) => unreachable!(),
     };
-    let commit = match carry_out_schedule(&mut machine, start, lines, reader) {
-        Ok(commit) => commit,
-        Err(fault) => return Err(fault),
-    };
+    let commit = carry_out_schedule(&mut machine, start, lines, reader)?;
     match machine.settle() {
         Ok(settled) => Ok((settled, commit)),
         Err(SettleError::NotEnded) => Err(Fault::BadSchedule(commit, ScheduleKind::NotEnded)),

@@ -64,10 +64,9 @@ pub fn carry_out_schedule<A: Allocator + Clone, S: Source>(
             }
             Err(ReadFailed) => return Err(Fault::ReadFailed),
         }
-        match carry_out_line(machine, next, lines.line()) {
-            Ok(Progress::GoesOn) => {}
-            Ok(Progress::Ends) => return Ok(next),
-            Err(fault) => return Err(fault),
+        match carry_out_line(machine, next, lines.line())? {
+            Progress::GoesOn => {}
+            Progress::Ends => return Ok(next),
         }
         next += 1;
     }

@@ -86,14 +86,14 @@ pub(crate) fn carry_out_line<A: Allocator + Clone>(
         Err(LineFault::Trace(kind)) => Err(Fault::BadTrace(number, kind)),
         Err(LineFault::Schedule(kind)) => Err(Fault::BadSchedule(number, kind)),
         Ok(ScheduleLine::Nothing) => Ok(Progress::GoesOn),
-        Ok(ScheduleLine::Event(event)) => match come(machine, number, event) {
-            Ok(()) => Ok(Progress::GoesOn),
-            Err(fault) => Err(fault),
-        },
-        Ok(ScheduleLine::Finish) => match finish(machine, number) {
-            Ok(()) => Ok(Progress::GoesOn),
-            Err(fault) => Err(fault),
-        },
+        Ok(ScheduleLine::Event(event)) => {
+            come(machine, number, event)?;
+            Ok(Progress::GoesOn)
+        }
+        Ok(ScheduleLine::Finish) => {
+            finish(machine, number)?;
+            Ok(Progress::GoesOn)
+        }
         Ok(ScheduleLine::Commit) => Ok(Progress::Ends),
     }
 }

@@ -64,19 +64,14 @@ pub fn carry_out_apart<
     if let Some(generation) = collected(line) {
         return collect_apart(crew, session, number, generation, writer);
     }
-    match attempt_line(session, number, line, writer) {
-        Ok(Attempt::Done) => return Ok(()),
-        Ok(Attempt::NurseryFull) => {}
-        Err(fault) => return Err(fault),
+    match attempt_line(session, number, line, writer)? {
+        Attempt::Done => return Ok(()),
+        Attempt::NurseryFull => {}
     }
-    match make_room_apart(crew, session, number, writer) {
-        Ok(()) => {}
-        Err(fault) => return Err(fault),
-    }
-    match attempt_line(session, number, line, writer) {
-        Ok(Attempt::Done) => Ok(()),
+    make_room_apart(crew, session, number, writer)?;
+    match attempt_line(session, number, line, writer)? {
+        Attempt::Done => Ok(()),
         // A collection leaves each nursery with room.
-        Ok(Attempt::NurseryFull) => Err(Fault::HeapFull(Some(number))),
-        Err(fault) => Err(fault),
+        Attempt::NurseryFull => Err(Fault::HeapFull(Some(number))),
     }
 }

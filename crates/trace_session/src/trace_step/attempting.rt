@@ -117,9 +117,9 @@ pub fn attempt_line<A: Allocator + Clone, W: Sink>(
                 },
             ),
         ) => session.add(number, name, mutator, pointers, plain),
-        Ok(Line::Command(command)) => match carry_out_command(session, number, command, writer) {
-            Ok(()) => Ok(Attempt::Done),
-            Err(fault) => Err(fault),
-        },
+        Ok(Line::Command(command)) => {
+            carry_out_command(session, number, command, writer)?;
+            Ok(Attempt::Done)
+        }
     }
 }

@@ -42,19 +42,14 @@ pub fn carry_out<A: Allocator + Clone, W: Sink>(
     ensures full { (at : Option ℕ) → result ≡ Err (Fault.HeapFull at) →
         AtEach (Stands session.old) (λ config store. IsFullForLine 1 session.old.heap config store line.now) }
 {
-    match attempt_line(session, number, line, writer) {
-        Ok(Attempt::Done) => return Ok(()),
-        Ok(Attempt::NurseryFull) => {}
-        Err(fault) => return Err(fault),
+    match attempt_line(session, number, line, writer)? {
+        Attempt::Done => return Ok(()),
+        Attempt::NurseryFull => {}
     }
-    match make_room(session, number, writer) {
-        Ok(()) => {}
-        Err(fault) => return Err(fault),
-    }
-    match attempt_line(session, number, line, writer) {
-        Ok(Attempt::Done) => Ok(()),
+    make_room(session, number, writer)?;
+    match attempt_line(session, number, line, writer)? {
+        Attempt::Done => Ok(()),
         // A collection leaves each nursery with room.
-        Ok(Attempt::NurseryFull) => Err(Fault::HeapFull(Some(number))),
-        Err(fault) => Err(fault),
+        Attempt::NurseryFull => Err(Fault::HeapFull(Some(number))),
     }
 }

@@ -2,6 +2,7 @@ use Rattle.std.proofs.Common.{refl, arith, ap, ◌+◌, ◌∙◌}
 use Rattle.trace_session.specs.declared.trace_lines.lines.Next.TheVariants.{Line, TooLong, Unfinished, End}
 use Rattle.trace_session.proofs.LineLemmas.{Moves-nil, moves_as}
 use Rattle.trace_driver.proofs.LineByLine.{carried_none, found_is, goes_on, is_done, is_unfinished, is_too_long, is_cut_off, line_stops}
+use Rattle.trace_session.proofs.HandedOn.{handed_on}
 use Rattle.trace_driver.proofs.apart.carry_out_lines_apart.Goals as goal
 
 pub loop-session-init : goal.loop-session-init
@@ -31,18 +32,19 @@ pub returns-in-Err-clause-err : goal.returns-in-Err-clause-err
 returns-in-Err-clause-err g c =
     is_cut_off _ _ _ _ _ _ _ _ _ _ _ c.loop-session.invariant.moves _ _ _ (λ is. is ∙ ap (λ n. n + 1) c.loop-session.invariant.reads) c.in-Err.ensures.waits c.in-Err.ensures.err
 
-pub returns-in-Err-carry_out_apart-clause-err : goal.returns-in-Err-carry_out_apart-clause-err
-returns-in-Err-carry_out_apart-clause-err g c =
-    let found = found_is _ Line c.loop-session.lines c.advance.new.self _ _ c.in-Ok-Line.field-0-is c.in-Ok-Line.ensures.ok in
+pub returns-in_err-carry_out_apart-clause-err : goal.returns-in_err-carry_out_apart-clause-err
+returns-in_err-carry_out_apart-clause-err g c =
+    handed_on _ _ _ c.from_residual.ensures
+    (let found = found_is _ Line c.loop-session.lines c.advance.new.self _ _ c.in-Ok-Line.field-0-is c.in-Ok-Line.ensures.ok in
     line_stops _ _ _ _ _ _ _ _ _ _ _ c.loop-session.invariant.moves _ c.line.ensures c.args.crew.now.workers _ g.W.Sink.output c.loop-session.writer c.carry_out_apart.new.writer _ _ _ refl
-    (λ is. is ∙ ap (λ n. n + 1) c.loop-session.invariant.writes) found c.in-Err-carry_out_apart.fault c.in-Err-carry_out_apart.ensures.err
+    (λ is. is ∙ ap (λ n. n + 1) c.loop-session.invariant.writes) found c.in_err-carry_out_apart.field-0.0 c.in_err-carry_out_apart.ensures.err)
 
 pub loop-session-preserved : goal.loop-session-preserved
 loop-session-preserved g c =
     let found = found_is _ Line c.loop-session.lines c.advance.new.self _ _ c.in-Ok-Line.field-0-is c.in-Ok-Line.ensures.ok in
     record {
-      moves = goes_on _ _ _ _ _ _ _ _ _ _ _ c.loop-session.invariant.moves _ c.line.ensures _ _ found c.in-Ok.ensures.ok;
+      moves = goes_on _ _ _ _ _ _ _ _ _ _ _ c.loop-session.invariant.moves _ c.line.ensures _ _ found c.in_ok-carry_out_apart.ensures.ok;
       room = omega (arith, c.loop-session.invariant.room, found.less);
       reads = c.in-Ok-Line.ensures.counts ∙ c.loop-session.invariant.reads;
-      writes = c.in-Ok.ensures.counts ∙ c.loop-session.invariant.writes;
+      writes = c.in_ok-carry_out_apart.ensures.counts ∙ c.loop-session.invariant.writes;
     }

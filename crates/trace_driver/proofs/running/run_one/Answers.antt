@@ -6,12 +6,12 @@ use Rattle.trace_driver.proofs.running.run_one.Goals as goal
 
 pub returns-clause-ok : goal.returns-clause-ok
 returns-clause-ok g c =
-    run_done (Stands c.in-Ok-new.session) c.args.config.config (subst (λ k. Stands c.in-Ok-new.session k (empty_store k)) c.config.ensures c.in-Ok-new.ensures.ok) _ _ _ _ _ _ c.in-Ok-new-2.ensures c.carry_out_lines.result c.carry_out_lines.ensures.ok
+    run_done (Stands c.in_ok-session.session) c.args.config.config (subst (λ k. Stands c.in_ok-session.session k (empty_store k)) c.config.ensures c.in_ok-session.ensures.ok) _ _ _ _ _ _ c.in-Ok-new.ensures c.carry_out_lines.result c.carry_out_lines.ensures.ok
 
 pub returns-clause-err : goal.returns-clause-err
 returns-clause-err g c =
-    run_stopped (Stands c.in-Ok-new.session) c.args.config.config (subst (λ k. Stands c.in-Ok-new.session k (empty_store k)) c.config.ensures c.in-Ok-new.ensures.ok) _ _ _ _ _ _ c.in-Ok-new-2.ensures _ _ _ _ _ c.carry_out_lines.result c.carry_out_lines.ensures.err
+    run_stopped (Stands c.in_ok-session.session) c.args.config.config (subst (λ k. Stands c.in_ok-session.session k (empty_store k)) c.config.ensures c.in_ok-session.ensures.ok) _ _ _ _ _ _ c.in-Ok-new.ensures _ _ _ _ _ c.carry_out_lines.result c.carry_out_lines.ensures.err
 
 pub returns-clause-full : goal.returns-clause-full
 returns-clause-full g c =
-    run_full (Stands c.in-Ok-new.session) c.args.config.config (subst (λ k. Stands c.in-Ok-new.session k (empty_store k)) c.config.ensures c.in-Ok-new.ensures.ok) _ _ _ _ _ _ c.in-Ok-new-2.ensures _ _ _ _ c.carry_out_lines.result c.carry_out_lines.ensures.err
+    run_full (Stands c.in_ok-session.session) c.args.config.config (subst (λ k. Stands c.in_ok-session.session k (empty_store k)) c.config.ensures c.in_ok-session.ensures.ok) _ _ _ _ _ _ c.in-Ok-new.ensures _ _ _ _ c.carry_out_lines.result c.carry_out_lines.ensures.err

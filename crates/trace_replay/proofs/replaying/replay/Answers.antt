@@ -2,12 +2,12 @@ use Rattle.trace_replay.proofs.WholeTrace.{first_state, little_left, whole_if_ok
 use Rattle.trace_replay.proofs.replaying.replay.Goals as goal
 
 pub carry_out_lines-requires-clause-room : goal.carry_out_lines-requires-clause-room
-carry_out_lines-requires-clause-room g c = little_left _ c.in-Ok-new-2.ensures
+carry_out_lines-requires-clause-room g c = little_left _ c.in-Ok-new.ensures
 
 pub returns-clause-ok : goal.returns-clause-ok
 returns-clause-ok g c =
-    whole_if_ok c.in-Ok-new.session c.args.config c.in-Ok-new.ensures.ok (first_state c.in-Ok-new.session c.args.config c.in-Ok-new.ensures.first) c.args.workers _ c.in-Ok-new-2.ensures _ _ _ _ c.carry_out_lines.result c.carry_out_lines.ensures.ok
+    whole_if_ok c.in_ok-session.session c.args.config c.in_ok-session.ensures.ok (first_state c.in_ok-session.session c.args.config c.in_ok-session.ensures.first) c.args.workers _ c.in-Ok-new.ensures _ _ _ _ c.carry_out_lines.result c.carry_out_lines.ensures.ok
 
 pub returns-clause-err : goal.returns-clause-err
 returns-clause-err g c =
-    fault_if_err c.in-Ok-new.session c.args.config c.in-Ok-new.ensures.ok (first_state c.in-Ok-new.session c.args.config c.in-Ok-new.ensures.first) c.args.workers _ c.in-Ok-new-2.ensures _ _ _ _ _ _ _ c.carry_out_lines.result c.carry_out_lines.ensures.err
+    fault_if_err c.in_ok-session.session c.args.config c.in_ok-session.ensures.ok (first_state c.in_ok-session.session c.args.config c.in_ok-session.ensures.first) c.args.workers _ c.in-Ok-new.ensures _ _ _ _ _ _ _ c.carry_out_lines.result c.carry_out_lines.ensures.err

@@ -3,4 +3,4 @@ use Rattle.trace_replay.proofs.schedules.automatic.settled_by_itself.Goals as go
 
 pub returns-in-Ok-settle-clause-ok : goal.returns-in-Ok-settle-clause-ok
 returns-in-Ok-settle-clause-ok g c =
-    comes c.args.heap.now c.args.generation c.args.workers _ c.in-Ok.ensures.ok _ c.in-Ok-finish.ensures.ok.same c.in-Ok-finish.ensures.ok.finishes _ _ _ _ _ c.in-Ok-settle.ensures.ok
+    comes c.args.heap.now c.args.generation c.args.workers _ c.in-Ok.ensures.ok _ c.in_ok-finish.ensures.ok.same c.in_ok-finish.ensures.ok.finishes _ _ _ _ _ c.in-Ok-settle.ensures.ok

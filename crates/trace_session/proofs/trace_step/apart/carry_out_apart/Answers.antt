@@ -10,6 +10,7 @@ use Rattle.trace_session.specs.Refusals.{MayBeFull, IsFullForLine, IsFullToColle
 use Rattle.trace_session.specs.Session.{Stands}
 use Rattle.trace_session.proofs.Apart.{tells_apart, never_unsettled, may_by_any, full_by_any, full_of, collects_line, faults_of_collect, with_full}
 use Rattle.trace_session.proofs.Twice.{told, tells_full, wants_blocks, first_fault, room_fault, done_twice, no_full_twice, second_fault}
+use Rattle.trace_session.proofs.HandedOn.{handed_on, fault_is}
 use Rattle.trace_session.proofs.trace_step.apart.carry_out_apart.Goals as goal
 
 pub returns-in-Some-clause-ok : goal.returns-in-Some-clause-ok
@@ -23,21 +24,23 @@ pub returns-in-Some-clause-full : goal.returns-in-Some-clause-full
 returns-in-Some-clause-full g c = λ at is.
     with_full c.args.line.now c.in-Some.generation c.in-Some.ensures.some (Stands c.args.session.now) c.args.crew.now.workers c.args.number c.args.session.now.heap _ g.W.Sink.output c.args.writer.now _ _ c.collect_apart.result at is c.collect_apart.ensures.err
 
-pub returns-in-Ok-Done-clause-ok : goal.returns-in-Ok-Done-clause-ok
-returns-in-Ok-Done-clause-ok g c = λ config store stands. (told _ _ c.in-Ok-Done.field-0 Done c.in-Ok-Done.field-0-is (c.in-Ok-Done.ensures.ok config store stands)).0
+pub returns-in-Done-clause-ok : goal.returns-in-Done-clause-ok
+returns-in-Done-clause-ok g c = λ config store stands. (told _ _ c.in_ok-attempt_line.field-0 Done c.in-Done.is (c.in_ok-attempt_line.ensures.ok config store stands)).0
 
-pub returns-in-Err-clause-err : goal.returns-in-Err-clause-err
-returns-in-Err-clause-err g c =
-    never_unsettled _ _ _ _ _ _ c.in-Err.fault
+pub returns-in_err-attempt_line-clause-err : goal.returns-in_err-attempt_line-clause-err
+returns-in_err-attempt_line-clause-err g c =
+    handed_on _ _ _ c.from_residual.ensures
+    (never_unsettled _ _ _ _ _ _ c.in_err-attempt_line.field-0.0
     (first_fault (Stands c.args.session.now) c.args.number c.args.line.now (λ config store. MayBeFull c.args.crew.now.workers config store c.args.line.now) (λ config store written. written ≡ auto_line store) g.W.Sink.output c.args.writer.now
-    (λ config store may not lacks. may_by_any c.args.crew.now.workers config store c.args.line.now c.in_default.ensures.none not may) c.attempt_line.new.writer _ c.in-Err.fault c.in-Err.ensures.err)
+    (λ config store may not lacks. may_by_any c.args.crew.now.workers config store c.args.line.now c.in_default.ensures.none not may) c.attempt_line.new.writer _ c.in_err-attempt_line.field-0.0 c.in_err-attempt_line.ensures.err))
 
-pub returns-in-Err-make_room_apart-clause-err : goal.returns-in-Err-make_room_apart-clause-err
-returns-in-Err-make_room_apart-clause-err g c =
-    let line = c.args.line.now in
-    let same = c.in-Ok-NurseryFull.ensures.full (ap (λ a. Ok a) c.in-Ok-NurseryFull.field-0-is) in
-    let wants : AtEach (Stands c.args.session.now) (λ config store. IsSoundTraceLine config store line × LineCollectsFirst config store line) = λ config store there. told _ _ c.in-Ok-NurseryFull.field-0 NurseryFull c.in-Ok-NurseryFull.field-0-is (c.in-Ok-NurseryFull.ensures.ok config store there) in
-    tells_apart _ _ _ _ _ _ _ _ _ _ _ _ c.in-Err-make_room_apart.fault
+pub returns-in_err-make_room_apart-clause-err : goal.returns-in_err-make_room_apart-clause-err
+returns-in_err-make_room_apart-clause-err g c =
+    handed_on _ _ _ c.from_residual-in_err-make_room_apart.ensures
+    (let line = c.args.line.now in
+    let same = c.in_ok-attempt_line.ensures.full (ap (λ a. Ok a) c.in-NurseryFull.is) in
+    let wants : AtEach (Stands c.args.session.now) (λ config store. IsSoundTraceLine config store line × LineCollectsFirst config store line) = λ config store there. told _ _ c.in_ok-attempt_line.field-0 NurseryFull c.in-NurseryFull.is (c.in_ok-attempt_line.ensures.ok config store there) in
+    tells_apart _ _ _ _ _ _ _ _ _ _ _ _ c.in_err-make_room_apart.field-0.0
     (room_fault (Stands c.args.session.now) c.args.number line (λ config store. MayBeFull c.args.crew.now.workers config store line) (λ config store written. written ≡ auto_line store) g.W.Sink.output c.args.writer.now wants c.attempt_line.new.writer same.1
     (IsFullToCollect c.attempt_line.new.session.heap 0 c.args.crew.now.workers)
     (λ config store there sound first short.
@@ -47,20 +50,20 @@ returns-in-Err-make_room_apart-clause-err g c =
           wants_blocks c.args.crew.now.workers config store (entry_of line) first
           (record { heap = c.args.session.now.heap; names = c.args.session.now.names; stands = there; full = subst (λ s. IsFullToCollect s.heap 0 c.args.crew.now.workers) same.0 short });
     })
-    c.attempt_line.new.session c.make_room_apart.new.session c.make_room_apart.new.writer _ _ (λ is. is ∙ ap (λ w. g.W.Sink.failed_writes w + 1) same.1) c.in-Err-make_room_apart.fault)
+    c.attempt_line.new.session c.make_room_apart.new.session c.make_room_apart.new.writer _ _ (λ is. is ∙ ap (λ w. g.W.Sink.failed_writes w + 1) same.1) c.in_err-make_room_apart.field-0.0)
     (λ at f. (f.0, f.1, λ config store there. ((wants config store there).0, f.3 ∙ same.1)))
-    c.in-Err-make_room_apart.ensures.err
+    c.in_err-make_room_apart.ensures.err)
 
-pub returns-in-Ok-Done-attempt_line-clause-ok : goal.returns-in-Ok-Done-attempt_line-clause-ok
-returns-in-Ok-Done-attempt_line-clause-ok g c = λ config store stands.
+pub returns-in-Done-2-clause-ok : goal.returns-in-Done-2-clause-ok
+returns-in-Done-2-clause-ok g c = λ config store stands.
     let line = c.args.line.now in
-    let same = c.in-Ok-NurseryFull.ensures.full (ap (λ a. Ok a) c.in-Ok-NurseryFull.field-0-is) in
+    let same = c.in_ok-attempt_line.ensures.full (ap (λ a. Ok a) c.in-NurseryFull.is) in
     let done = done_twice (Stands c.args.session.now) c.args.number line (λ config store. MayBeFull c.args.crew.now.workers config store line) (λ config store written. written ≡ auto_line store) g.W.Sink.output c.args.writer.now
-    (λ config store there. told _ _ c.in-Ok-NurseryFull.field-0 NurseryFull c.in-Ok-NurseryFull.field-0-is (c.in-Ok-NurseryFull.ensures.ok config store there)) (Stands c.make_room_apart.new.session) (g.W.Sink.output c.make_room_apart.new.writer)
+    (λ config store there. told _ _ c.in_ok-attempt_line.field-0 NurseryFull c.in-NurseryFull.is (c.in_ok-attempt_line.ensures.ok config store there)) (Stands c.make_room_apart.new.session) (g.W.Sink.output c.make_room_apart.new.writer)
     (λ config store there.
-    let made = c.in-Ok.ensures.ok config store (subst (λ s. Stands s config store) (sym same.0) there) in
+    let made = c.in_ok-make_room_apart.ensures.ok config store (subst (λ s. Stands s config store) (sym same.0) there) in
     (made.0, record { written = auto_line store; held = subst (λ w. Appends (g.W.Sink.output w) (g.W.Sink.output c.make_room_apart.new.writer) (auto_line store)) same.1 made.1; holds = refl }))
-    (Stands c.attempt_line-2.new.session) (g.W.Sink.output c.attempt_line-2.new.writer) (λ config store there. (told _ _ c.in-Ok-Done-attempt_line.field-0 Done c.in-Ok-Done-attempt_line.field-0-is (c.in-Ok-Done-attempt_line.ensures.ok config store there)).0) config store stands in
+    (Stands c.attempt_line-2.new.session) (g.W.Sink.output c.attempt_line-2.new.writer) (λ config store there. (told _ _ c.in_ok-attempt_line-2.field-0 Done c.in-Done-2.is (c.in_ok-attempt_line-2.ensures.ok config store there)).0) config store stands in
     record {
       next = done.0;
       out = auto_line store;
@@ -69,66 +72,67 @@ returns-in-Ok-Done-attempt_line-clause-ok g c = λ config store stands.
       held = subst (λ out. Appends (g.W.Sink.output c.args.writer.now) (g.W.Sink.output c.attempt_line-2.new.writer) out) done.1.2.holds done.1.2.held;
     }
 
-pub returns-in-Ok-NurseryFull-attempt_line-clause-err : goal.returns-in-Ok-NurseryFull-attempt_line-clause-err
-returns-in-Ok-NurseryFull-attempt_line-clause-err g c =
+pub returns-in-NurseryFull-2-clause-err : goal.returns-in-NurseryFull-2-clause-err
+returns-in-NurseryFull-2-clause-err g c =
     let line = c.args.line.now in
-    let same = c.in-Ok-NurseryFull.ensures.full (ap (λ a. Ok a) c.in-Ok-NurseryFull.field-0-is) in (
+    let same = c.in_ok-attempt_line.ensures.full (ap (λ a. Ok a) c.in-NurseryFull.is) in (
       refl,
       no_full_twice (Stands c.args.session.now) c.args.number line (λ config store. MayBeFull c.args.crew.now.workers config store line) (λ config store written. written ≡ auto_line store) g.W.Sink.output c.args.writer.now
-          (λ config store there. told _ _ c.in-Ok-NurseryFull.field-0 NurseryFull c.in-Ok-NurseryFull.field-0-is (c.in-Ok-NurseryFull.ensures.ok config store there)) (Stands c.make_room_apart.new.session) (g.W.Sink.output c.make_room_apart.new.writer)
+          (λ config store there. told _ _ c.in_ok-attempt_line.field-0 NurseryFull c.in-NurseryFull.is (c.in_ok-attempt_line.ensures.ok config store there)) (Stands c.make_room_apart.new.session) (g.W.Sink.output c.make_room_apart.new.writer)
           (λ config store there.
-          let made = c.in-Ok.ensures.ok config store (subst (λ s. Stands s config store) (sym same.0) there) in
+          let made = c.in_ok-make_room_apart.ensures.ok config store (subst (λ s. Stands s config store) (sym same.0) there) in
           (made.0, record { written = auto_line store; held = subst (λ w. Appends (g.W.Sink.output w) (g.W.Sink.output c.make_room_apart.new.writer) (auto_line store)) same.1 made.1; holds = refl }))
-          (λ config store there. told _ _ c.in-Ok-NurseryFull-attempt_line.field-0 NurseryFull c.in-Ok-NurseryFull-attempt_line.field-0-is (c.in-Ok-NurseryFull-attempt_line.ensures.ok config store there)) (λ config store. MayBeFull c.args.crew.now.workers config store line × (c.attempt_line-2.new.writer ≡ c.args.writer.now)),
+          (λ config store there. told _ _ c.in_ok-attempt_line-2.field-0 NurseryFull c.in-NurseryFull-2.is (c.in_ok-attempt_line-2.ensures.ok config store there)) (λ config store. MayBeFull c.args.crew.now.workers config store line × (c.attempt_line-2.new.writer ≡ c.args.writer.now)),
     )
 
-pub returns-in-Err-attempt_line-clause-err : goal.returns-in-Err-attempt_line-clause-err
-returns-in-Err-attempt_line-clause-err g c =
-    let line = c.args.line.now in
-    let same = c.in-Ok-NurseryFull.ensures.full (ap (λ a. Ok a) c.in-Ok-NurseryFull.field-0-is) in
-    never_unsettled _ _ _ _ _ _ c.in-Err-attempt_line.fault
+pub returns-in_err-attempt_line-2-clause-err : goal.returns-in_err-attempt_line-2-clause-err
+returns-in_err-attempt_line-2-clause-err g c =
+    handed_on _ _ _ c.from_residual-in_err-attempt_line-2.ensures
+    (let line = c.args.line.now in
+    let same = c.in_ok-attempt_line.ensures.full (ap (λ a. Ok a) c.in-NurseryFull.is) in
+    never_unsettled _ _ _ _ _ _ c.in_err-attempt_line-2.field-0.0
     (second_fault (Stands c.args.session.now) c.args.number line (λ config store. MayBeFull c.args.crew.now.workers config store line) (λ config store written. written ≡ auto_line store) g.W.Sink.output c.args.writer.now
-    (λ config store there. told _ _ c.in-Ok-NurseryFull.field-0 NurseryFull c.in-Ok-NurseryFull.field-0-is (c.in-Ok-NurseryFull.ensures.ok config store there)) (Stands c.make_room_apart.new.session) (g.W.Sink.output c.make_room_apart.new.writer)
+    (λ config store there. told _ _ c.in_ok-attempt_line.field-0 NurseryFull c.in-NurseryFull.is (c.in_ok-attempt_line.ensures.ok config store there)) (Stands c.make_room_apart.new.session) (g.W.Sink.output c.make_room_apart.new.writer)
     (λ config store there.
-    let made = c.in-Ok.ensures.ok config store (subst (λ s. Stands s config store) (sym same.0) there) in
+    let made = c.in_ok-make_room_apart.ensures.ok config store (subst (λ s. Stands s config store) (sym same.0) there) in
     (made.0, record { written = auto_line store; held = subst (λ w. Appends (g.W.Sink.output w) (g.W.Sink.output c.make_room_apart.new.writer) (auto_line store)) same.1 made.1; holds = refl }))
-    _ c.make_room_apart.new.writer c.attempt_line-2.new.writer _ _ refl (λ is. is ∙ ap (λ n. n + 1) (c.in-Ok.ensures.counts ∙ ap (λ w. g.W.Sink.failed_writes w) same.1)) c.in-Err-attempt_line.fault c.in-Err-attempt_line.ensures.err)
+    _ c.make_room_apart.new.writer c.attempt_line-2.new.writer _ _ refl (λ is. is ∙ ap (λ n. n + 1) (c.in_ok-make_room_apart.ensures.counts ∙ ap (λ w. g.W.Sink.failed_writes w) same.1)) c.in_err-attempt_line-2.field-0.0 c.in_err-attempt_line-2.ensures.err))
 
-pub returns-in-Err-clause-full : goal.returns-in-Err-clause-full
-returns-in-Err-clause-full g c = λ at is.
+pub returns-in_err-attempt_line-clause-full : goal.returns-in_err-attempt_line-clause-full
+returns-in_err-attempt_line-clause-full g c = λ at is.
     let line = c.args.line.now in
-    let full : c.in-Err.fault ≡ HeapFull at = cc in
-    tells_full (Stands c.args.session.now) c.args.number line (λ config store. IsFullForLine c.args.crew.now.workers c.args.session.now.heap config store line) (λ config store written. written ≡ auto_line store) g.W.Sink.output c.args.writer.now c.attempt_line.new.writer _ c.in-Err.fault at full
+    let full = fault_is _ _ _ c.from_residual.ensures is in
+    tells_full (Stands c.args.session.now) c.args.number line (λ config store. IsFullForLine c.args.crew.now.workers c.args.session.now.heap config store line) (λ config store written. written ≡ auto_line store) g.W.Sink.output c.args.writer.now c.attempt_line.new.writer _ c.in_err-attempt_line.field-0.0 at full
     (first_fault (Stands c.args.session.now) c.args.number line (λ config store. IsFullForLine c.args.crew.now.workers c.args.session.now.heap config store line) (λ config store written. written ≡ auto_line store) g.W.Sink.output c.args.writer.now
-    (λ config store may not lacks. inl (full_by_any c.args.crew.now.workers c.args.session.now.heap (entry_of line) c.in_default.ensures.none lacks)) c.attempt_line.new.writer _ c.in-Err.fault c.in-Err.ensures.err)
+    (λ config store may not lacks. inl (full_by_any c.args.crew.now.workers c.args.session.now.heap (entry_of line) c.in_default.ensures.none lacks)) c.attempt_line.new.writer _ c.in_err-attempt_line.field-0.0 c.in_err-attempt_line.ensures.err)
 
-pub returns-in-Err-make_room_apart-clause-full : goal.returns-in-Err-make_room_apart-clause-full
-returns-in-Err-make_room_apart-clause-full g c = λ at is config store there.
-    let same = c.in-Ok-NurseryFull.ensures.full (ap (λ a. Ok a) c.in-Ok-NurseryFull.field-0-is) in
-    let full : c.in-Err-make_room_apart.fault ≡ HeapFull at = cc in
-    let wants = told _ _ c.in-Ok-NurseryFull.field-0 NurseryFull c.in-Ok-NurseryFull.field-0-is (c.in-Ok-NurseryFull.ensures.ok config store there) in
-    inr (wants.1, subst (λ s. IsFullToCollect s.heap 0 c.args.crew.now.workers) same.0 (full_of _ _ _ _ _ _ c.in-Err-make_room_apart.fault at full c.in-Err-make_room_apart.ensures.err).1)
+pub returns-in_err-make_room_apart-clause-full : goal.returns-in_err-make_room_apart-clause-full
+returns-in_err-make_room_apart-clause-full g c = λ at is config store there.
+    let same = c.in_ok-attempt_line.ensures.full (ap (λ a. Ok a) c.in-NurseryFull.is) in
+    let full = fault_is _ _ _ c.from_residual-in_err-make_room_apart.ensures is in
+    let wants = told _ _ c.in_ok-attempt_line.field-0 NurseryFull c.in-NurseryFull.is (c.in_ok-attempt_line.ensures.ok config store there) in
+    inr (wants.1, subst (λ s. IsFullToCollect s.heap 0 c.args.crew.now.workers) same.0 (full_of _ _ _ _ _ _ c.in_err-make_room_apart.field-0.0 at full c.in_err-make_room_apart.ensures.err).1)
 
-pub returns-in-Ok-NurseryFull-attempt_line-clause-full : goal.returns-in-Ok-NurseryFull-attempt_line-clause-full
-returns-in-Ok-NurseryFull-attempt_line-clause-full g c = λ at is.
+pub returns-in-NurseryFull-2-clause-full : goal.returns-in-NurseryFull-2-clause-full
+returns-in-NurseryFull-2-clause-full g c = λ at is.
     let line = c.args.line.now in
-    let same = c.in-Ok-NurseryFull.ensures.full (ap (λ a. Ok a) c.in-Ok-NurseryFull.field-0-is) in
+    let same = c.in_ok-attempt_line.ensures.full (ap (λ a. Ok a) c.in-NurseryFull.is) in
     no_full_twice (Stands c.args.session.now) c.args.number line (λ config store. IsFullForLine c.args.crew.now.workers c.args.session.now.heap config store line) (λ config store written. written ≡ auto_line store) g.W.Sink.output c.args.writer.now
-    (λ config store there. told _ _ c.in-Ok-NurseryFull.field-0 NurseryFull c.in-Ok-NurseryFull.field-0-is (c.in-Ok-NurseryFull.ensures.ok config store there)) (Stands c.make_room_apart.new.session) (g.W.Sink.output c.make_room_apart.new.writer)
+    (λ config store there. told _ _ c.in_ok-attempt_line.field-0 NurseryFull c.in-NurseryFull.is (c.in_ok-attempt_line.ensures.ok config store there)) (Stands c.make_room_apart.new.session) (g.W.Sink.output c.make_room_apart.new.writer)
     (λ config store there.
-    let made = c.in-Ok.ensures.ok config store (subst (λ s. Stands s config store) (sym same.0) there) in
+    let made = c.in_ok-make_room_apart.ensures.ok config store (subst (λ s. Stands s config store) (sym same.0) there) in
     (made.0, record { written = auto_line store; held = subst (λ w. Appends (g.W.Sink.output w) (g.W.Sink.output c.make_room_apart.new.writer) (auto_line store)) same.1 made.1; holds = refl }))
-    (λ config store there. told _ _ c.in-Ok-NurseryFull-attempt_line.field-0 NurseryFull c.in-Ok-NurseryFull-attempt_line.field-0-is (c.in-Ok-NurseryFull-attempt_line.ensures.ok config store there)) (λ config store. IsFullForLine c.args.crew.now.workers c.args.session.now.heap config store line)
+    (λ config store there. told _ _ c.in_ok-attempt_line-2.field-0 NurseryFull c.in-NurseryFull-2.is (c.in_ok-attempt_line-2.ensures.ok config store there)) (λ config store. IsFullForLine c.args.crew.now.workers c.args.session.now.heap config store line)
 
-pub returns-in-Err-attempt_line-clause-full : goal.returns-in-Err-attempt_line-clause-full
-returns-in-Err-attempt_line-clause-full g c = λ at is.
+pub returns-in_err-attempt_line-2-clause-full : goal.returns-in_err-attempt_line-2-clause-full
+returns-in_err-attempt_line-2-clause-full g c = λ at is.
     let line = c.args.line.now in
-    let same = c.in-Ok-NurseryFull.ensures.full (ap (λ a. Ok a) c.in-Ok-NurseryFull.field-0-is) in
-    let full : c.in-Err-attempt_line.fault ≡ HeapFull at = cc in
-    tells_full (Stands c.args.session.now) c.args.number line (λ config store. IsFullForLine c.args.crew.now.workers c.args.session.now.heap config store line) (λ config store written. written ≡ auto_line store) g.W.Sink.output c.args.writer.now c.attempt_line-2.new.writer _ c.in-Err-attempt_line.fault at full
+    let same = c.in_ok-attempt_line.ensures.full (ap (λ a. Ok a) c.in-NurseryFull.is) in
+    let full = fault_is _ _ _ c.from_residual-in_err-attempt_line-2.ensures is in
+    tells_full (Stands c.args.session.now) c.args.number line (λ config store. IsFullForLine c.args.crew.now.workers c.args.session.now.heap config store line) (λ config store written. written ≡ auto_line store) g.W.Sink.output c.args.writer.now c.attempt_line-2.new.writer _ c.in_err-attempt_line-2.field-0.0 at full
     (second_fault (Stands c.args.session.now) c.args.number line (λ config store. IsFullForLine c.args.crew.now.workers c.args.session.now.heap config store line) (λ config store written. written ≡ auto_line store) g.W.Sink.output c.args.writer.now
-    (λ config store there. told _ _ c.in-Ok-NurseryFull.field-0 NurseryFull c.in-Ok-NurseryFull.field-0-is (c.in-Ok-NurseryFull.ensures.ok config store there)) (Stands c.make_room_apart.new.session) (g.W.Sink.output c.make_room_apart.new.writer)
+    (λ config store there. told _ _ c.in_ok-attempt_line.field-0 NurseryFull c.in-NurseryFull.is (c.in_ok-attempt_line.ensures.ok config store there)) (Stands c.make_room_apart.new.session) (g.W.Sink.output c.make_room_apart.new.writer)
     (λ config store there.
-    let made = c.in-Ok.ensures.ok config store (subst (λ s. Stands s config store) (sym same.0) there) in
+    let made = c.in_ok-make_room_apart.ensures.ok config store (subst (λ s. Stands s config store) (sym same.0) there) in
     (made.0, record { written = auto_line store; held = subst (λ w. Appends (g.W.Sink.output w) (g.W.Sink.output c.make_room_apart.new.writer) (auto_line store)) same.1 made.1; holds = refl }))
-    _ c.make_room_apart.new.writer c.attempt_line-2.new.writer _ _ refl (λ failed. failed) c.in-Err-attempt_line.fault c.in-Err-attempt_line.ensures.err)
+    _ c.make_room_apart.new.writer c.attempt_line-2.new.writer _ _ refl (λ failed. failed) c.in_err-attempt_line-2.field-0.0 c.in_err-attempt_line-2.ensures.err)
