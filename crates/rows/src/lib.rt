@@ -61,6 +61,8 @@ mod reports;
 #[cfg(test)]
 mod requests;
 #[cfg(test)]
+mod runtime;
+#[cfg(test)]
 mod streams;
 #[cfg(test)]
 mod table;
