@@ -182,8 +182,8 @@ fn lines_of(task: Task) -> Repeated<'static> {
     }
 }
 
-/// The fault of a run over 20,000 lines, or of a replay of 2,000 schedules, and how many bytes of memory it holds at its first read,
-/// and at most at a read. At most one object is in use, and the nursery has room for 64. What is written is not held.
+/// The fault of a run over 20,000 lines, or of a replay of 2,000 schedules, and how many bytes of memory it holds at its first
+/// read, and at most at a read. At most one object is in use, and the nursery has room for 64. What is written isn't counted.
 fn held_at_reads<R: Threads + Wait + Sync + AllocGlobal>(
     rt: &R,
     task: Task,

@@ -1,4 +1,5 @@
-//! What the program asks of its runtime: one seed in each run, without which it runs as well, and memory for boxed cells.
+//! What the program asks of its runtime: one seed in each run, without which it runs as well, and the allocator
+//! of boxed cells.
 use crate::program::text_of;
 use heap_text::Counted;
 use std::alloc::{AllocError, AllocGlobal, Global};

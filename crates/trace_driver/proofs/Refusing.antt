@@ -8,13 +8,13 @@ use Rattle.clap.specs.Kinds.{HasKind}
 use Rattle.clap.specs.Values.{kind_of}
 use Rattle.clap.specs.declared.error.Error.{Error}
 use Rattle.clap.specs.declared.error.ErrorKind.{ErrorKind}
-use Rattle.clap.specs.declared.error.ErrorKind.TheVariants.{MissingSubcommand, OutOfMemory}
+use Rattle.clap.specs.declared.error.ErrorKind.TheVariants.{OutOfMemory}
 use Rattle.clap.proofs.OnLiterals.{clap_on_literals}
 use Rattle.trace_driver.specs.declared.command_line.words.Refused.{Refused}
 use Rattle.trace_driver.specs.declared.command_line.words.Options.{Options}
 use Rattle.trace_driver.specs.Refusals.{IsToldOf}
 use Rattle.trace_driver.specs.Gctrace.{IsGctrace, gctrace}
-use Rattle.trace_driver.specs.Asked.{AreAskedBy, AreRefusedFor, AreToldOf, no_memory, no_task, faulty}
+use Rattle.trace_driver.specs.Asked.{AreAskedBy, AreRefusedFor, AreToldOf, no_memory, faulty}
 
 -- no argument of the command has a rule on another, so that `clap` says which words it refuses, and why
 pub gctrace_is_free : (kinds : Bor (List (Bor Text))) → is_simple_and_free (gctrace kinds) ≡ true
@@ -23,9 +23,6 @@ gctrace_is_free kinds = refl
 
 pub for_memory : (words : List Text) (kind : ErrorKind) → kind ≡ OutOfMemory → AreRefusedFor words kind
 for_memory words kind e = no_memory e
-
-pub for_no_task : (words : List Text) (kind : ErrorKind) → kind ≡ MissingSubcommand → AreRefusedFor words kind
-for_no_task words kind e = no_task e
 
 pub for_faults : (app : App) (words : List Text) (e : Error) → IsGctrace app → HasKind (fault_of app words) e → AreRefusedFor words (kind_of e)
 for_faults app words e is (inl memory) = no_memory memory

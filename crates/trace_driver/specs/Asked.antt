@@ -1,5 +1,5 @@
 -- The options that the words of a command line ask for.
-use Rattle.std.specs.Prelude.{◌≡◌, ℕ, List, [], Option, Some, None, codes}
+use Rattle.std.specs.Prelude.{◌≡◌, ◌<◌, ◌^◌, ℕ, List, [], Option, Some, None, codes}
 use Rattle.std.specs.Str.Parse.{IsNumeral, without_leading_plus, digits_value}
 use Rattle.clap.specs.Walk.{Row, Text, first_of, one_of}
 use Rattle.clap.specs.Simple.{App, subcommand_of}
@@ -22,10 +22,10 @@ abbrev pub IsTaskOf : Text → Task → Type 0
 IsTaskOf name Run = name ≡ codes "run"
 IsTaskOf name Replay = name ≡ codes "replay"
 
--- there is a value, which is this number's digits
+-- there is a value, whose digits, behind a plus or not, are this number of 64 bits
 abbrev pub IsNumberOf : Option Text → ℕ → Type 0
 IsNumberOf None n = ⊥
-IsNumberOf (Some text) n = IsNumeral 10 (without_leading_plus text) × (n ≡ digits_value 10 (without_leading_plus text))
+IsNumberOf (Some text) n = IsNumeral 10 (without_leading_plus text) × (n ≡ digits_value 10 (without_leading_plus text)) × (n < 2 ^ 64)
 
 -- the cells are those that the value names, and words where there is none, as in a replay
 abbrev pub AreCellsOf : Option Text → CellKind → Type 0
@@ -58,13 +58,14 @@ AreOptionsIn (Some met) options = AreOptionsOf met.0 met.1 options
 abbrev pub AreAskedBy : List Text → Options → Type 0
 AreAskedBy words options = (app : App) × IsGctrace app × (fault_of app words ≡ []) × AreOptionsIn (subcommand_of app words) options
 
--- the words are refused for want of memory, or for a fault that the command finds in them, or for want of a subcommand
+-- words are refused for want of memory; or for want of a task, where the command finds neither a fault in them nor options; or by a kind of fault
+-- that it may find in them
 pub data AreRefusedFor (words : List Text) (kind : ErrorKind) : Type 0 where
   no_memory : kind ≡ OutOfMemory → AreRefusedFor words kind
-  no_task : kind ≡ MissingSubcommand → AreRefusedFor words kind
+  no_task : (app : App) → IsGctrace app → fault_of app words ≡ [] → kind ≡ MissingSubcommand → ((options : Options) → AreOptionsIn (subcommand_of app words) options → ⊥) → AreRefusedFor words kind
   faulty : (app : App) → IsGctrace app → IsAmong kind (fault_of app words) → AreRefusedFor words kind
 
--- what is told is told of an error for which the words are refused
+-- what is told is told of an error by which the words are refused
 pub record AreToldOf (words : List Text) (refused : Refused) : Type 0 where
   pub kind : ErrorKind
   pub why : AreRefusedFor words kind

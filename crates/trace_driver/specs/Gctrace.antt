@@ -8,7 +8,7 @@ use Rattle.clap.specs.declared.builder.value_parser.ValueParser.TheVariants as p
 use Rattle.steps.specs.declared.config.Sizes.{Sizes}
 use Rattle.steps.specs.ConfigRange.{default_sizes}
 
--- an option with one value, which may be left out
+-- an option with one value, and a default
 abbrev pub option_rule : Text → Text → Rule
 option_rule name default = record (new_rule name) { long = Some name; value_names = 1; defaults = default ∷ [] }
 

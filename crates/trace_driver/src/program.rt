@@ -135,11 +135,11 @@ fn run_with<
     }
 }
 
-/// Reads a command line, whose first word is the program's name, carries out the trace that `reader` gives by the options that the
-/// words ask for (`AreAskedBy`), and says the exit status: 0 for a trace without a fault and for help, 1 where blocks or memory are
-/// wanting or boxed cells were not settled, 2 for a faulty trace, 3 for a mistake in the words or a number out of its range, 4 for a
-/// failed read or write. What it tells of a fault goes to `errors`; a failed write of that doesn't change the status. Names are
-/// hashed with a seed that the runtime draws.
+/// Reads a command line, whose first word is the program's name, carries out the trace that `reader` gives by the options that
+/// the words ask for (`AreAskedBy`), and says the exit status: 0 for a trace without a fault and for help, 1 where blocks or
+/// memory are wanting or boxed cells were not settled, 2 for a faulty trace, 3 for a mistake in the words or a number out of its
+/// range, 4 for a failed read or write. What it tells of a fault goes to `errors`; a failed write of that doesn't change the
+/// status. Names are hashed with a seed that the runtime draws.
 pub fn main_with<
     R: Threads + Wait + Sync + AllocGlobal + RandomSource,
     T: AsStr,

@@ -116,8 +116,8 @@ fn asked_by_second<'a, R: Threads + Wait + Sync + AllocGlobal + Abort>(
     Ok(refusing.asked().saturating_sub(before))
 }
 
-/// Asserts that the second of two threads, whose root leads to all 600 objects but one, makes use of its half of the 50 blocks that
-/// were given up: two requests make a block.
+/// Asserts that the second of two threads, whose root leads to all objects but one, makes use of its half of the 50 blocks that were
+/// given up: two requests make a block.
 fn assert_half_used<'a, R: Threads + Wait + Sync + AllocGlobal + Abort>(
     rt: &R,
     refusing: &'a Refusing<Global>,

@@ -1,38 +1,33 @@
 //! A worker that has nothing to do rests, and doesn't wake where there is nothing to take.
 use crate::heaps::{add_tree, heap_of, sizes_for};
+use crate::on_threads::late_work::wait_for;
 use collector::{CellKind, collect};
-use crossbeam_utils::Backoff;
 use forwarding::{Gate, StepKind};
 use std::alloc::AllocGlobal;
 use std::process::Abort;
 use std::sync::Wait;
-use std::sync::atomic::{AtomicU64, Ordering};
+use std::sync::atomic::{AtomicBool, AtomicU64, Ordering};
 use std::test::Fail;
 use std::thread::Threads;
 
 /// How often the worker that rests polls before the other one begins.
 const POLLS: u64 = 1_000;
 
-/// How many yields the other one waits at most.
-const YIELDS: u32 = 10_000_000;
-
 /// Holds worker 0 before its first step until worker 1 polled so often, and counts how often that one tried to wake before.
 #[derive(Drop)]
 struct Resting {
     polls: AtomicU64,
     wakes: AtomicU64,
+    rested: AtomicBool,
+    late: AtomicBool,
 }
 
 impl Resting {
-    fn is_over(&self) -> bool {
-        self.polls.load(Ordering::SeqCst) >= POLLS
-    }
-
     fn before_second(&self, step: StepKind) {
-        if step == StepKind::Poll {
-            self.polls.fetch_add(1, Ordering::SeqCst);
+        if step == StepKind::Poll && self.polls.fetch_add(1, Ordering::SeqCst) >= POLLS {
+            self.rested.store(true, Ordering::SeqCst);
         }
-        if step == StepKind::Wake && !self.is_over() {
+        if step == StepKind::Wake && !self.rested.load(Ordering::SeqCst) {
             self.wakes.fetch_add(1, Ordering::SeqCst);
         }
     }
@@ -40,15 +35,10 @@ impl Resting {
 
 impl Gate for Resting {
     fn before(&self, worker: u32, step: StepKind) {
-        if worker == 1 {
-            return self.before_second(step);
-        }
-        let backoff = Backoff::new();
-        for _yield in 0..YIELDS {
-            if self.is_over() {
-                return;
-            }
-            backoff.snooze();
+        if worker == 0 {
+            wait_for(&self.rested, &self.late);
+        } else {
+            self.before_second(step);
         }
     }
 }
@@ -63,10 +53,12 @@ fn assert_rests<R: Threads + Wait + Sync + AllocGlobal + Abort>(
     let gate = Resting {
         polls: AtomicU64::new(0),
         wakes: AtomicU64::new(0),
+        rested: AtomicBool::new(false),
+        late: AtomicBool::new(false),
     };
     let report = collect(rt, rt.alloc(), &mut heap, 0, 2, kind, &gate)?;
     assert_eq!(rt; (report.kept, report.freed), (60, 0));
-    assert!(rt; gate.is_over(), "{kind:?}");
+    assert!(rt; !gate.late.load(Ordering::SeqCst), "{kind:?}");
     assert_eq!(rt; gate.wakes.load(Ordering::SeqCst), 0, "{kind:?}");
     Ok(())
 }

@@ -1,5 +1,5 @@
 //! Collections of which each request for memory is refused from one on, so that what is tried again is refused again.
-use crate::refused::shared_tree::shared_tree;
+use crate::refused::shared_tree::{BLOCKS, requests_of_making, shared_tree};
 use crate::refused::trials::{MANY, WAYS, outstanding};
 use crate::ways::{Answer, Way, collected};
 use refusing::Refusing;
@@ -8,15 +8,6 @@ use std::process::Abort;
 use std::sync::Wait;
 use std::test::Fail;
 use std::thread::Threads;
-
-/// Blocks for the heap and for its collections.
-const BLOCKS: u64 = 120;
-
-/// How many requests the making of the heap takes.
-fn requests_of_making(refusing: &Refusing<Global>) -> Result<u64, Fail> {
-    let _heap = shared_tree(refusing, BLOCKS)?;
-    Ok(refusing.asked())
-}
 
 /// What a collection of the younger generation answers, of a heap that finds memory until it is made.
 fn answered<R: Threads + Wait + Sync + AllocGlobal>(
@@ -35,7 +26,7 @@ fn refuse_from_each<R: Threads + Wait + Sync + AllocGlobal + Abort>(
     way: Way,
 ) -> Result<(), Fail> {
     let mut refusals = 0_u32;
-    for first in requests_of_making(&Refusing::new(rt.alloc(), MANY))?..MANY {
+    for first in requests_of_making(rt.alloc())?..MANY {
         let refusing = Refusing::from_on(rt.alloc(), first);
         let answer = answered(rt, &refusing, way)?;
         let refused = refusing.asked().saturating_sub(first);

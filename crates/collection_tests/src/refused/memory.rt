@@ -1,6 +1,6 @@
 //! Collections of which each request for memory is refused in turn.
 use crate::heaps::seen;
-use crate::refused::shared_tree::shared_tree;
+use crate::refused::shared_tree::{BLOCKS, requests_of_making, shared_tree};
 use crate::refused::trials::{MANY, WAYS, outstanding};
 use crate::ways::{Answer, Ended, Way, collected, end_of};
 use collector::CellKind;
@@ -12,9 +12,6 @@ use std::sync::Wait;
 use std::test::Fail;
 use std::thread::Threads;
 
-/// Blocks for the heap and for its collections.
-const BLOCKS: u64 = 120;
-
 /// What one worker makes of the heap where nothing is refused.
 fn end_unrefused<R: Threads + Wait + Sync + AllocGlobal>(
     rt: &R,
@@ -22,19 +19,6 @@ fn end_unrefused<R: Threads + Wait + Sync + AllocGlobal>(
 ) -> Result<Ended, Fail> {
     let (mut heap, top) = shared_tree(rt.alloc(), BLOCKS)?;
     end_of(rt, &mut heap, top, generation, Way::Alone)
-}
-
-/// Makes the heap, and drops it.
-fn make(refusing: &Refusing<Global>) -> Result<(), Fail> {
-    let _heap = shared_tree(refusing, BLOCKS)?;
-    Ok(())
-}
-
-/// How many requests the making of the heap takes.
-fn requests_of_making(alloc: Global) -> Result<u64, Fail> {
-    let refusing = Refusing::new(alloc, MANY);
-    make(&refusing)?;
-    Ok(refusing.asked())
 }
 
 /// Which request is refused, of which collection.

@@ -1,9 +1,14 @@
 //! The heap that is collected: a tree of 200 objects in two generations, whose nodes lead to others across it too.
 use crate::heaps::{add_tree, heap_of};
+use crate::refused::trials::MANY;
 use collector::collect_one;
 use heap::{Heap, RootId, Sizes};
-use std::alloc::Allocator;
+use refusing::Refusing;
+use std::alloc::{Allocator, Global};
 use std::test::Fail;
+
+/// Blocks for the heap and for its collections.
+pub(crate) const BLOCKS: u64 = 120;
 
 /// How many objects of a generation are small. One is large beside these.
 const SMALL: u32 = 99;
@@ -61,4 +66,17 @@ pub(crate) fn shared_tree<A: Allocator + Clone>(
     let mut heap = heap_of(alloc.clone()?, sizes_of(blocks))?;
     let top = add_both(alloc, &mut heap)?;
     Ok((heap, top))
+}
+
+/// Makes the heap, and drops it.
+fn make(refusing: &Refusing<Global>) -> Result<(), Fail> {
+    let _heap = shared_tree(refusing, BLOCKS)?;
+    Ok(())
+}
+
+/// How many requests the making of the heap takes.
+pub(crate) fn requests_of_making(alloc: Global) -> Result<u64, Fail> {
+    let refusing = Refusing::new(alloc, MANY);
+    make(&refusing)?;
+    Ok(refusing.asked())
 }

@@ -1,5 +1,5 @@
 //! The words of a command line.
-ghost use Rattle.std.specs.Prelude.{◌≡◌, ◌↔◌, IfErr, IfOk, IfSome, Some, codes, false, map};
+ghost use Rattle.std.specs.Prelude.{◌≡◌, ◌↔◌, ℕ, IfErr, IfOk, IfSome, None, Some, codes, false, map};
 ghost use Rattle.clap.specs.Walk.{first_of, one_of, rows_of, rule_of};
 ghost use Rattle.clap.specs.Simple.{app_of, subcommand_rows_of};
 ghost use Rattle.clap.specs.Matches.{found_of};
@@ -9,7 +9,8 @@ ghost use Rattle.collector.specs.declared.apart.CellKind.TheVariants.{Box, Word}
 ghost use Rattle.steps.specs.ConfigRange.{default_sizes};
 ghost use Rattle.trace_driver.specs.Refusals.{IsToldOf};
 ghost use Rattle.trace_driver.specs.Gctrace.{IsCellsRule, IsGctrace, number_rule, task_app};
-ghost use Rattle.trace_driver.specs.Asked.{AreAskedBy, AreRefusedFor, AreToldOf, AreCellsOf, AreOptionsIn, AreOptionsOf, AreSizesIn, IsNumberOf, IsTaskOf};
+ghost use Rattle.trace_driver.specs.Asked.{AreAskedBy, AreRefusedFor, AreToldOf};
+ghost use Rattle.trace_driver.specs.Asked.{AreCellsOf, AreOptionsIn, AreOptionsOf, AreSizesIn, IsNumberOf, IsTaskOf};
 ghost use Rattle.trace_driver.specs.Defaults.{AreDefaultsOf};
 
 use clap::error::ErrorKind;
@@ -190,7 +191,8 @@ fn gctrace_command<'a>(alloc: Global, defaults: &'a Defaults) -> Result<Command<
 
 /// The task of the subcommand of this name.
 fn task_of(name: &str) -> Option<Task>
-    ensures { IfSome result (IsTaskOf name.now) }
+    ensures some { IfSome result (IsTaskOf name.now) }
+    ensures none { result ≡ None → (task : _) → IsTaskOf name.now task → ⊥ }
 {
     match name {
         "run" => Some(Task::Run),
@@ -213,7 +215,8 @@ fn cells_of(name: &str) -> Option<CellKind>
 
 /// The number of the option of this name.
 fn number_of(matches: &ArgMatches<'_>, name: &str) -> Option<u64>
-    ensures { IfSome result (IsNumberOf (one_of name.now (rows_of (found_of matches.now)))) }
+    ensures some { IfSome result (IsNumberOf (one_of name.now (rows_of (found_of matches.now)))) }
+    ensures none { result ≡ None → (n : ℕ) → IsNumberOf (one_of name.now (rows_of (found_of matches.now))) n → ⊥ }
 {
     let number = matches.get_one::<u64>(name)?;
     Some(number)
@@ -221,14 +224,17 @@ fn number_of(matches: &ArgMatches<'_>, name: &str) -> Option<u64>
 
 /// The cells of the option `cells`, and words where the command has none.
 fn cells_in(matches: &ArgMatches<'_>) -> Option<CellKind>
-    ensures { IfSome result (AreCellsOf (first_of (codes "cells") (rows_of (found_of matches.now)))) }
+    ensures some { IfSome result (AreCellsOf (first_of (codes "cells") (rows_of (found_of matches.now)))) }
+    ensures none { result ≡ None →
+        (cells : _) → AreCellsOf (first_of (codes "cells") (rows_of (found_of matches.now))) cells → ⊥ }
 {
     cells_of(matches.get_str("cells").unwrap_or("word"))
 }
 
 /// The sizes of the heap, in no particular range.
 fn sizes_of(matches: &ArgMatches<'_>) -> Option<Sizes>
-    ensures { IfSome result (AreSizesIn (rows_of (found_of matches.now))) }
+    ensures some { IfSome result (AreSizesIn (rows_of (found_of matches.now))) }
+    ensures none { result ≡ None → (sizes : _) → AreSizesIn (rows_of (found_of matches.now)) sizes → ⊥ }
 {
     Some(Sizes {
         block_words: number_of(matches, "block-words")?,
@@ -242,7 +248,8 @@ fn sizes_of(matches: &ArgMatches<'_>) -> Option<Sizes>
 
 /// The options of the subcommand of this name.
 fn options_of(name: &str, matches: &ArgMatches<'_>) -> Option<Options>
-    ensures { IfSome result (AreOptionsOf name.now (rows_of (found_of matches.now))) }
+    ensures some { IfSome result (AreOptionsOf name.now (rows_of (found_of matches.now))) }
+    ensures none { result ≡ None → (options : _) → AreOptionsOf name.now (rows_of (found_of matches.now)) options → ⊥ }
 {
     Some(Options {
         task: task_of(name)?,
@@ -254,14 +261,15 @@ fn options_of(name: &str, matches: &ArgMatches<'_>) -> Option<Options>
 
 /// The options of the subcommand that was met.
 fn options_in(matches: &ArgMatches<'_>) -> Option<Options>
-    ensures { IfSome result (AreOptionsIn (subcommand_rows_of matches.now)) }
+    ensures some { IfSome result (AreOptionsIn (subcommand_rows_of matches.now)) }
+    ensures none { result ≡ None → (options : _) → AreOptionsIn (subcommand_rows_of matches.now) options → ⊥ }
 {
     let (name, inner) = matches.subcommand()?;
     options_of(name, inner)
 }
 
 /// What the words ask for, or the mistake in them as `clap` tells of it.
-#[tactic(auto, using(crate::proofs::Refusing::for_memory, crate::proofs::Refusing::for_no_task))]
+#[tactic(auto, using(crate::proofs::Refusing::for_memory))]
 fn parsed_words<'a, T: AsStr>(alloc: Global, words: &'a [T]) -> Result<Options, Error>
     ensures ok { IfOk result (AreAskedBy (map T.text words.now)) }
     ensures err { IfErr result (λ e. AreRefusedFor (map T.text words.now) (kind_of e)) }
@@ -271,7 +279,7 @@ fn parsed_words<'a, T: AsStr>(alloc: Global, words: &'a [T]) -> Result<Options, 
     let matches = command.try_get_matches_from_mut(words)?;
     match options_in(&matches) {
         Some(options) => Ok(options),
-        // Each option has a default, so that it has a value.
+        // A subcommand was met, and each of its options has a default: this is not reached.
         None => Err(command.error(ErrorKind::MissingSubcommand, "a subcommand is wanted")?),
     }
 }

@@ -11,4 +11,7 @@ returns c =
     let name = c.in_ok-name.name.now in
     let rows = rows_of (found_of c.in_ok-name.inner.now) in
     let met = both_parts (out-ArgMatches c.args.matches.now).subcommand name rows c.in_ok-name.ensures.name c.in_ok-name.ensures.rows in
-    subst (λ (o : Option (Text × List Row)). IfSome c.options_of.result (AreOptionsIn o)) (sym met) c.options_of.ensures
+    record {
+      some = subst (λ (o : Option (Text × List Row)). IfSome c.options_of.result (AreOptionsIn o)) (sym met) c.options_of.ensures.some;
+      none = λ e options is. c.options_of.ensures.none e options (subst (λ (o : Option (Text × List Row)). AreOptionsIn o options) met is);
+    }
