@@ -18,7 +18,7 @@ use Rattle.machine.specs.SystemEvents.{event_of}
 use Rattle.machine.specs.InterleavedValue.{setting_for}
 use Rattle.machine.proofs.Places.{get-map}
 use Rattle.machine.specs.declared.step_error.StepError.{StepError}
-use Rattle.machine.specs.declared.step_error.StepError.TheVariants.{NotLawful, HeapFull}
+use Rattle.machine.specs.declared.step_error.StepError.TheVariants.{NotLawful, HeapFull, NoMemory}
 use Rattle.machine.specs.MachineValue.{MachineValue, HasReached, setting_in}
 use Rattle.machine.specs.Events.{IsSameCollection, Comes, Ran, WentOn, IsFullForEvent, Stopped, IsStuck}
 
@@ -49,9 +49,10 @@ ran_on events i e old mid new at ran comes =
     (record { same = onward old mid new ran.same comes.same; run = run_more (setting_in old) e ran.run (step_of old mid new e ran.same comes) })
 
 pub stopped_on : (events : List Event) (i : ℕ) (e : Event) (error : StepError) (old mid new : MachineValue) → new ≡ mid → slice_get events i ≡ Some e → Ran (take i events) old mid
-    → (error ≡ NotLawful → ¬ IsLawful (setting_in mid) mid.system e) → (error ≡ HeapFull → IsFullForEvent e mid) → Stopped events i error old new
-stopped_on events i e error old mid new is at ran unlawful full =
-    subst (λ (m : MachineValue). Stopped events i error old m) (sym is) (record { event = e; there = at; ran = ran; unlawful = unlawful; full = full })
+    → (error ≡ NotLawful → ¬ IsLawful (setting_in mid) mid.system e) → (error ≡ HeapFull → IsFullForEvent e mid)
+    → (error ≡ NoMemory → IsLawful (setting_in mid) mid.system e) → Stopped events i error old new
+stopped_on events i e error old mid new is at ran unlawful full memory =
+    subst (λ (m : MachineValue). Stopped events i error old m) (sym is) (record { event = e; there = at; ran = ran; unlawful = unlawful; full = full; memory = memory })
 
 pub event_at : (xs : List Named) (i : ℕ) (d : Named) → i < length xs → slice_get (map event_of xs) i ≡ Some (event_of (slice_index_or xs i d))
 event_at xs i d l = get-map event_of xs i (slice_index_or xs i d) (slice_get-get_or xs i d l)

@@ -10,7 +10,7 @@ use Rattle.workers.specs.Steps.{Step, Run}
 use Rattle.workers.specs.Lawful.{IsLawful, IsRefused, next_lawful}
 use Rattle.workers.specs.Finish.{Stepped}
 use Rattle.machine.specs.declared.step_error.StepError.{StepError}
-use Rattle.machine.specs.declared.step_error.StepError.TheVariants.{NotLawful, HeapFull}
+use Rattle.machine.specs.declared.step_error.StepError.TheVariants.{NotLawful, HeapFull, NoMemory}
 use Rattle.settling.specs.Collects.{opening_at}
 use Rattle.machine.specs.MachineValue.{MachineValue, setting_in}
 
@@ -65,3 +65,4 @@ pub record Stopped (events : List Event) (i : ℕ) (error : StepError) (old new 
   pub ran : Ran (take i events) old new
   pub unlawful : error ≡ NotLawful → ¬ IsLawful (setting_in new) new.system event
   pub full : error ≡ HeapFull → IsFullForEvent event new
+  pub memory : error ≡ NoMemory → IsLawful (setting_in new) new.system event

@@ -173,7 +173,7 @@ new a 0 0 x
 -- tells
 gctrace: line 2: bad number
 == against the heap: drop x
-gctrace run --generations 1
+gctrace run
 status 2
 -- reads
 drop x

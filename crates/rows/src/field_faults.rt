@@ -176,7 +176,7 @@ put x 0 1
 -- tells
 gctrace: line 1: unknown name
 == fault: new a 0 0 1, put a 0 18446744073709551616
-gctrace run --generations 1
+gctrace run
 status 2
 -- reads
 new a 0 0 1

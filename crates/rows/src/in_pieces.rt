@@ -195,8 +195,8 @@ fn any_pieces_of_faults(rt: HostRuntime) -> Result<(), Fail> {
     ] {
         let fault = Err(Fault::BadTrace(line, kind));
         let threads = Task::Threads(CellKind::Word);
-        assert_named(&rt, rows, name, Task::Run, sizes_of(1, 512), fault)?;
-        assert_named(&rt, rows, name, threads, sizes_of(1, 512), fault)?;
+        assert_named(&rt, rows, name, Task::Run, sizes_of(2, 512), fault)?;
+        assert_named(&rt, rows, name, threads, sizes_of(2, 512), fault)?;
     }
     Ok(())
 }

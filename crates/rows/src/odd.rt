@@ -134,7 +134,7 @@ fn numbers_out_of_range(rt: HostRuntime) -> Result<(), AllocError> {
     for words in OUT_OF_RANGE.lines() {
         assert_words(&rt, words, b"new\n", left)?;
     }
-    Ok(())
+    assert_words(&rt, "gctrace run --threads 17", b"", left)
 }
 
 /// Command lines with numbers at the ends of their ranges.

@@ -17,3 +17,5 @@ pub mod Refusals
 pub mod Gctrace
 pub mod Defaults
 pub mod Asked
+-- How the program ends by the words of its command line.
+pub mod Whole

@@ -7,6 +7,7 @@ mod config;
 mod program;
 mod replaying;
 mod running;
+mod whole;
 
 pub use apart::run;
 pub use collector::CellKind;
@@ -16,3 +17,4 @@ pub use program::{main_at, main_with};
 pub use replaying::replay;
 pub use running::run_one;
 pub use trace_session::Fault;
+pub use whole::{NoWords, main_of};

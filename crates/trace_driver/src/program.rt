@@ -1,11 +1,9 @@
 //! The whole program: the words of a command line, and what is read and written.
-ghost use Rattle.std.specs.Prelude.{◌≡◌, ◌+◌, ◌-◌, ◌^◌, ◌<◌, ◌≤◌, ◌⊎◌, ◌↔◌, IfOk, IsOk, map};
+ghost use Rattle.std.specs.Prelude.{◌≡◌, ◌+◌, ◌-◌, ◌^◌, ◌<◌, ◌≤◌, ◌↔◌, IfOk, IsOk, map};
 ghost use Rattle.trace_session.specs.FaultText.{fault_line, status_of};
-ghost use Rattle.trace_driver.specs.Asked.{AreAskedBy, AreToldOf};
 ghost use Rattle.trace_driver.specs.Program.{config_of, AreInRange, Tells, TaskEnds};
 ghost use Rattle.trace_driver.specs.Refusals.{IsRefusal};
-ghost use Rattle.trace_driver.specs.declared.command_line.words.Options.{Options as Asked};
-ghost use Rattle.trace_driver.specs.declared.command_line.words.Refused.{Refused as Mistaken};
+ghost use Rattle.trace_driver.specs.Whole.{EndsBy};
 
 use crate::apart::run;
 use crate::command_line::{Options, Refused, Task, read_words};
@@ -37,7 +35,7 @@ fn run_config(options: &Options) -> Result<RunConfig, BadConfig>
 }
 
 /// The status of a fault, whose line is written to `errors`. A failed write of the line changes nothing.
-fn tell<E: Sink>(fault: &Fault, errors: &mut E) -> u8
+pub(crate) fn tell<E: Sink>(fault: &Fault, errors: &mut E) -> u8
     requires { E.failed_writes errors.old < 2 ^ 64 - 1 }
     ensures status { result ≡ status_of fault.now }
     ensures told { Tells (E.failed_writes errors.new ≡ E.failed_writes errors.old + 1)
@@ -151,19 +149,13 @@ pub fn main_with<
     requires writable { W.failed_writes writer.old < 2 ^ 64 - 1 }
     requires tellable { E.failed_writes errors.old < 2 ^ 64 - 1 }
     ensures status { result ≤ 4 }
-    ensures ends { ((options : Asked) × AreAskedBy (map T.text words.now) options ×
-        TaskEnds options ((writer.new ≡ writer.old) × (reader.new ≡ reader.old)) (errors.new ≡ errors.old)
+    ensures ends { EndsBy (map T.text words.now) (reader.new ≡ reader.old) (writer.new ≡ writer.old)
+        (errors.new ≡ errors.old)
         (S.failed_reads reader.new ≡ S.failed_reads reader.old + 1)
         (W.failed_writes writer.new ≡ W.failed_writes writer.old + 1)
         (E.failed_writes errors.new ≡ E.failed_writes errors.old + 1)
         (S.input reader.old) (S.input reader.new) (W.output writer.old) (W.output writer.new) (E.output errors.old)
-        (E.output errors.new) result)
-        ⊎ ((reader.new ≡ reader.old) ×
-        ((mistaken : Mistaken) × AreToldOf (map T.text words.now) mistaken ×
-        IsRefusal mistaken (writer.new ≡ writer.old) (errors.new ≡ errors.old)
-        (W.failed_writes writer.new ≡ W.failed_writes writer.old + 1)
-        (E.failed_writes errors.new ≡ E.failed_writes errors.old + 1)
-        (W.output writer.old) (W.output writer.new) (E.output errors.old) (E.output errors.new) result)) }
+        (E.output errors.new) result }
     ensures reads { S.failed_reads reader.new ≤ S.failed_reads reader.old + 1 }
     ensures writes { W.failed_writes writer.new ≤ W.failed_writes writer.old + 1 }
     ensures error_writes { E.failed_writes errors.new ≤ E.failed_writes errors.old + 1 }
@@ -184,19 +176,13 @@ pub fn main_at<
     requires writable { W.failed_writes writer.old < 2 ^ 64 - 1 }
     requires tellable { E.failed_writes errors.old < 2 ^ 64 - 1 }
     ensures status { result ≤ 4 }
-    ensures ends { ((options : Asked) × AreAskedBy (map T.text words.now) options ×
-        TaskEnds options ((writer.new ≡ writer.old) × (reader.new ≡ reader.old)) (errors.new ≡ errors.old)
+    ensures ends { EndsBy (map T.text words.now) (reader.new ≡ reader.old) (writer.new ≡ writer.old)
+        (errors.new ≡ errors.old)
         (S.failed_reads reader.new ≡ S.failed_reads reader.old + 1)
         (W.failed_writes writer.new ≡ W.failed_writes writer.old + 1)
         (E.failed_writes errors.new ≡ E.failed_writes errors.old + 1)
         (S.input reader.old) (S.input reader.new) (W.output writer.old) (W.output writer.new) (E.output errors.old)
-        (E.output errors.new) result)
-        ⊎ ((reader.new ≡ reader.old) ×
-        ((mistaken : Mistaken) × AreToldOf (map T.text words.now) mistaken ×
-        IsRefusal mistaken (writer.new ≡ writer.old) (errors.new ≡ errors.old)
-        (W.failed_writes writer.new ≡ W.failed_writes writer.old + 1)
-        (E.failed_writes errors.new ≡ E.failed_writes errors.old + 1)
-        (W.output writer.old) (W.output writer.new) (E.output errors.old) (E.output errors.new) result)) }
+        (E.output errors.new) result }
     ensures reads { S.failed_reads reader.new ≤ S.failed_reads reader.old + 1 }
     ensures writes { W.failed_writes writer.new ≤ W.failed_writes writer.old + 1 }
     ensures error_writes { E.failed_writes errors.new ≤ E.failed_writes errors.old + 1 }

@@ -1,5 +1,7 @@
 -- What a worker brings back is what its thread promised.
-use Rattle.std.proofs.Common.{◌≡◌, ℕ, true, None, List, Option, sym, ap, subst, ◌∙◌}
+use Rattle.std.proofs.Common.{◌≡◌, ◌≢◌, ℕ, true, false, None, List, Option, sym, ap, subst, ◌∙◌}
+use Rattle.std.specs.Prelude.{IsSome}
+use Rattle.idle_count.specs.VerdictValue.{VerdictSeatValue}
 use Rattle.layout.specs.declared.place.Place.{Place}
 use Rattle.block_pool.specs.ClaimsValue.{ClaimsValue, SeatValue, IsSeatOf}
 use Rattle.steps.specs.HeapValue.{HeapValue}
@@ -13,7 +15,7 @@ use Rattle.workers.specs.WorkerSteps.{draw_wanted, CanLook}
 use Rattle.scavenge.specs.Shown.{WorkspaceValue}
 use Rattle.scavenge.specs.declared.looking.LookError.TheVariants.{HeapFull}
 use Rattle.workers_in_threads.specs.declared.sharing_worker.resting.Outcome.{Outcome}
-use Rattle.workers_in_threads.specs.declared.sharing_worker.resting.Outcome.TheVariants.{Ended, Refused}
+use Rattle.workers_in_threads.specs.declared.sharing_worker.resting.Outcome.TheVariants.{Ended, Left, Refused}
 use Rattle.workers_in_threads.specs.SharingValue.{SharingValue, setting_for}
 use Rattle.workers_in_threads.specs.IsSharing.{IsSharing, HasWorked}
 use Rattle.workers_in_threads.specs.Sharing.{IsSame, IsDone, IsRefusedBlock}
@@ -35,14 +37,15 @@ module _ {C P A : Type 0} {fits : C → P → Type 0} {limit : C → ℕ} {known
       (subst (λ d. Q (setting_for new.heap d n)) (same.collection ∙ collection_is)
       (subst (λ m. Q (setting_for new.heap new.collection m)) (same.workers ∙ workers_are) q))
 
-  pub brings : (outcome : Outcome) (pass : P) (draws : SeatValue) (seat : QueueSeatValue A CopiesKeyValue) (workspace : WorkspaceValue) → pass ≡ new.pass → draws ≡ new.draws → seat ≡ new.seat → workspace ≡ new.workspace
+  pub brings : (outcome : Outcome) (pass : P) (draws : SeatValue) (seat : QueueSeatValue A CopiesKeyValue) (workspace : WorkspaceValue) (voice : VerdictSeatValue) → pass ≡ new.pass → draws ≡ new.draws → seat ≡ new.seat → workspace ≡ new.workspace
       → is_pass t new.pass → (outcome ≡ Ended → IsDone new) → (outcome ≡ Refused HeapFull → IsRefusedBlock new)
-      → IsBroughtBack is_pass known won heap c claims queues n t (record { outcome = outcome; pass = pass; draws = draws; seat = seat; workspace = workspace })
-  brings outcome pass draws seat workspace p d s w mine ended full =
-      subst (λ x. IsBroughtBack is_pass known won heap c claims queues n t (record { outcome = outcome; pass = x; draws = draws; seat = seat; workspace = workspace })) (sym p)
-      (subst (λ x. IsBroughtBack is_pass known won heap c claims queues n t (record { outcome = outcome; pass = new.pass; draws = x; seat = seat; workspace = workspace })) (sym d)
-      (subst (λ x. IsBroughtBack is_pass known won heap c claims queues n t (record { outcome = outcome; pass = new.pass; draws = new.draws; seat = x; workspace = workspace })) (sym s)
-      (subst (λ x. IsBroughtBack is_pass known won heap c claims queues n t (record { outcome = outcome; pass = new.pass; draws = new.draws; seat = new.seat; workspace = x })) (sym w)
+      → (outcome ≢ Ended → IsSome voice.known) → (outcome ≡ Ended → voice.won ≡ false) → (outcome ≡ Left → voice.won ≡ false)
+      → IsBroughtBack is_pass known won heap c claims queues n t (record { outcome = outcome; pass = pass; draws = draws; seat = seat; workspace = workspace; voice = voice })
+  brings outcome pass draws seat workspace voice p d s w mine ended full told quiet left =
+      subst (λ x. IsBroughtBack is_pass known won heap c claims queues n t (record { outcome = outcome; pass = x; draws = draws; seat = seat; workspace = workspace; voice = voice })) (sym p)
+      (subst (λ x. IsBroughtBack is_pass known won heap c claims queues n t (record { outcome = outcome; pass = new.pass; draws = x; seat = seat; workspace = workspace; voice = voice })) (sym d)
+      (subst (λ x. IsBroughtBack is_pass known won heap c claims queues n t (record { outcome = outcome; pass = new.pass; draws = new.draws; seat = x; workspace = workspace; voice = voice })) (sym s)
+      (subst (λ x. IsBroughtBack is_pass known won heap c claims queues n t (record { outcome = outcome; pass = new.pass; draws = new.draws; seat = new.seat; workspace = x; voice = voice })) (sym w)
       (record {
         pass = mine;
         draws = subst (λ (x : ClaimsValue). IsSeatOf x.source new.draws) (same.claims ∙ claims_are) k.draws;
@@ -52,4 +55,7 @@ module _ {C P A : Type 0} {fits : C → P → Type 0} {limit : C → ℕ} {known
         can = λ e. at_heap (λ s. CanLook s new.workspace.worker) (full e).can;
         wanted = λ e. at_heap (λ s. draw_wanted s new.workspace.worker None ≡ true) (full e).wanted;
         out = λ e. (full e).out;
+        told = told;
+        quiet = quiet;
+        left = left;
       }))))

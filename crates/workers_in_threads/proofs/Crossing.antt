@@ -31,7 +31,7 @@ module _ (P A : RattleType) (h : alloc.Ghosts A.Denot) where
   kit_send pass alloc frees = search (sendable, crosses, over, seat_send, draws.the_send, workspace.the_send, spare.the_send, rest.the_send, voice.the_send) depth 30
 
   pub brought_send : IsSend P → IsSend A → Frees h h.dealloc_token → IsSend (Brought.the_row P A h)
-  brought_send pass alloc frees = search (sendable, crosses, over, seat_send, draws.the_send, workspace.the_send) depth 30
+  brought_send pass alloc frees = search (sendable, crosses, over, seat_send, draws.the_send, workspace.the_send, voice.the_send) depth 30
 
 module _ (A : RattleType) (h : alloc.Ghosts A.Denot) where
   pub heap_sync : IsSync A → IsSync (Heap.the_row A h)

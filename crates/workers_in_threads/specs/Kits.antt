@@ -1,5 +1,5 @@
 -- What a worker takes to its thread, and what it brings back.
-use Rattle.std.specs.Prelude.{◌≡◌, ℕ, ◌<◌, ◌≤◌, false, true, None, List, [], Option, length}
+use Rattle.std.specs.Prelude.{◌≡◌, ◌≢◌, ℕ, ◌<◌, ◌≤◌, false, true, None, List, [], Option, IsSome, length}
 use Rattle.layout.specs.declared.place.Place.{Place}
 use Rattle.forwarding.specs.Passes.{AtEach}
 use Rattle.block_pool.specs.ClaimsValue.{ClaimsValue, IsSeatOf, unused}
@@ -15,7 +15,7 @@ use Rattle.scavenge.specs.Shown.{WorkspaceValue}
 use Rattle.workers.specs.WorkerSteps.{draw_wanted, CanLook}
 use Rattle.scavenge.specs.declared.looking.LookError.TheVariants.{HeapFull}
 use Rattle.scavenge.specs.ReadyToCollect.{IsReadyToCollect}
-use Rattle.workers_in_threads.specs.declared.sharing_worker.resting.Outcome.TheVariants.{Ended, Refused}
+use Rattle.workers_in_threads.specs.declared.sharing_worker.resting.Outcome.TheVariants.{Ended, Left, Refused}
 use Rattle.workers_in_threads.specs.SharingValue.{setting_for, begins}
 use Rattle.workers_in_threads.specs.Threads.{ThreadValue, IsThread, HasEnded}
 use Rattle.workers_in_threads.specs.declared.kit.Kit.{Kit}
@@ -49,6 +49,7 @@ module _ {P A : Type 0} where
     pub rest : IsIdleSeat idle k.rest
     pub busy : k.rest.idle ≡ false
     pub voice : k.voice.name ≡ verdict.name
+    pub silent : k.voice.won ≡ false
 
   abbrev pub AreKits : ℕ → (ℕ → P → Type 0) → (P → List (ℕ × Place)) → HeapValue → CollectionValue → ClaimsValue → Source A CopiesKeyValue → IdleValue → VerdictValue → ℕ → List (Kit P A) → Type 0
   AreKits limit is_pass won heap c claims queues idle verdict n ks = AtEach (IsKit limit is_pass won heap c claims queues idle verdict n) ks
@@ -66,6 +67,10 @@ module _ {P A : Type 0} where
     pub can : r.outcome ≡ Refused HeapFull → CanLook (setting_for heap c n) r.workspace.worker
     pub wanted : r.outcome ≡ Refused HeapFull → draw_wanted (setting_for heap c n) r.workspace.worker None ≡ true
     pub out : r.outcome ≡ Refused HeapFull → r.draws.out ≡ true
+    -- it gave the verdict only where it was refused, and knew it unless it ended
+    pub told : r.outcome ≢ Ended → IsSome r.voice.known
+    pub quiet : r.outcome ≡ Ended → r.voice.won ≡ false
+    pub left : r.outcome ≡ Left → r.voice.won ≡ false
 
   abbrev pub AreBroughtBack : (ℕ → P → Type 0) → (P → ℕ → Option Place) → (P → List (ℕ × Place)) → HeapValue → CollectionValue → ClaimsValue → Source A CopiesKeyValue → ℕ → List (Brought P A) → Type 0
   AreBroughtBack is_pass known won heap c claims queues n rs = AtEach (IsBroughtBack is_pass known won heap c claims queues n) rs

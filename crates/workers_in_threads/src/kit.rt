@@ -41,4 +41,6 @@ pub struct Brought<P, A: Allocator = Global> {
     pub seat: PendingSeat<Copies<A>, A>,
     /// Its own part as its last step left it.
     pub workspace: Workspace<A>,
+    /// Its seat at the verdict, with which it told the others to leave where it was refused.
+    pub voice: VerdictSeat,
 }

@@ -42,6 +42,7 @@ pub fn pack<S: SharedCells, A: Allocator + Clone>(
     requires seat { seat ≡ new_seat queues.now number }
     requires rest { IsSeatOf idle.now rest × (rest.idle ≡ false) }
     requires voice { voice.name ≡ verdict.now.name }
+    requires silent { voice.won ≡ false }
     ensures { IfOk result
         (λ k. IsKit (S.limit cells.now)
         (S.is_pass cells.now) S.won heap.now collection.now claims.now queues.now idle.now verdict.now workers

@@ -80,6 +80,7 @@ pub(crate) fn separated<P: Drop, A: Allocator + Clone>(
             draws: own_draws,
             seat,
             workspace,
+            voice: _,
         } = worker;
         passes.push(pass)?;
         draws.push(own_draws)?;

@@ -67,5 +67,6 @@ pub fn work_apart<R: Wait, S: SharedCells, G: Gate, A: Allocator + Clone>(
         draws,
         seat,
         workspace,
+        voice,
     }
 }

@@ -197,6 +197,9 @@ fn assert_dealt_whole<'a, R: Threads + Wait + Sync + AllocGlobal + Abort>(
     heap.release(top)?;
     let _of_none = asked(rt, refusing, heap, workers, kind)?;
     assert_eq!(rt; heap.spare_blocks(), 100, "{workers} workers, {kind:?}");
+    // Where nothing is collected they are put in no order, and none of them is given back either.
+    let _of_nothing = asked(rt, refusing, heap, workers, kind)?;
+    assert_eq!(rt; heap.spare_blocks(), 100, "{workers} workers, {kind:?}");
     Ok(())
 }
 

@@ -74,6 +74,7 @@ fn add_ring(heap: &mut Heap) -> Result<RootId, Fail> {
 fn ring_behind(alloc: Global, others: u32) -> Result<(Heap, RootId), Fail> {
     let sizes = Sizes {
         block_words: 16,
+        generations: 1,
         ..Sizes::default()
     };
     let mut heap = Heap::new(alloc, Config::new(sizes)?)?;

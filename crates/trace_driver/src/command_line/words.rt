@@ -218,6 +218,7 @@ fn number_of(matches: &ArgMatches<'_>, name: &str) -> Option<u64>
     ensures some { IfSome result (IsNumberOf (one_of name.now (rows_of (found_of matches.now)))) }
     ensures none { result ≡ None → (n : ℕ) → IsNumberOf (one_of name.now (rows_of (found_of matches.now))) n → ⊥ }
 {
+    // What was found has a name here by which the proof can speak of it: it can't name the type of `clap`'s error.
     let number = matches.get_one::<u64>(name)?;
     Some(number)
 }

@@ -3,7 +3,7 @@ ghost use Rattle.std.specs.Prelude.{◌≡◌, ◌≢◌, true, false, IsSome, I
 ghost use Rattle.idle_count.specs.IdleValue.{IsSeatOf, HasEnded};
 ghost use Rattle.scavenge.specs.declared.looking.LookError.TheVariants.{HeapFull};
 ghost use Rattle.workers_in_threads.specs.Sharing.{IsSame, IsRefusedBlock, IsDone};
-ghost use Rattle.workers_in_threads.specs.declared.sharing_worker.resting.Outcome.TheVariants.{Ended, Refused};
+ghost use Rattle.workers_in_threads.specs.declared.sharing_worker.resting.Outcome.TheVariants.{Ended, Left, Refused};
 ghost use Rattle.workers_in_threads.specs.declared.sharing_worker.resting.Rested.TheVariants as rested;
 
 use crate::sharing_worker::worker::SharingWorker;
@@ -66,6 +66,7 @@ impl<'a, C: Cells, A: Allocator + Clone> SharingWorker<'a, C, A> {
         ensures worker { self.new ≡ self.old }
         ensures rest { IsSeatOf idle.now rest.new }
         ensures voice { voice.new.name ≡ verdict.now.name }
+        ensures heard { voice.new.won ≡ voice.old.won }
         ensures ended { result ≡ rested.Ended → HasEnded rest.new }
         ensures left { result ≡ rested.Left → IsSome voice.new.known }
         ensures woken { result ≡ rested.Woken → rest.new.idle ≡ false }
@@ -93,7 +94,7 @@ impl<'a, C: Cells, A: Allocator + Clone> SharingWorker<'a, C, A> {
     }
 
     /// Works and rests in turn until all workers are idle, or it is told to leave, or it can't go on; then it tells the
-    /// others to leave. So it knows the verdict, unless all were idle.
+    /// others to leave. So it knows the verdict, unless all were idle, and gives none but where it can't go on.
     pub fn run<R: Wait, G: Gate, B: Allocator>(
         mut self,
         rt: &R,
@@ -112,6 +113,8 @@ impl<'a, C: Cells, A: Allocator + Clone> SharingWorker<'a, C, A> {
         ensures voice { voice.new.name ≡ verdict.now.name }
         ensures ended { result.1 ≡ Ended → IsDone result.0 × HasEnded rest.new }
         ensures told { result.1 ≢ Ended → IsSome voice.new.known }
+        ensures quiet { result.1 ≡ Ended → voice.new.won ≡ voice.old.won }
+        ensures left { result.1 ≡ Left → voice.new.won ≡ voice.old.won }
         ensures full { result.1 ≡ Refused HeapFull → IsRefusedBlock result.0 }
     {
         let number = self.number();

@@ -139,6 +139,7 @@ impl<'a, C: Cells, A: Allocator + Clone> SharingWorker<'a, C, A> {
     ) -> Result<Option<Stop>, LookError>
         requires voice { voice.old.name ≡ verdict.now.name }
         ensures voice { voice.new.name ≡ verdict.now.name }
+        ensures heard { voice.new.won ≡ voice.old.won }
         ensures same { IsSame C.at_home self.old self.new }
         ensures done { result ≡ Ok (Some OutOfWork) → IsDone self.new }
         ensures told { result ≡ Ok (Some Told) → IsSome voice.new.known }
@@ -170,6 +171,7 @@ impl<'a, C: Cells, A: Allocator + Clone> SharingWorker<'a, C, A> {
     ) -> (Self, Result<Stop, LookError>)
         requires voice { voice.old.name ≡ verdict.now.name }
         ensures voice { voice.new.name ≡ verdict.now.name }
+        ensures heard { voice.new.won ≡ voice.old.won }
         ensures same { IsSame C.at_home self.entry result.0 }
         ensures done { result.1 ≡ Ok OutOfWork → IsDone result.0 }
         ensures told { result.1 ≡ Ok Told → IsSome voice.new.known }

@@ -51,6 +51,9 @@ pack-requires-clause-rest g c κs within =
 pub pack-requires-clause-voice : goal.pack-requires-clause-voice
 pack-requires-clause-voice g c κs within = ap (λ (s : VerdictSeatValue). s.name) (popped (λ s. s ≡ untold c.args.verdict.now) _ _ _ c.in-Some-pop-3.ensures.items c.loop-pass.invariant.voices)
 
+pub pack-requires-clause-silent : goal.pack-requires-clause-silent
+pack-requires-clause-silent g c κs within = ap (λ (s : VerdictSeatValue). s.won) (popped (λ s. s ≡ untold c.args.verdict.now) _ _ _ c.in-Some-pop-3.ensures.items c.loop-pass.invariant.voices)
+
 pub loop-pass-preserved : goal.loop-pass-preserved
 loop-pass-preserved g c =
     let F = IsKit (g.S.SharedCells.limit c.args.cells.now) (g.S.SharedCells.is_pass c.args.cells.now) g.S.SharedCells.won c.args.heap.now c.args.collection.now c.args.claims.now c.args.queues.now c.args.idle.now c.args.verdict.now c.args.workers in record {

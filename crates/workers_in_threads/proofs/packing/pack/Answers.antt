@@ -17,4 +17,5 @@ returns g c = record {
   rest = c.requires.rest.0;
   busy = c.requires.rest.1;
   voice = c.requires.voice;
+  silent = c.requires.silent;
 }

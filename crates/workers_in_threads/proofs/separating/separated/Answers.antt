@@ -24,6 +24,15 @@ loop-worker-preserved g c =
       workspaces = rw c.in_ok-push-4.ensures.items (moved (λ (r : Brought g.row.P.Denot g.row.A.Denot). r.workspace) _ c.in-Some.worker _ _ _ step c.loop-worker.invariant.workspaces);
     }
 
+pub loop-worker-preserved-in_ok-push-4 : goal.loop-worker-preserved-in_ok-push-4
+loop-worker-preserved-in_ok-push-4 g c =
+    let step = c.in-Some.ensures.steps.0 in record {
+      passes = rw c.in_ok-push.ensures.items (moved (λ (r : Brought g.row.P.Denot g.row.A.Denot). r.pass) _ c.in-Some.worker _ _ _ step c.loop-worker.invariant.passes);
+      draws = rw c.in_ok-push-2.ensures.items (moved (λ (r : Brought g.row.P.Denot g.row.A.Denot). r.draws) _ c.in-Some.worker _ _ _ step c.loop-worker.invariant.draws);
+      seats = rw c.in_ok-push-3.ensures.items (moved (λ (r : Brought g.row.P.Denot g.row.A.Denot). r.seat) _ c.in-Some.worker _ _ _ step c.loop-worker.invariant.seats);
+      workspaces = rw c.in_ok-push-4.ensures.items (moved (λ (r : Brought g.row.P.Denot g.row.A.Denot). r.workspace) _ c.in-Some.worker _ _ _ step c.loop-worker.invariant.workspaces);
+    }
+
 pub returns-clause-lists : goal.returns-clause-lists
 returns-clause-lists g c =
     let none : length c.loop-worker.worker-iterator.rest.items ≡ 0 = omega (arith, c.in-None.ensures.steps.0, c.loop-worker.worker-iterator.rest.ok) in record {

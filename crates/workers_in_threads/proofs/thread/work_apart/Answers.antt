@@ -1,4 +1,4 @@
-use Rattle.std.proofs.Common.{sym, ap, subst}
+use Rattle.std.proofs.Common.{sym, ap, subst, ◌∙◌}
 use Rattle.forwarding.specs.declared.shared_cells.lent.Lent.{Lent}
 use Rattle.workers_in_threads.specs.SharingValue.{SharingValue}
 use Rattle.workers_in_threads.proofs.Bringing.{brings}
@@ -14,6 +14,7 @@ returns g c =
     (ap (λ (v : SharingValue (Lent g.row.S.Denot g.row.G.Denot) g.row.S-Pass.Denot g.row.A.Denot). v.heap) is) (ap (λ (v : SharingValue (Lent g.row.S.Denot g.row.G.Denot) g.row.S-Pass.Denot g.row.A.Denot). v.collection) is)
     (ap (λ (v : SharingValue (Lent g.row.S.Denot g.row.G.Denot) g.row.S-Pass.Denot g.row.A.Denot). v.claims) is) (ap (λ (v : SharingValue (Lent g.row.S.Denot g.row.G.Denot) g.row.S-Pass.Denot g.row.A.Denot). v.queues) is)
     (ap (λ (v : SharingValue (Lent g.row.S.Denot g.row.G.Denot) g.row.S-Pass.Denot g.row.A.Denot). v.workers) is) (ap (λ (v : SharingValue (Lent g.row.S.Denot g.row.G.Denot) g.row.S-Pass.Denot g.row.A.Denot). v.seat.index) is)
-    c.run-worker.result.1 c.into_parts-pass.result.pass c.into_parts-pass.result.draws c.into_parts-pass.result.seat c.into_parts-pass.result.workspace
+    c.run-worker.result.1 c.into_parts-pass.result.pass c.into_parts-pass.result.draws c.into_parts-pass.result.seat c.into_parts-pass.result.workspace c.run-worker.new.voice
     c.into_parts-pass.ensures.pass c.into_parts-pass.ensures.draws c.into_parts-pass.ensures.seat c.into_parts-pass.ensures.workspace
     (subst (λ i. g.S.SharedCells.is_pass c.args.cells.now i c.run-worker.result.0.pass) c.index.ensures home) (λ e. (c.run-worker.ensures.ended e).0) c.run-worker.ensures.full
+    c.run-worker.ensures.told (λ e. c.run-worker.ensures.quiet e ∙ c.requires.silent) (λ e. c.run-worker.ensures.left e ∙ c.requires.silent)

@@ -14,4 +14,4 @@ loop-i-preserved g c = record {
 pub returns-in-Err-clause-err : goal.returns-in-Err-clause-err
 returns-in-Err-clause-err g c =
     stopped_on (map event_of c.args.events.now) c.loop-i.i _ c.in-Err.error c.args.self.now c.loop-i.self c.step.new.self c.in-Err.ensures.err (event_at c.args.events.now c.loop-i.i _ c.loop-i-test.true) c.loop-i.invariant.ran
-    (λ e. c.in-Err.ensures.unlawful.0 (ap (λ x. Err x) e)) (λ e. c.in-Err.ensures.full (ap (λ x. Err x) e))
+    (λ e. c.in-Err.ensures.unlawful.0 (ap (λ x. Err x) e)) (λ e. c.in-Err.ensures.full (ap (λ x. Err x) e)) (λ e. c.in-Err.ensures.memory (ap (λ x. Err x) e))

@@ -8,4 +8,5 @@ invariant-loop g l = record {
   rest : IsSeatOf l.idle l.rest;
   idle : l.rest.idle ≡ true;
   voice : l.voice.name ≡ l.verdict.name;
+  heard : l.voice.won ≡ l.fn.voice.won;
 }

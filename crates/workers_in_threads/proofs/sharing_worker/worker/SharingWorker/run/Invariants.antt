@@ -9,4 +9,5 @@ invariant-loop g l = record {
   rest : IsSeatOf l.idle l.rest;
   busy : l.rest.idle ≡ false;
   voice : l.voice.name ≡ l.verdict.name;
+  heard : l.voice.won ≡ l.fn.voice.won;
 }

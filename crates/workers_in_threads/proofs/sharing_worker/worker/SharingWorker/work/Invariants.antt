@@ -6,4 +6,5 @@ abbrev pub invariant-loop : goal.invariant-loop
 invariant-loop g l = record {
   same : IsSame g.C.Cells.at_home l.fn.self l.self;
   voice : l.voice.name ≡ l.verdict.name;
+  heard : l.voice.won ≡ l.fn.voice.won;
 }

@@ -75,5 +75,5 @@ spawn_with-started-requires-send-T g c κs within =
     let b = c.requires.bounds in
     let brought = brought_send _ _ g.A.Allocator b.5 b.4 b.6 in record {
       owned = brought.owned;
-      leaving = λ k. Quiet-if (k (of_param 3)) _ unseen (λ x w. (tt, (tt, (tt, (tt, (tt, tt)))))) (λ x w. tt);
+      leaving = λ k. Quiet-if (k (of_param 3)) _ unseen (λ x w. (tt, (tt, (tt, (tt, (tt, (tt, tt))))))) (λ x w. tt);
     }
